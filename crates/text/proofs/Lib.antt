@@ -1,0 +1,14 @@
+pub mod Induction
+pub mod Rows
+pub mod Ascii
+pub mod Scan
+pub mod Decode
+pub mod Blank
+pub mod Chars
+pub mod Shape
+pub mod Kept
+pub mod Number
+pub mod Exact
+pub mod Boundary
+pub mod Cuts
+pub mod Find

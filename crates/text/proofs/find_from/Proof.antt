@@ -1,0 +1,89 @@
+-- `text::find_from` meets its contract. The invariant: what is to be found lies as far from the place reached as it does from the start.
+use Prim.Native.Nat.{_≤_, _-_, _+_}
+use borrow.Author.Needs.{needs}
+use denote.Ref.{now}
+use lib.ListN.{length, drop}
+use mathlib.Core.Path.{_≡_, refl, sym, ap, _∙_}
+use native.Mathlib.Omega.{arith}
+use Rattle.text.proofs.Chars.{past, stops, ends, in-text}
+use Rattle.text.proofs.Chars.{tested}
+use Rattle.text.specs.Characters.{find}
+use Rattle.text.specs.Scans.{blankIs}
+use Rattle.text.specs.declared.Decoded.{Decoded}
+use Rattle.text.proofs.find_from.Statement.{statement}
+use Rattle.text.proofs.find_from.Tie as tie
+
+abbrev Inv-loop : tie.InvT-loop
+Inv-loop s from t i₀ i = (i ≤ length s) × (from + find (blankIs t) (drop from s) ≡ i + find (blankIs t) (drop i s))
+
+abbrev μ-loop : tie.MeasureT-loop
+μ-loop s from t i₀ i = length s - i
+
+loop-holds : tie.Need-loop-holds Inv-loop μ-loop
+loop-holds c = (omega arith, refl)
+
+decode-at-requires : tie.Need-decode-at-requires Inv-loop μ-loop
+decode-at-requires c κs = search needs
+
+is-blank-requires : tie.Need-is-blank-requires Inv-loop μ-loop
+is-blank-requires c κs = search needs
+
+agree-requires : tie.Need-agree-requires Inv-loop μ-loop
+agree-requires c κs = search needs
+
+returns : tie.Need-returns Inv-loop μ-loop
+returns c =
+    let a = c .before .before .before .before .before .before .before .args in
+    let s = now (a .s) in
+    let l = c .before .before .before .before .before .loop in
+    let d = c .before .before .before .decode-at in
+    let b = c .before .before .is-blank in
+    let y = tested s (l .i) (a .t) (d .result) (b .result) (c .before .agree .result) _ (d .ensures) (b .ensures) (c .before .agree .ensures) (c .if1 .taken) in
+    record { is = sym (l .inv .1 ∙ stops (blankIs (a .t)) s (l .i) (omega arith) y); inside = omega arith }
+
+add-i : tie.Need-add-i Inv-loop μ-loop
+add-i c =
+    let s = c .before .before .before .before .before .before .before .before .args .s .now in
+    let i = c .before .before .before .before .before .before .loop .i in
+    let w = ap (λ (d : Decoded). d .width) (c .before .before .before .before .decode-at .ensures) in
+    omega (arith, in-text s i (omega arith), w)
+
+loop-less : tie.Need-loop-less Inv-loop μ-loop
+loop-less c =
+    let s = c .before .before .before .before .before .before .before .before .args .s .now in
+    let i = c .before .before .before .before .before .before .loop .i in
+    let w = ap (λ (d : Decoded). d .width) (c .before .before .before .before .decode-at .ensures) in
+    omega (arith, in-text s i (omega arith), w)
+
+loop-again : tie.Need-loop-again Inv-loop μ-loop
+loop-again c =
+    let a = c .before .before .before .before .before .before .before .before .args in
+    let s = a .s .now in
+    let l = c .before .before .before .before .before .before .loop in
+    let d = c .before .before .before .before .decode-at in
+    let b = c .before .before .before .is-blank in
+    let w = ap (λ (d : Decoded). d .width) (d .ensures) in
+    let y = tested s (l .i) (a .t) (d .result) (b .result) (c .before .before .agree .result) _ (d .ensures) (b .ensures) (c .before .before .agree .ensures) (c .before .if1 .left) in
+    (omega (arith, in-text s (l .i) (omega arith), w), l .inv .1 ∙ past (blankIs (a .t)) s (l .i) (d .result .width) (omega arith) w y)
+
+returns-2 : tie.Need-returns-2 Inv-loop μ-loop
+returns-2 c =
+    let a = c .before .before .before .args in
+    let l = c .before .loop in
+    record { is = sym (l .inv .1 ∙ ends (blankIs (a .t)) (now (a .s)) (l .i) (omega arith)); inside = omega arith }
+
+pub find-from-spec : {M : Type 1} → statement M
+find-from-spec =
+    tie.close
+    (tie.spec
+    Inv-loop
+    μ-loop
+    loop-holds
+    decode-at-requires
+    is-blank-requires
+    agree-requires
+    returns
+    add-i
+    loop-less
+    loop-again
+    returns-2)

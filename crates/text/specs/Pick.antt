@@ -1,0 +1,58 @@
+-- Ranges of numbers, tests on numbers, and a choice between two values by a test.
+use Prim.Native.Nat.{ℕ, _+_}
+use mathlib.Core.Bool.{Bool, true, false, not}
+use mathlib.Core.List.{List, [], _∷_}
+use mathlib.Core.Option.{Option}
+use lib.Dec.{leb}
+use lib.ListN.{take, drop}
+
+-- a range of numbers, both ends included
+pub record Range : Type 0 where
+  pub lo : ℕ
+  pub hi : ℕ
+
+abbrev pub span : ℕ → ℕ → Range
+span lo hi = record { lo = lo; hi = hi }
+
+abbrev pub both : Bool → Bool → Bool
+both true b = b
+both false b = false
+
+abbrev pub either : Bool → Bool → Bool
+either true b = true
+either false b = b
+
+-- the two are equal
+abbrev pub same : Bool → Bool → Bool
+same true b = b
+same false b = not b
+
+abbrev pub pickNat : Bool → ℕ → ℕ → ℕ
+pickNat true a b = a
+pickNat false a b = b
+
+abbrev pub pickOption : Bool → Option ℕ → Option ℕ → Option ℕ
+pickOption true a b = a
+pickOption false a b = b
+
+-- the number lies between the two ends, both included
+abbrev pub within : ℕ → ℕ → ℕ → Bool
+within lo hi b = both (leb lo b) (leb b hi)
+
+-- the number lies in one of the ranges
+unfoldable pub inAny : List Range → ℕ → Bool
+inAny [] c = false
+inAny (r ∷ rs) c = either (within (r .lo) (r .hi) c) (inAny rs c)
+
+-- a part of a list, by the place where it starts and its length
+pub record Part : Type 0 where
+  pub start : ℕ
+  pub len : ℕ
+
+-- the place just past a part
+abbrev pub end : Part → ℕ
+end p = p .start + p .len
+
+-- what stands in a part of the list
+abbrev pub cut : Part → List ℕ → List ℕ
+cut p s = take (p .len) (drop (p .start) s)

@@ -1,0 +1,42 @@
+-- The words of a text, which runs of blank characters part, and the text without the blanks around it.
+use Prim.Native.Nat.{ℕ, zero, suc, _+_, _-_}
+use mathlib.Core.Bool.{Bool, true, false, not}
+use mathlib.Core.List.{List, [], _∷_}
+use lib.ListN.{length, drop}
+use Rattle.text.specs.Pick.{Part, end}
+use Rattle.text.specs.declared.Decoded.{Decoded}
+use Rattle.text.specs.Blank.{blank}
+use Rattle.text.specs.Characters.{chars, find}
+
+abbrev pub solid : ℕ → Bool
+solid c = not (blank c)
+
+-- the Rust's `trim_start`
+unfoldable pub trimStart : List ℕ → Part
+trimStart s = record { start = find solid s; len = length s - find solid s }
+
+-- of a blank character of the width, or one that isn't blank, and how many bytes are kept after it
+abbrev pub keptBy : Bool → ℕ → ℕ → ℕ
+keptBy true w zero = 0
+keptBy true w (suc k) = w + suc k
+keptBy false w k = w + k
+
+-- how many bytes the characters take up to the end of the last that isn't blank
+unfoldable pub kept : List Decoded → ℕ
+kept [] = 0
+kept (c ∷ cs) = keptBy (blank (c .cp)) (c .width) (kept cs)
+
+-- the Rust's `trim`
+unfoldable pub trim : List ℕ → Part
+trim s = record { start = find solid s; len = kept (chars (drop (find solid s) s)) }
+
+-- the first word from a place on; at the end, and empty, where there is none
+unfoldable pub wordFrom : ℕ → List ℕ → Part
+wordFrom i s = record { start = i + find solid (drop i s); len = find blank (drop (i + find solid (drop i s)) s) }
+
+-- the Rust's `split_whitespace`, its first word and its second
+abbrev pub firstWord : List ℕ → Part
+firstWord s = wordFrom 0 s
+
+abbrev pub secondWord : List ℕ → Part
+secondWord s = wordFrom (end (firstWord s)) s

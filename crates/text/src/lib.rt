@@ -1,0 +1,425 @@
+// Bytes as text: UTF-8, blanks, words and numbers.
+ghost use mathlib.Core.Path.{_≡_};
+ghost use Prim.Native.Nat.{ℕ, _+_, _-_, _<_, _≤_};
+ghost use mathlib.Core.Bool.{true, not};
+ghost use mathlib.Core.List.{_∷_, []};
+ghost use lib.Dec.{eqb};
+ghost use lib.ListN.{length, drop, getD, take};
+ghost use Rattle.text.specs.Pick.{span, pickNat, within, same, cut};
+ghost use Rattle.text.specs.Utf8.{begins, widthOf, firstIllFormed, placeOf, decode};
+ghost use Rattle.text.specs.Blank.{blank};
+ghost use Rattle.text.specs.Characters.{chars, before, find, findByte, starts};
+ghost use Rattle.text.specs.Words.{trimStart, trim, kept, firstWord, secondWord};
+ghost use Rattle.text.specs.Number.{digit, digits, parsed, numberOf};
+ghost use Rattle.text.specs.Scans.{Ascii, Ended, blankIs};
+
+// Whether a text is well formed, or where its first ill-formed sequence starts.
+pub enum Utf8 {
+    WellFormed,
+    IllFormed(usize),
+}
+
+// A code point, and how many bytes it takes.
+pub struct Decoded {
+    pub cp: u32,
+    pub width: usize,
+}
+
+// What reading a number finds.
+pub enum Parsed {
+    Value(u32),
+    NotANumber,
+}
+
+fn holds(b: u8, lo: u8, hi: u8) -> bool
+    ensures { λ r. ⌜ r ≡ within lo hi b ⌝ }
+{
+    if lo <= b { b <= hi } else { false }
+}
+
+fn two(s: &[u8], at: usize) -> usize
+    requires { ⌜ at ≤ length (now s) ⌝ }
+    ensures { λ r. ⌜ r ≡ pickNat (begins (span 0x80 0xBF ∷ []) (drop at (now (s .entry)))) 2 0 ⌝ }
+{
+    if s.len() - at < 1 {
+        return 0;
+    }
+    if holds(s[at], 0x80, 0xBF) { 2 } else { 0 }
+}
+
+fn three(s: &[u8], at: usize, lo: u8, hi: u8) -> usize
+    requires { ⌜ at ≤ length (now s) ⌝ }
+    ensures { λ r. ⌜ r ≡ pickNat (begins (span lo hi ∷ span 0x80 0xBF ∷ []) (drop at (now (s .entry)))) 3 0 ⌝ }
+{
+    if s.len() - at < 2 {
+        return 0;
+    }
+    if holds(s[at], lo, hi) {
+        if holds(s[at + 1], 0x80, 0xBF) {
+            return 3;
+        }
+    }
+    0
+}
+
+fn four(s: &[u8], at: usize, lo: u8, hi: u8) -> usize
+    requires { ⌜ at ≤ length (now s) ⌝ }
+    ensures { λ r. ⌜ r ≡ pickNat (begins (span lo hi ∷ span 0x80 0xBF ∷ span 0x80 0xBF ∷ []) (drop at (now (s .entry)))) 4 0 ⌝ }
+{
+    if s.len() - at < 3 {
+        return 0;
+    }
+    if holds(s[at], lo, hi) {
+        if holds(s[at + 1], 0x80, 0xBF) {
+            if holds(s[at + 2], 0x80, 0xBF) {
+                return 4;
+            }
+        }
+    }
+    0
+}
+
+// How long the well-formed sequence at a place is, or 0.
+fn width_at(s: &[u8], at: usize) -> usize
+    requires { ⌜ at < length (now s) ⌝ }
+    ensures { λ r. ⌜ r ≡ widthOf (drop at (now (s .entry))) ⌝ }
+{
+    let b = s[at];
+    if b < 0x80 {
+        return 1;
+    }
+    if b < 0xC2 {
+        return 0;
+    }
+    if b < 0xE0 {
+        return two(s, at + 1);
+    }
+    if b == 0xE0 {
+        return three(s, at + 1, 0xA0, 0xBF);
+    }
+    if b < 0xED {
+        return three(s, at + 1, 0x80, 0xBF);
+    }
+    if b == 0xED {
+        return three(s, at + 1, 0x80, 0x9F);
+    }
+    if b < 0xF0 {
+        return three(s, at + 1, 0x80, 0xBF);
+    }
+    if b == 0xF0 {
+        return four(s, at + 1, 0x90, 0xBF);
+    }
+    if b < 0xF4 {
+        return four(s, at + 1, 0x80, 0xBF);
+    }
+    if b == 0xF4 {
+        return four(s, at + 1, 0x80, 0x8F);
+    }
+    0
+}
+
+// The bitwise or of 32 bytes from a place: none of them is above it. A loop of fixed length, so that it becomes vector code.
+fn or32(s: &[u8], at: usize) -> u8
+    requires { ⌜ at + 32 ≤ length (now s) ⌝ }
+    ensures { λ r. ⌜ ((k : ℕ) → k < 32 → getD (now (s .entry)) (at + k) 0 ≤ r) ⌝ }
+{
+    let mut x: u8 = 0;
+    let mut k: usize = 0;
+    while k < 32 {
+        x = x | s[at + k];
+        k += 1;
+    }
+    x
+}
+
+// Where a run of ASCII ends that starts at a place.
+fn ascii_end(s: &[u8], from: usize) -> usize
+    requires { ⌜ from ≤ length (now s) ⌝ }
+    ensures { λ r. ⌜ (from ≤ r) × (r ≤ length (now (s .entry))) × Ascii (now (s .entry)) from r ⌝ }
+{
+    let n = s.len();
+    let mut i = from;
+    while 32 <= n - i {
+        if 0x80 <= or32(s, i) {
+            break;
+        }
+        i += 32;
+    }
+    while i < n {
+        if 0x80 <= s[i] {
+            break;
+        }
+        i += 1;
+    }
+    i
+}
+
+// The place of the first ill-formed sequence, if there is one. A run of ASCII is passed at once.
+pub fn utf8_check(s: &[u8]) -> Utf8
+    ensures { λ r. ⌜ placeOf r ≡ firstIllFormed (now (s .entry)) ⌝ }
+{
+    let n = s.len();
+    let mut i: usize = 0;
+    while i < n {
+        if s[i] < 0x80 {
+            i = ascii_end(s, i + 1);
+        } else {
+            let w = width_at(s, i);
+            if w == 0 {
+                return Utf8::IllFormed(i);
+            }
+            i += w;
+        }
+    }
+    Utf8::WellFormed
+}
+
+// The code point of a sequence of more than one byte, or U+FFFD where there is none.
+fn decode_wide(s: &[u8], at: usize) -> Decoded
+    requires { ⌜ at < length (now s) ⌝ }
+    ensures { λ r. ⌜ r ≡ decode (drop at (now (s .entry))) ⌝ }
+{
+    let b = s[at];
+    let w = width_at(s, at);
+    if w == 0 {
+        return Decoded {
+            cp: 0xFFFD,
+            width: 1,
+        };
+    }
+    if w == 1 {
+        return Decoded {
+            cp: b as u32,
+            width: 1,
+        };
+    }
+    let b1 = (s[at + 1] % 64) as u32;
+    if w == 2 {
+        return Decoded {
+            cp: (b % 32) as u32 * 64 + b1,
+            width: 2,
+        };
+    }
+    let b2 = (s[at + 2] % 64) as u32;
+    if w == 3 {
+        return Decoded {
+            cp: (b % 16) as u32 * 4096 + b1 * 64 + b2,
+            width: 3,
+        };
+    }
+    let b3 = (s[at + 3] % 64) as u32;
+    Decoded {
+        cp: (b % 8) as u32 * 262144 + b1 * 4096 + b2 * 64 + b3,
+        width: 4,
+    }
+}
+
+// The code point at a place, with its width. A byte that begins no well-formed sequence counts as U+FFFD, and past the end the width is 0.
+pub fn decode_at(s: &[u8], at: usize) -> Decoded
+    ensures { λ r. ⌜ r ≡ decode (drop at (now (s .entry))) ⌝ }
+{
+    if s.len() <= at {
+        return Decoded {
+            cp: 0xFFFD,
+            width: 0,
+        };
+    }
+    let b = s[at];
+    if b < 0x80 {
+        return Decoded {
+            cp: b as u32,
+            width: 1,
+        };
+    }
+    decode_wide(s, at)
+}
+
+// Whether a place of well-formed text lies between two characters, or at either end.
+pub fn is_char_boundary(s: &[u8], at: usize) -> bool
+    ensures { λ r. ⌜ r ≡ starts (now (s .entry)) at ⌝ }
+{
+    if at == 0 {
+        return true;
+    }
+    if s.len() <= at {
+        return at == s.len();
+    }
+    let b = s[at];
+    if b < 0x80 { true } else { 0xBF < b }
+}
+
+// The property White_Space.
+pub fn is_blank(cp: u32) -> bool
+    ensures { λ r. ⌜ r ≡ blank cp ⌝ }
+{
+    match cp {
+        0x09..=0x0D | 0x2000..=0x200A => true,
+        0x20 | 0x85 | 0xA0 | 0x1680 | 0x2028 | 0x2029 | 0x202F | 0x205F | 0x3000 => true,
+        _ => false,
+    }
+}
+
+fn agree(a: bool, b: bool) -> bool
+    ensures { λ r. ⌜ r ≡ same a b ⌝ }
+{
+    if a { b } else { !b }
+}
+
+// The place of the first character, from a place on, that is blank (t is true) or isn't (t is false), or the length.
+fn find_from(s: &[u8], from: usize, t: bool) -> usize
+    requires { ⌜ from ≤ length (now s) ⌝ }
+    ensures { λ r. ⌜ Ended (now (s .entry)) from (find (blankIs t) (drop from (now (s .entry)))) r ⌝ }
+{
+    let mut i = from;
+    while i < s.len() {
+        let d = decode_at(s, i);
+        if agree(t, is_blank(d.cp)) {
+            return i;
+        }
+        i += d.width;
+    }
+    i
+}
+
+// The place of the first byte that equals b, or the length.
+pub fn find_byte(s: &[u8], b: u8) -> usize
+    ensures { λ r. ⌜ r ≡ findByte (eqb b) (now (s .entry)) ⌝ }
+{
+    let mut i: usize = 0;
+    while i < s.len() {
+        if b == s[i] {
+            return i;
+        }
+        i += 1;
+    }
+    i
+}
+
+// The place of the first byte that is no ASCII digit, or the length.
+pub fn find_non_digit(s: &[u8]) -> usize
+    ensures { λ r. ⌜ r ≡ findByte (λ b. not (digit b)) (now (s .entry)) ⌝ }
+{
+    let mut i: usize = 0;
+    while i < s.len() {
+        if !holds(s[i], 0x30, 0x39) {
+            return i;
+        }
+        i += 1;
+    }
+    i
+}
+
+// The place of the first blank character, or the length.
+pub fn find_blank(s: &[u8]) -> usize
+    ensures { λ r. ⌜ r ≡ find blank (now (s .entry)) ⌝ }
+{
+    find_from(s, 0, true)
+}
+
+// How many bytes the text has up to the end of its last character that isn't blank, from the front.
+fn kept_forward(s: &[u8]) -> usize
+    ensures { λ r. ⌜ Ended (now (s .entry)) 0 (kept (chars (now (s .entry)))) r ⌝ }
+{
+    let mut end: usize = 0;
+    let mut i: usize = 0;
+    while i < s.len() {
+        let d = decode_at(s, i);
+        i += d.width;
+        if !is_blank(d.cp) {
+            end = i;
+        }
+    }
+    end
+}
+
+// The same from the back, as long as ASCII stands there: such a byte is a character of its own, whatever stands before it.
+fn kept_len(s: &[u8]) -> usize
+    ensures { λ r. ⌜ Ended (now (s .entry)) 0 (kept (chars (now (s .entry)))) r ⌝ }
+{
+    let mut e = s.len();
+    while 0 < e {
+        let b = s[e - 1];
+        if 0x80 <= b {
+            return kept_forward(&s[..e]);
+        }
+        if !is_blank(b as u32) {
+            return e;
+        }
+        e -= 1;
+    }
+    0
+}
+
+// As `str::trim_start`.
+pub fn trim_start(s: &[u8]) -> &[u8]
+    ensures { λ r. ⌜ now r ≡ cut (trimStart (now (s .entry))) (now (s .entry)) ⌝ }
+{
+    let a = find_from(s, 0, false);
+    &s[a..]
+}
+
+// As `str::trim`.
+pub fn trim(s: &[u8]) -> &[u8]
+    ensures { λ r. ⌜ now r ≡ cut (trim (now (s .entry))) (now (s .entry)) ⌝ }
+{
+    let a = find_from(s, 0, false);
+    let n = kept_len(&s[a..]);
+    let e = a + n;
+    &s[a..e]
+}
+
+// The first of `str::split_whitespace`; empty where there is none.
+pub fn first_word(s: &[u8]) -> &[u8]
+    ensures { λ r. ⌜ now r ≡ cut (firstWord (now (s .entry))) (now (s .entry)) ⌝ }
+{
+    let a = find_from(s, 0, false);
+    let e = find_from(s, a, true);
+    &s[a..e]
+}
+
+// The second of `str::split_whitespace`; empty where there is none.
+pub fn second_word(s: &[u8]) -> &[u8]
+    ensures { λ r. ⌜ now r ≡ cut (secondWord (now (s .entry))) (now (s .entry)) ⌝ }
+{
+    let a = find_from(s, 0, false);
+    let e = find_from(s, a, true);
+    let a2 = find_from(s, e, false);
+    let e2 = find_from(s, a2, true);
+    &s[a2..e2]
+}
+
+fn digits_at(s: &[u8], from: usize) -> Parsed
+    ensures { λ r. ⌜ numberOf r ≡ digits (drop from (now (s .entry))) ⌝ }
+{
+    if s.len() <= from {
+        return Parsed::NotANumber;
+    }
+    let mut n: u64 = 0;
+    let mut i = from;
+    while i < s.len() {
+        let b = s[i];
+        if !holds(b, 0x30, 0x39) {
+            return Parsed::NotANumber;
+        }
+        n = n * 10 + (b - 0x30) as u64;
+        if 4294967295 < n {
+            return Parsed::NotANumber;
+        }
+        i += 1;
+    }
+    Parsed::Value(n as u32)
+}
+
+// As `str::parse::<u32>`.
+pub fn parse(s: &[u8]) -> Parsed
+    ensures { λ r. ⌜ numberOf r ≡ parsed (now (s .entry)) ⌝ }
+{
+    if s.len() == 0 {
+        return Parsed::NotANumber;
+    }
+    if s[0] == b'+' {
+        digits_at(s, 1)
+    } else {
+        digits_at(s, 0)
+    }
+}
