@@ -4,11 +4,11 @@ use mathlib.Core.Path.{_≡_, refl, sym, ap, _∙_}
 use mathlib.Core.Bool.{Bool, true, false}
 use mathlib.Core.List.{List, [], _∷_}
 use Prim.Native.Nat.{ℕ, zero, suc, pred, _+_, _-_, _<_, _≤_}
-use native.Mathlib.Nat.{add-zero, not-suc-le-zero}
+use native.Mathlib.Nat.{add-zero, not-suc-le-zero, le-refl}
 use native.Mathlib.Omega.{arith}
 use lib.ListN.{length, getD, drop, length-drop, drop-of-length-le}
 use lib.Seq.{drop-drop}
-use Rattle.text.specs.Pick.{same}
+use Rattle.text.specs.Pick.{same, pickNat}
 use Rattle.text.specs.declared.Decoded.{Decoded}
 use Rattle.text.specs.Utf8.{decode}
 use Rattle.text.specs.Blank.{blank}
@@ -75,3 +75,12 @@ module _ (p : ℕ → Bool) (s : List ℕ) (i : ℕ) where
   pub byte-ends : length s ≤ i → i + findByte p (drop i s) ≡ i
   unfolding findByte
   byte-ends h = rw (drop-of-length-le s h) (add-zero i)
+
+pub byte-le : (p : ℕ → Bool) (s : List ℕ) → findByte p s ≤ length s
+unfolding findByte
+byte-le p [] = le-refl 0
+byte-le p (b ∷ s) = go (p b) (byte-le p s)
+  where
+    go : (t : Bool) → findByte p s ≤ length s → pickNat t 0 (suc (findByte p s)) ≤ suc (length s)
+    go true h = omega arith
+    go false h = omega arith

@@ -15,7 +15,7 @@ use Rattle.text.specs.Pick.{Range, span, both, pickNat, within}
 use Rattle.text.specs.declared.Decoded.{Decoded}
 use Rattle.text.specs.Utf8.{begins, table, widthBy, widthOf, decoded, decode}
 use Rattle.text.specs.Blank.{blank}
-use Rattle.text.specs.Characters.{charsPast, chars}
+use Rattle.text.specs.Characters.{charsPast, chars, before, find}
 use Rattle.text.specs.Words.{keptBy, kept}
 use Rattle.text.proofs.Induction.{by-length}
 use Rattle.text.proofs.Rows.{both-left, both-right, every, width-le}
@@ -99,6 +99,19 @@ widths-step (x ∷ s) ih =
 
 widths-all : (l : List ℕ) → widths (chars l) ≡ length l
 widths-all l = by-length (λ (l : List ℕ). widths (chars l) ≡ length l) widths-step l
+
+before-le : (p : ℕ → Bool) (cs : List Decoded) → before p cs ≤ widths cs
+unfolding before widths
+before-le p [] = zero-le
+before-le p (c ∷ cs) = go (p (c .cp)) (before-le p cs)
+  where
+    go : (t : Bool) → before p cs ≤ widths cs → pickNat t 0 (c .width + before p cs) ≤ c .width + widths cs
+    go true h = zero-le
+    go false h = omega arith
+
+-- what is found lies in the text, or at its end
+pub find-le : (p : ℕ → Bool) (s : List ℕ) → find p s ≤ length s
+find-le p s = rw (widths-all s) at (before-le p (chars s))
 
 module _ (b : ℕ) (low : b < 0x80) where
   -- an ASCII byte after a list makes no sequence of it longer

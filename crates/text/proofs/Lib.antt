@@ -1,6 +1,7 @@
 pub mod Induction
 pub mod Rows
 pub mod Ascii
+pub mod Second
 pub mod Scan
 pub mod Decode
 pub mod Blank

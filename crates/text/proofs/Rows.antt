@@ -1,7 +1,7 @@
 -- What the rows of Table 3-7 say at a place of a list. The first ranges of the rows lie one above the other, so that a first byte picks its row.
 -- Assumes nothing.
 use mathlib.Core.Path.{_≡_, refl, sym, ap, _∙_}
-use mathlib.Core.Bool.{Bool, true, false, false≢true}
+use mathlib.Core.Bool.{Bool, true, false, not, false≢true}
 use mathlib.Core.List.{List, [], _∷_, List·Memᴰ, List·Memᴰ·head, List·Memᴰ·tail}
 use Prim.Native.Nat.{ℕ, zero, suc, _+_, _-_, _<_, _≤_, zero-le, suc-le-suc}
 use native.Mathlib.Nat.{not-suc-le-zero, le-of-suc-le-suc}
@@ -50,6 +50,14 @@ begins-yes lo hi rs s at h e = begins-at (span lo hi) rs s at h ∙ ap (λ (t : 
 
 pub begins-no : (lo hi : ℕ) (rs : List Range) (s : List ℕ) (at : ℕ) → at < length s → within lo hi (getD s at 0) ≡ false → begins (span lo hi ∷ rs) (drop at s) ≡ false
 begins-no lo hi rs s at h e = begins-at (span lo hi) rs s at h ∙ ap (λ (t : Bool). both t (begins rs (drop (at + 1) s))) e
+
+both-true : (a : Bool) → both a true ≡ a
+both-true true = refl
+both-true false = refl
+
+-- the last byte of a row
+pub begins-one : (lo hi : ℕ) (s : List ℕ) (at : ℕ) → at < length s → begins (span lo hi ∷ []) (drop at s) ≡ within lo hi (getD s at 0)
+begins-one lo hi s at h = begins-at (span lo hi) [] s at h ∙ rw (begins-nil (drop (at + 1) s)) (both-true (within lo hi (getD s at 0)))
 
 -- a sequence is no longer than the list that it is in
 begun : (rs : List Range) (s : List ℕ) → begins rs s ≡ true → length rs ≤ length s
@@ -103,6 +111,15 @@ row-long row m = within-lo 1 4 (length row) (every-in sized table row table-size
 pub row-short : (row : List Range) → List·Memᴰ row table → length row ≤ 4
 unfolding sized
 row-short row m = within-hi 1 4 (length row) (every-in sized table row table-sized m)
+
+-- the width that a test picks
+pub picked : (w n : ℕ) (t : Bool) → w ≡ pickNat t n 0 → not t ≡ false → w ≡ n
+picked w n true e y = e
+picked w n false e y = absurd (false≢true (sym y))
+
+pub unpicked : (w n : ℕ) (t : Bool) → w ≡ pickNat t n 0 → not t ≡ true → w ≡ 0
+unpicked w n true e y = absurd (false≢true y)
+unpicked w n false e y = e
 
 -- a row at a first byte below, above and in its first range
 module _ (r : Range) (rs : List Range) (rows : List (List Range)) (b : ℕ) (s : List ℕ) where

@@ -11,7 +11,7 @@ use lib.ListN.{length, getD, drop, length-drop}
 use lib.Seq.{drop-drop}
 use Rattle.text.specs.Pick.{span}
 use Rattle.text.specs.Utf8.{table, begins, widthOf, after, scan}
-use Rattle.text.specs.Scans.{Ascii}
+use Rattle.text.specs.Scans.{Ascii, Passed}
 use Rattle.text.proofs.Rows.{row-at, width-le}
 
 -- the bytes of a sequence that has begun are skipped
@@ -63,3 +63,16 @@ ascii-by (suc n) s from to e h k low =
 
 pub ascii-run : (s : List ℕ) (from to : ℕ) → from ≤ to → to ≤ length s → Ascii s from to → scan (drop from s) 0 from ≡ scan (drop to s) 0 to
 ascii-run s from to h k low = ascii-by (to - from) s from to refl h k low
+
+-- an ASCII byte is passed, and a run that starts with one
+pub passed-one : (s : List ℕ) (at : ℕ) → at < length s → getD s at 0 < 0x80 → Passed s at 1
+passed-one s at h l = record { none = λ z. absurd (omega arith); some = λ g. past s at 1 (ascii-one s at h l) g; inside = omega arith }
+
+pub passed-run : (s : List ℕ) (at r : ℕ) → at < length s → getD s at 0 < 0x80 → at + 1 ≤ r → r ≤ length s → Ascii s (at + 1) r → Passed s at (r - at)
+passed-run s at r h l g k low =
+    let e : at + (r - at) ≡ r = omega arith in
+    record {
+      none = λ z. absurd (omega arith);
+      some = λ x. rw e (past s at 1 (ascii-one s at h l) (omega arith) ∙ ascii-run s (at + 1) r g k low);
+      inside = omega arith;
+    }

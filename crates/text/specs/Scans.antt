@@ -3,13 +3,34 @@ use Prim.Native.Nat.{ℕ, _+_, _<_, _≤_}
 use mathlib.Core.Path.{_≡_}
 use mathlib.Core.Bool.{Bool}
 use mathlib.Core.List.{List}
-use lib.ListN.{length, getD}
-use Rattle.text.specs.Pick.{same}
+use lib.Dec.{eqb}
+use lib.ListN.{length, getD, drop}
+use Rattle.text.specs.Pick.{same, pickNat}
+use Rattle.text.specs.Utf8.{widthOf, scan}
 use Rattle.text.specs.Blank.{blank}
 
 -- the code point is blank (t is true), or isn't
 abbrev pub blankIs : Bool → ℕ → Bool
 blankIs t c = same t (blank c)
+
+-- the byte at a place of the text lies between the two ends, both included
+pub record Led (s : List ℕ) (at lo hi : ℕ) : Type 0 where
+  pub inside : at < length s
+  pub low : lo ≤ getD s at 0
+  pub high : getD s at 0 ≤ hi
+
+-- the lowest and the highest second byte, in the rows of Table 3-7 that begin with E0 to F4
+abbrev pub secondLow : ℕ → ℕ
+secondLow b = pickNat (eqb b 0xE0) 0xA0 (pickNat (eqb b 0xF0) 0x90 0x80)
+
+abbrev pub secondHigh : ℕ → ℕ
+secondHigh b = pickNat (eqb b 0xED) 0x9F (pickNat (eqb b 0xF4) 0x8F 0xBF)
+
+-- a scan passes r bytes at a place, or none, where an ill-formed sequence begins
+pub record Passed (s : List ℕ) (at r : ℕ) : Type 0 where
+  pub none : r ≡ 0 → widthOf (drop at s) ≡ 0
+  pub some : 0 < r → scan (drop at s) 0 at ≡ scan (drop (at + r) s) 0 (at + r)
+  pub inside : at + r ≤ length s
 
 -- the bytes from one place to another are ASCII
 abbrev pub Ascii : List ℕ → ℕ → ℕ → Type 0

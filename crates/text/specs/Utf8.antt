@@ -76,9 +76,13 @@ pub record FirstIllFormed (s : List ℕ) (at : ℕ) : Type 0 where
   pub before : Made (take at s)
   pub none-begins : (row : List Range) → List·Memᴰ row table → begins row (drop at s) ≡ false
 
+-- U+FFFD, of one byte
+abbrev pub replacement : Decoded
+replacement = record { cp = 0xFFFD; width = 1 }
+
 -- the code point of a sequence of the width, by the low bits of its bytes (Table 3-6)
 unfoldable pub decoded : ℕ → List ℕ → Decoded
-decoded zero l = record { cp = 0xFFFD; width = 1 }
+decoded zero l = replacement
 decoded (suc zero) l = record { cp = getD l 0 0; width = 1 }
 decoded (suc (suc zero)) l = record { cp = getD l 0 0 % 32 * 64 + getD l 1 0 % 64; width = 2 }
 decoded (suc (suc (suc zero))) l = record { cp = getD l 0 0 % 16 * 4096 + getD l 1 0 % 64 * 64 + getD l 2 0 % 64; width = 3 }

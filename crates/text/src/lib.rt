@@ -6,12 +6,12 @@ ghost use mathlib.Core.List.{_∷_, []};
 ghost use lib.Dec.{eqb};
 ghost use lib.ListN.{length, drop, getD, take};
 ghost use Rattle.text.specs.Pick.{span, pickNat, within, same, cut};
-ghost use Rattle.text.specs.Utf8.{begins, widthOf, firstIllFormed, placeOf, decode};
+ghost use Rattle.text.specs.Utf8.{begins, widthOf, firstIllFormed, placeOf, replacement, decode};
 ghost use Rattle.text.specs.Blank.{blank};
 ghost use Rattle.text.specs.Characters.{chars, before, find, findByte, starts};
 ghost use Rattle.text.specs.Words.{trimStart, trim, kept, firstWord, secondWord};
 ghost use Rattle.text.specs.Number.{digit, digits, parsed, numberOf};
-ghost use Rattle.text.specs.Scans.{Ascii, Ended, blankIs};
+ghost use Rattle.text.specs.Scans.{Ascii, Ended, Led, Passed, secondLow, secondHigh, blankIs};
 
 // Whether a text is well formed, or where its first ill-formed sequence starts.
 pub enum Utf8 {
@@ -37,85 +37,110 @@ fn holds(b: u8, lo: u8, hi: u8) -> bool
     if lo <= b { b <= hi } else { false }
 }
 
-fn two(s: &[u8], at: usize) -> usize
+fn two(s: &[u8], at: usize) -> bool
     requires { ⌜ at ≤ length (now s) ⌝ }
-    ensures { λ r. ⌜ r ≡ pickNat (begins (span 0x80 0xBF ∷ []) (drop at (now (s .entry)))) 2 0 ⌝ }
+    ensures { λ r. ⌜ r ≡ begins (span 0x80 0xBF ∷ []) (drop at (now (s .entry))) ⌝ }
 {
     if s.len() - at < 1 {
-        return 0;
+        return false;
     }
-    if holds(s[at], 0x80, 0xBF) { 2 } else { 0 }
+    holds(s[at], 0x80, 0xBF)
 }
 
-fn three(s: &[u8], at: usize, lo: u8, hi: u8) -> usize
+fn three(s: &[u8], at: usize, lo: u8, hi: u8) -> bool
     requires { ⌜ at ≤ length (now s) ⌝ }
-    ensures { λ r. ⌜ r ≡ pickNat (begins (span lo hi ∷ span 0x80 0xBF ∷ []) (drop at (now (s .entry)))) 3 0 ⌝ }
+    ensures { λ r. ⌜ r ≡ begins (span lo hi ∷ span 0x80 0xBF ∷ []) (drop at (now (s .entry))) ⌝ }
 {
     if s.len() - at < 2 {
-        return 0;
+        return false;
     }
     if holds(s[at], lo, hi) {
-        if holds(s[at + 1], 0x80, 0xBF) {
-            return 3;
-        }
+        holds(s[at + 1], 0x80, 0xBF)
+    } else {
+        false
     }
-    0
 }
 
-fn four(s: &[u8], at: usize, lo: u8, hi: u8) -> usize
+fn four(s: &[u8], at: usize, lo: u8, hi: u8) -> bool
     requires { ⌜ at ≤ length (now s) ⌝ }
-    ensures { λ r. ⌜ r ≡ pickNat (begins (span lo hi ∷ span 0x80 0xBF ∷ span 0x80 0xBF ∷ []) (drop at (now (s .entry)))) 4 0 ⌝ }
+    ensures { λ r. ⌜ r ≡ begins (span lo hi ∷ span 0x80 0xBF ∷ span 0x80 0xBF ∷ []) (drop at (now (s .entry))) ⌝ }
 {
     if s.len() - at < 3 {
-        return 0;
+        return false;
     }
     if holds(s[at], lo, hi) {
         if holds(s[at + 1], 0x80, 0xBF) {
-            if holds(s[at + 2], 0x80, 0xBF) {
-                return 4;
-            }
+            return holds(s[at + 2], 0x80, 0xBF);
         }
     }
-    0
+    false
 }
 
-// How long the well-formed sequence at a place is, or 0.
+// The lowest second byte after a first byte from E0 to F4.
+fn second_low(b: u8) -> u8
+    ensures { λ r. ⌜ r ≡ secondLow b ⌝ }
+{
+    if b == 0xE0 {
+        return 0xA0;
+    }
+    if b == 0xF0 { 0x90 } else { 0x80 }
+}
+
+// The highest second byte after a first byte from E0 to F4.
+fn second_high(b: u8) -> u8
+    ensures { λ r. ⌜ r ≡ secondHigh b ⌝ }
+{
+    if b == 0xED {
+        return 0x9F;
+    }
+    if b == 0xF4 { 0x8F } else { 0xBF }
+}
+
+// Whether the first byte, from 80 to DF, begins a sequence of two bytes; one of no other length.
+fn two_at(s: &[u8], at: usize) -> bool
+    requires { ⌜ Led (now s) at 0x80 0xDF ⌝ }
+    ensures { λ r. ⌜ widthOf (drop at (now (s .entry))) ≡ pickNat r 2 0 ⌝ }
+{
+    if s[at] < 0xC2 {
+        return false;
+    }
+    two(s, at + 1)
+}
+
+// Whether the first byte, from E0 to EF, begins a sequence of three bytes; one of no other length.
+fn three_at(s: &[u8], at: usize) -> bool
+    requires { ⌜ Led (now s) at 0xE0 0xEF ⌝ }
+    ensures { λ r. ⌜ widthOf (drop at (now (s .entry))) ≡ pickNat r 3 0 ⌝ }
+{
+    let b = s[at];
+    three(s, at + 1, second_low(b), second_high(b))
+}
+
+// Whether the first byte, from F0 on, begins a sequence of four bytes; one of no other length.
+fn four_at(s: &[u8], at: usize) -> bool
+    requires { ⌜ Led (now s) at 0xF0 0xFF ⌝ }
+    ensures { λ r. ⌜ widthOf (drop at (now (s .entry))) ≡ pickNat r 4 0 ⌝ }
+{
+    let b = s[at];
+    if 0xF4 < b {
+        return false;
+    }
+    four(s, at + 1, second_low(b), second_high(b))
+}
+
+// How long the well-formed sequence is that begins with a byte above ASCII, or 0.
 fn width_at(s: &[u8], at: usize) -> usize
-    requires { ⌜ at < length (now s) ⌝ }
+    requires { ⌜ Led (now s) at 0x80 0xFF ⌝ }
     ensures { λ r. ⌜ r ≡ widthOf (drop at (now (s .entry))) ⌝ }
 {
     let b = s[at];
-    if b < 0x80 {
-        return 1;
-    }
-    if b < 0xC2 {
-        return 0;
-    }
     if b < 0xE0 {
-        return two(s, at + 1);
-    }
-    if b == 0xE0 {
-        return three(s, at + 1, 0xA0, 0xBF);
-    }
-    if b < 0xED {
-        return three(s, at + 1, 0x80, 0xBF);
-    }
-    if b == 0xED {
-        return three(s, at + 1, 0x80, 0x9F);
+        return if two_at(s, at) { 2 } else { 0 };
     }
     if b < 0xF0 {
-        return three(s, at + 1, 0x80, 0xBF);
+        return if three_at(s, at) { 3 } else { 0 };
     }
-    if b == 0xF0 {
-        return four(s, at + 1, 0x90, 0xBF);
-    }
-    if b < 0xF4 {
-        return four(s, at + 1, 0x80, 0xBF);
-    }
-    if b == 0xF4 {
-        return four(s, at + 1, 0x80, 0x8F);
-    }
-    0
+    if four_at(s, at) { 4 } else { 0 }
 }
 
 // The bitwise or of 32 bytes from a place: none of them is above it. A loop of fixed length, so that it becomes vector code.
@@ -154,59 +179,90 @@ fn ascii_end(s: &[u8], from: usize) -> usize
     i
 }
 
-// The place of the first ill-formed sequence, if there is one. A run of ASCII is passed at once.
+// How many bytes a scan passes at a place, or 0 at an ill-formed sequence. In text of another script an ASCII byte seldom
+// has an ASCII byte three places on, so that a run is looked for only where there may be one.
+fn passed(s: &[u8], at: usize) -> usize
+    requires { ⌜ at < length (now s) ⌝ }
+    ensures { λ r. ⌜ Passed (now (s .entry)) at r ⌝ }
+{
+    if 0x80 <= s[at] {
+        return width_at(s, at);
+    }
+    if 3 < s.len() - at {
+        if s[at + 3] < 0x80 {
+            return ascii_end(s, at + 1) - at;
+        }
+    }
+    1
+}
+
+// The place of the first ill-formed sequence, if there is one.
 pub fn utf8_check(s: &[u8]) -> Utf8
     ensures { λ r. ⌜ placeOf r ≡ firstIllFormed (now (s .entry)) ⌝ }
 {
     let n = s.len();
     let mut i: usize = 0;
     while i < n {
-        if s[i] < 0x80 {
-            i = ascii_end(s, i + 1);
-        } else {
-            let w = width_at(s, i);
-            if w == 0 {
-                return Utf8::IllFormed(i);
-            }
-            i += w;
+        let w = passed(s, i);
+        if w == 0 {
+            return Utf8::IllFormed(i);
         }
+        i += w;
     }
     Utf8::WellFormed
 }
 
-// The code point of a sequence of more than one byte, or U+FFFD where there is none.
+// U+FFFD in the place of a byte that begins no well-formed sequence.
+fn replaced() -> Decoded
+    ensures { λ r. ⌜ r ≡ replacement ⌝ }
+{
+    Decoded {
+        cp: 0xFFFD,
+        width: 1,
+    }
+}
+
+// The code point of a sequence that begins with a byte above ASCII.
 fn decode_wide(s: &[u8], at: usize) -> Decoded
-    requires { ⌜ at < length (now s) ⌝ }
+    requires { ⌜ Led (now s) at 0x80 0xFF ⌝ }
     ensures { λ r. ⌜ r ≡ decode (drop at (now (s .entry))) ⌝ }
 {
     let b = s[at];
-    let w = width_at(s, at);
-    if w == 0 {
-        return Decoded {
-            cp: 0xFFFD,
-            width: 1,
-        };
-    }
-    if w == 1 {
-        return Decoded {
-            cp: b as u32,
-            width: 1,
-        };
-    }
-    let b1 = (s[at + 1] % 64) as u32;
-    if w == 2 {
+    if b < 0xE0 {
+        if !two_at(s, at) {
+            return replaced();
+        }
+        let b1 = (s[at + 1] % 64) as u32;
         return Decoded {
             cp: (b % 32) as u32 * 64 + b1,
             width: 2,
         };
     }
-    let b2 = (s[at + 2] % 64) as u32;
-    if w == 3 {
+    if b < 0xF0 {
+        if !three_at(s, at) {
+            return replaced();
+        }
+        let b1 = (s[at + 1] % 64) as u32;
+        let b2 = (s[at + 2] % 64) as u32;
         return Decoded {
             cp: (b % 16) as u32 * 4096 + b1 * 64 + b2,
             width: 3,
         };
     }
+    decode_four(s, at)
+}
+
+// The same from F0 on.
+fn decode_four(s: &[u8], at: usize) -> Decoded
+    requires { ⌜ Led (now s) at 0xF0 0xFF ⌝ }
+    ensures { λ r. ⌜ r ≡ decode (drop at (now (s .entry))) ⌝ }
+{
+    if !four_at(s, at) {
+        return replaced();
+    }
+    let b = s[at];
+    let b1 = (s[at + 1] % 64) as u32;
+    let b2 = (s[at + 2] % 64) as u32;
     let b3 = (s[at + 3] % 64) as u32;
     Decoded {
         cp: (b % 8) as u32 * 262144 + b1 * 4096 + b2 * 64 + b3,

@@ -1,5 +1,4 @@
 -- `text::decode_at` meets its contract.
--- Assumes nothing.
 use borrow.Author.Needs.{needs}
 use denote.Ref.{now}
 use native.Mathlib.Omega.{arith}
@@ -23,7 +22,9 @@ returns-2 c =
     decode-1 (now (a .s)) (a .at) (omega arith) (ascii-one (now (a .s)) (a .at) (omega arith) (omega arith))
 
 decode-wide-requires : tie.Need-decode-wide-requires
-decode-wide-requires c κs = search needs
+decode-wide-requires c κs =
+    let a = c .before .before .before .before .args in
+    record { inside = omega arith; low = omega arith; high = omega (arith, c .before .shared-slice-known2 .given (a .at)) }
 
 returns-3 : tie.Need-returns-3
 returns-3 c = search needs

@@ -1,11 +1,12 @@
--- `text::decode_wide` meets its contract: each `return` is a width.
+-- `text::decode_wide` meets its contract.
 -- Assumes nothing.
 use borrow.Author.Needs.{needs}
 use denote.Ref.{now}
 use lib.ListN.{drop}
-use mathlib.Core.Path.{_≡_, sym, _∙_}
+use mathlib.Core.Path.{_≡_, sym, ap, _∙_}
 use native.Mathlib.Omega.{arith}
-use Rattle.text.proofs.Decode.{decode-0, decode-1, decode-2, decode-3, decode-4}
+use Rattle.text.proofs.Decode.{decode-0, decode-2, decode-3}
+use Rattle.text.proofs.Rows.{picked, unpicked}
 use Rattle.text.proofs.Scan.{within-text}
 use Rattle.text.specs.Utf8.{widthOf}
 use Rattle.text.proofs.decode_wide.Statement.{statement}
@@ -14,23 +15,17 @@ use Rattle.text.proofs.decode_wide.Tie as tie
 shared-slice-read-b : tie.Need-shared-slice-read-b
 shared-slice-read-b c = search needs
 
-width-at-requires : tie.Need-width-at-requires
-width-at-requires c κs = search needs
+two-at-requires : tie.Need-two-at-requires
+two-at-requires c κs = search needs
+
+replaced-requires : tie.Need-replaced-requires
+replaced-requires c κs = search needs
 
 returns : tie.Need-returns
 returns c =
-    let a = c .before .before .before .before .args in
-    decode-0 (now (a .s)) (a .at) (omega arith) (sym (c .before .width-at .ensures) ∙ c .if1 .taken)
-
-cast-t11 : tie.Need-cast-t11
-cast-t11 c =
-    let a = c .before .before .before .before .before .args in
-    omega (arith, c .before .before .before .before .shared-slice-known .given (a .at))
-
-returns-2 : tie.Need-returns-2
-returns-2 c =
-    let a = c .before .before .before .before .before .args in
-    decode-1 (now (a .s)) (a .at) (omega arith) (sym (c .before .before .width-at .ensures) ∙ c .if2 .taken)
+    let a = c .before .before .before .before .before .before .args in
+    let f = c .before .before .two-at in
+    c .replaced .ensures ∙ decode-0 (now (a .s)) (a .at) (omega arith) (unpicked (widthOf (drop (a .at) (now (a .s)))) 2 (f .result) (f .ensures) (c .before .if2 .taken))
 
 add-b1 : tie.Need-add-b1
 add-b1 c = search needs
@@ -38,8 +33,9 @@ add-b1 c = search needs
 shared-slice-read-b1 : tie.Need-shared-slice-read-b1
 shared-slice-read-b1 c =
     let a = c .before .before .before .before .before .before .args in
-    let e : c .before .before .before .width-at .result ≡ widthOf (drop (a .at) (now (a .s))) = c .before .before .before .width-at .ensures in
-    omega (arith, within-text (now (a .s)) (a .at) (omega arith))
+    let f = c .before .before .two-at in
+    let w = picked (widthOf (drop (a .at) (now (a .s)))) 2 (f .result) (f .ensures) (c .before .if2 .left) in
+    omega (arith, w, within-text (now (a .s)) (a .at) (omega arith))
 
 cast-b1 : tie.Need-cast-b1
 cast-b1 c = search needs
@@ -53,10 +49,37 @@ mul-t17 c = search needs
 add-t18 : tie.Need-add-t18
 add-t18 c = search needs
 
+returns-2 : tie.Need-returns-2
+returns-2 c =
+    let a = c .before .before .before .before .before .before .args in
+    let f = c .before .before .two-at in
+    let w = picked (widthOf (drop (a .at) (now (a .s)))) 2 (f .result) (f .ensures) (c .before .if2 .left) in
+    decode-2 (now (a .s)) (a .at) (omega arith) w
+
+three-at-requires : tie.Need-three-at-requires
+three-at-requires c κs = search needs
+
+replaced-requires-2 : tie.Need-replaced-requires-2
+replaced-requires-2 c κs = search needs
+
 returns-3 : tie.Need-returns-3
 returns-3 c =
     let a = c .before .before .before .before .before .before .before .args in
-    decode-2 (now (a .s)) (a .at) (omega arith) (sym (c .before .before .before .before .width-at .ensures) ∙ c .if3 .taken)
+    let f = c .before .before .three-at in
+    c .replaced2 .ensures ∙ decode-0 (now (a .s)) (a .at) (omega arith) (unpicked (widthOf (drop (a .at) (now (a .s)))) 3 (f .result) (f .ensures) (c .before .if4 .taken))
+
+add-b1-2 : tie.Need-add-b1-2
+add-b1-2 c = search needs
+
+shared-slice-read-b1-2 : tie.Need-shared-slice-read-b1-2
+shared-slice-read-b1-2 c =
+    let a = c .before .before .before .before .before .before .before .args in
+    let f = c .before .before .three-at in
+    let w = picked (widthOf (drop (a .at) (now (a .s)))) 3 (f .result) (f .ensures) (c .before .if4 .left) in
+    omega (arith, w, within-text (now (a .s)) (a .at) (omega arith))
+
+cast-b1-2 : tie.Need-cast-b1-2
+cast-b1-2 c = search needs
 
 add-b2 : tie.Need-add-b2
 add-b2 c = search needs
@@ -64,104 +87,70 @@ add-b2 c = search needs
 shared-slice-read-b2 : tie.Need-shared-slice-read-b2
 shared-slice-read-b2 c =
     let a = c .before .before .before .before .before .before .before .before .args in
-    let e : c .before .before .before .before .before .width-at .result ≡ widthOf (drop (a .at) (now (a .s))) = c .before .before .before .before .before .width-at .ensures in
-    omega (arith, within-text (now (a .s)) (a .at) (omega arith))
+    let f = c .before .before .before .three-at in
+    let w = picked (widthOf (drop (a .at) (now (a .s)))) 3 (f .result) (f .ensures) (c .before .before .if4 .left) in
+    omega (arith, w, within-text (now (a .s)) (a .at) (omega arith))
 
 cast-b2 : tie.Need-cast-b2
 cast-b2 c = search needs
 
-cast-t21 : tie.Need-cast-t21
-cast-t21 c = search needs
+cast-t26 : tie.Need-cast-t26
+cast-t26 c = search needs
 
-mul-t22 : tie.Need-mul-t22
-mul-t22 c = search needs
-
-mul-t23 : tie.Need-mul-t23
-mul-t23 c = search needs
-
-add-t24 : tie.Need-add-t24
-add-t24 c = search needs
-
-add-t25 : tie.Need-add-t25
-add-t25 c = search needs
-
-returns-4 : tie.Need-returns-4
-returns-4 c =
-    let a = c .before .before .before .before .before .before .before .before .before .args in
-    decode-3 (now (a .s)) (a .at) (omega arith) (sym (c .before .before .before .before .before .before .width-at .ensures) ∙ c .if4 .taken)
-
-add-b3 : tie.Need-add-b3
-add-b3 c = search needs
-
-shared-slice-read-b3 : tie.Need-shared-slice-read-b3
-shared-slice-read-b3 c =
-    let a = c .before .before .before .before .before .before .before .before .before .before .args in
-    let e : c .before .before .before .before .before .before .before .width-at .result ≡ widthOf (drop (a .at) (now (a .s))) = c .before .before .before .before .before .before .before .width-at .ensures in
-    omega (arith, within-text (now (a .s)) (a .at) (omega arith))
-
-cast-b3 : tie.Need-cast-b3
-cast-b3 c = search needs
-
-cast-t27 : tie.Need-cast-t27
-cast-t27 c = search needs
+mul-t27 : tie.Need-mul-t27
+mul-t27 c = search needs
 
 mul-t28 : tie.Need-mul-t28
 mul-t28 c = search needs
 
-mul-t29 : tie.Need-mul-t29
-mul-t29 c = search needs
+add-t29 : tie.Need-add-t29
+add-t29 c = search needs
 
 add-t30 : tie.Need-add-t30
 add-t30 c = search needs
 
-mul-t31 : tie.Need-mul-t31
-mul-t31 c = search needs
+returns-4 : tie.Need-returns-4
+returns-4 c =
+    let a = c .before .before .before .before .before .before .before .before .args in
+    let f = c .before .before .before .three-at in
+    let w = picked (widthOf (drop (a .at) (now (a .s)))) 3 (f .result) (f .ensures) (c .before .before .if4 .left) in
+    decode-3 (now (a .s)) (a .at) (omega arith) w
 
-add-t32 : tie.Need-add-t32
-add-t32 c = search needs
-
-add-t33 : tie.Need-add-t33
-add-t33 c = search needs
+decode-four-requires : tie.Need-decode-four-requires
+decode-four-requires c κs = search needs
 
 returns-5 : tie.Need-returns-5
-returns-5 c =
-    let a = c .before .before .before .before .before .before .before .before .before .before .args in
-    let e : c .before .before .before .before .before .before .before .width-at .result ≡ widthOf (drop (a .at) (now (a .s))) = c .before .before .before .before .before .before .before .width-at .ensures in
-    decode-4 (now (a .s)) (a .at) (omega arith) (omega arith)
+returns-5 c = search needs
 
 pub decode-wide-spec : {M : Type 1} → statement M
 decode-wide-spec =
     tie.close
     (tie.spec
     shared-slice-read-b
-    width-at-requires
+    two-at-requires
+    replaced-requires
     returns
-    cast-t11
-    returns-2
     add-b1
     shared-slice-read-b1
     cast-b1
     cast-t16
     mul-t17
     add-t18
+    returns-2
+    three-at-requires
+    replaced-requires-2
     returns-3
+    add-b1-2
+    shared-slice-read-b1-2
+    cast-b1-2
     add-b2
     shared-slice-read-b2
     cast-b2
-    cast-t21
-    mul-t22
-    mul-t23
-    add-t24
-    add-t25
-    returns-4
-    add-b3
-    shared-slice-read-b3
-    cast-b3
-    cast-t27
+    cast-t26
+    mul-t27
     mul-t28
-    mul-t29
+    add-t29
     add-t30
-    mul-t31
-    add-t32
-    add-t33
+    returns-4
+    decode-four-requires
     returns-5)
