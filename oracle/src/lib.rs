@@ -1,0 +1,26 @@
+//! The published usfm3 validator as the judge of a port, with documents to judge.
+//!
+//! The published modules stand at the root of this crate, since their own paths begin with
+//! `crate::`. The build assembles them (see `build.rs`); the modules named here are ours.
+
+include!(concat!(env!("OUT_DIR"), "/published.rs"));
+
+mod stubs;
+#[doc(hidden)]
+pub use stubs::{Document, Version};
+
+pub mod arguments;
+pub mod coverage;
+pub mod document;
+pub mod exhaustive;
+pub mod features;
+pub mod forms;
+pub mod generate;
+pub mod judge;
+#[cfg(feature = "library")]
+pub mod library;
+pub mod parts;
+pub mod recorded;
+pub mod refusals;
+pub mod rng;
+pub mod samples;

@@ -1,0 +1,132 @@
+//! Documents by hand whose tape no reader of texts gives.
+
+use super::{Sketch, entry};
+use crate::document::{Document, Entry, kind};
+use crate::serialize::vref::BOOK_CODES;
+
+const TABLE: [Entry<'static>; 8] = [
+    entry("id", 0, 1),
+    entry("c", 1, 0),
+    entry("v", 2, 0),
+    entry("p", 3, 2),
+    entry("ca", 4, 1),
+    entry("cp", 4, 1),
+    entry("qt-s", 6, 0),
+    entry("w", 4, 0),
+];
+const C: u16 = 1;
+const V: u16 = 2;
+const P: u16 = 3;
+const CA: u16 = 4;
+const CP: u16 = 5;
+const QT: u16 = 6;
+const W: u16 = 7;
+
+/// All of them.
+pub fn shaped() -> Vec<Document> {
+    let mut list = vec![every_book(), note_only_of_other_categories()];
+    list.extend(numbers_at_one_byte());
+    list.extend(leaves_before_a_number());
+    list.extend(odd_names());
+    list.extend(milestones_of_one_entry());
+    list
+}
+
+/// Every book code, each in an identification of its own.
+fn every_book() -> Document {
+    let mut sketch = Sketch::default();
+    for code in BOOK_CODES {
+        sketch.open(0, "\\id").text(&format!(" {code}\n")).end();
+    }
+    sketch.under(&TABLE)
+}
+
+/// Only character markers are asked whether they stand in a note.
+fn note_only_of_other_categories() -> Document {
+    let entries: Vec<Entry<'_>> = (0..8).map(|category| entry("fr", category, 0)).collect();
+    let mut sketch = Sketch::default();
+    for marker in 0..8 {
+        sketch.open(marker, "\\fr").text(" a").end();
+    }
+    sketch.under(&entries)
+}
+
+/// A repeated number that starts where the first one starts, of the same length and longer.
+fn numbers_at_one_byte() -> Vec<Document> {
+    let document = |more: u32| {
+        let mut sketch = Sketch::default();
+        sketch.leaf(kind::CHAPTER, C, "\\c 1\n", 1);
+        let first = sketch.nodes.len();
+        sketch.open(CA, "\\ca").text(" 2").end();
+        let second = sketch.nodes.len();
+        sketch.open(CA, "\\ca").end().open(CA, "\\ca").end();
+        sketch.nodes[second].start = sketch.nodes[first].start;
+        sketch.nodes[second].len += more;
+        sketch.under(&TABLE)
+    };
+    vec![document(0), document(1)]
+}
+
+/// Only blank Text stands between an anchor and its number without parting them.
+fn leaves_before_a_number() -> Vec<Document> {
+    let document = |(kind, text): (u8, &str)| {
+        let mut sketch = Sketch::default();
+        sketch.leaf(kind::CHAPTER, C, "\\c 1\n", 1);
+        sketch.leaf(kind, 0, text, 0);
+        sketch.open(CP, "\\cp").text(" 2").end();
+        sketch.under(&TABLE)
+    };
+    let leaves = [
+        (kind::TEXT, ""),
+        (kind::TEXT, " "),
+        (kind::ERROR, ""),
+        (kind::ERROR, " "),
+        (kind::ATTRIBUTE, ""),
+        (kind::VERSE, ""),
+    ];
+    leaves.map(document).to_vec()
+}
+
+/// Names that end, or don't, at what a marker is written with.
+fn odd_names() -> Vec<Document> {
+    let texts = [
+        "\\ca\\x",
+        "\\\\ca",
+        "ca",
+        "+ca",
+        "\\+ca",
+        "\\++ca",
+        "\\ca*",
+        "\\ca|x",
+        "\\ca\u{85}x",
+        "\\ca\u{200B}",
+        "\\ca1",
+        "\\va",
+        "",
+    ];
+    let document = |text: &&str| {
+        let mut sketch = Sketch::default();
+        sketch.open(CA, text).end().open(P, text).end();
+        sketch.leaf(kind::VERSE, V, text, 1);
+        sketch.under(&TABLE)
+    };
+    texts.iter().map(document).collect()
+}
+
+/// Bases come from the source: one entry serves starts and ends of any base.
+fn milestones_of_one_entry() -> Vec<Document> {
+    let document = |names: &[&str]| {
+        let mut sketch = Sketch::default();
+        for name in names {
+            sketch.open(QT, name);
+            sketch.leaf(kind::ATTRIBUTE, 0, "|a", 0).end();
+        }
+        sketch.open(W, "\\qt-s").end();
+        sketch.under(&TABLE)
+    };
+    vec![
+        document(&["\\qt1-s", "\\qt-s", "\\qt1-e", "\\qt2-e", "\\qt-e"]),
+        document(&["\\-s", "\\x-s", "\\-e", "\\-e", "\\x-S", "\\x"]),
+        document(&["\\x-e-s", "\\x-s-e", "\\x-s-s", "\\x-e-e"]),
+    ]
+}
