@@ -1,0 +1,10 @@
+pub mod Spans
+pub mod Stack
+pub mod Machine
+pub mod Last
+pub mod Whole
+pub mod Check
+pub mod Nest
+pub mod Accept
+pub mod OneNumber
+pub mod Nine

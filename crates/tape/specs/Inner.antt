@@ -1,0 +1,98 @@
+-- What the functions inside the crate promise.
+use Prim.Native.Nat.{ℕ, zero, suc, _+_, _-_, _*_, _<_, _≤_}
+use mathlib.Core.Path.{_≡_}
+use mathlib.Core.Bool.{Bool, true, false, not}
+use mathlib.Core.List.{List, [], _∷_}
+use mathlib.Core.Logic.{_⊎_}
+use mathlib.Core.Option.{Option, some, none}
+use lib.Dec.{eqb}
+use lib.ListN.{length, getD}
+use Rattle.text.specs.Pick.{both, either, pickNat}
+use Rattle.tape.specs.Nodes.{count, kindAt, linkAt, isClose}
+use Rattle.tape.specs.Reading.{Refusal, refuse, onlyIf, orElse, firstBad, badKind, badSpan, goodRoot, read, Step, go, stop, opened, closed}
+use Rattle.tape.specs.declared.TapeCheck.{TapeCheck}
+use Rattle.tape.specs.declared.Reading.{Reading}
+
+-- the tape has n nodes, from 1 to 65,535, and no byte more
+pub record Sized (t : List ℕ) (n : ℕ) : Type 0 where
+  pub whole : length t ≡ 16 * n
+  pub some : 1 ≤ n
+  pub few : n ≤ 65535
+
+-- the first k elements of an array as a stack, the last of them on top
+abbrev pub stacked : List ℕ → ℕ → List ℕ
+stacked xs zero = []
+stacked xs (suc k) = getD xs k 0 ∷ stacked xs k
+
+-- a refusal that was met already, or what the rest gives
+abbrev pub met : ℕ → ℕ → Option Refusal → Option Refusal
+met zero place rest = rest
+met (suc number) place rest = refuse (suc number) place
+
+-- where the first bad span was met, or what the rest gives
+abbrev pub metSpan : ℕ → Option Refusal → Option Refusal
+metSpan zero rest = rest
+metSpan (suc place) rest = refuse 6 (suc place)
+
+abbrev pub spanAfter : List ℕ → List ℕ → ℕ → ℕ → ℕ
+spanAfter s t i zero = pickNat (badSpan s t i) i 0
+spanAfter s t i (suc place) = suc place
+
+-- what the reading says of the nodes from i on, with the rest of the tape to read
+abbrev pub says : List ℕ → ℕ → ℕ → List ℕ → Reading → Option Refusal
+says t n i stack r = met (r .number) (r .place) (read t (n - i) i (stacked stack (r .depth)))
+
+-- a step of the reading of the nodes, as the reading holds it
+abbrev pub held : Step → ℕ → List ℕ → Reading → Type 0
+held (go awaited) i stack q = (q .number ≡ 0) × (stacked stack (q .depth) ≡ awaited)
+held (stop number) i stack q = (q .number ≡ number) × (q .place ≡ i)
+
+pub record Opened (link i : ℕ) (stack stack′ : List ℕ) (r q : Reading) : Type 0 where
+  pub step : held (opened link (stacked stack (r .depth))) i stack′ q
+  pub low : q .depth ≤ 64
+  pub room : length stack′ ≡ 64
+
+pub record Closed (root i : ℕ) (stack : List ℕ) (r q : Reading) : Type 0 where
+  pub step : r .number ≡ 0 → held (closed root i (stacked stack (r .depth))) i stack q
+  pub low : q .depth ≤ 64
+
+-- the numbers that a reading may have stopped with, or 0
+abbrev pub Known : ℕ → Type 0
+Known number = (number ≡ 0) ⊎ ((number ≡ 7) ⊎ (number ≡ 8))
+
+-- the reading after node i, from the one before it: what is left gives what it gave
+pub record Stepped (t : List ℕ) (i : ℕ) (stack stack′ : List ℕ) (r q : Reading) : Type 0 where
+  pub same : (n : ℕ) → i < n → says t n (i + 1) stack′ q ≡ says t n i stack r
+  pub low : q .depth ≤ 64
+  pub known : Known (q .number)
+  pub room : length stack′ ≡ 64
+
+-- what the reading holds before a step
+pub record Held (t : List ℕ) (root i kind : ℕ) (stack : List ℕ) (r : Reading) : Type 0 where
+  pub inside : i < count t
+  pub link : root ≡ linkAt t 0
+  pub of-kind : kind ≡ kindAt t i
+  pub room : length stack ≡ 64
+  pub low : r .depth ≤ 64
+  pub known : Known (r .number)
+
+-- 7 of the root by its link, whether a close stands there, and whether an open has that link
+abbrev pub rootBy : ℕ → ℕ → Bool → Bool → Bool
+rootBy link n closes taken = either (eqb link n) (both (eqb (link + 1) n) (both closes (not taken)))
+
+-- an open that is left unclosed at the end
+abbrev pub leftOpen : ℕ → ℕ → Option Refusal
+leftOpen n zero = none
+leftOpen n (suc depth) = refuse 7 n
+
+-- the rest of the numbers when all nodes are read
+abbrev pub lastly : List ℕ → ℕ → ℕ → ℕ → Bool → Reading → Option Refusal
+lastly t n root span taken r =
+    orElse (metSpan span none)
+    (orElse (onlyIf (not (rootBy root n (isClose (kindAt t root)) taken)) (refuse 7 0)) (met (r .number) (r .place) (leftOpen n (r .depth))))
+
+-- the numbers from 5 on, where the root's kind is good
+abbrev pub fromOne : List ℕ → List ℕ → ℕ → Option Refusal
+fromOne s t n =
+    orElse (firstBad 5 (badKind t) 1 (n - 1))
+    (orElse (firstBad 6 (badSpan s t) 1 (n - 1)) (orElse (onlyIf (not (goodRoot t)) (refuse 7 0)) (read t (n - 1) 1 [])))

@@ -1,0 +1,5 @@
+pub mod Nodes
+pub mod Reading
+pub mod Forest
+pub mod Inner
+pub mod Conditions

@@ -1,0 +1,116 @@
+-- Numbers 4 to 8. "Each gives number and place"; "Of several nodes the first counts."
+use Prim.Native.Nat.{ℕ, zero, suc, _+_, _-_, _%_}
+use mathlib.Core.Bool.{Bool, true, false, not}
+use mathlib.Core.List.{List, [], _∷_}
+use mathlib.Core.Option.{Option, some, none}
+use lib.Dec.{eqb, ltb}
+use lib.ListN.{length}
+use Rattle.text.specs.Pick.{both, either, within}
+use Rattle.text.specs.Characters.{starts}
+use Rattle.tape.specs.Nodes.{count, kindAt, startAt, lenAt, linkAt, isClose, isOpen}
+use Rattle.tape.specs.declared.TapeCheck.{TapeCheck}
+use Rattle.tape.specs.declared.TapeCheck.the-variants.{Good, Length, Kind, Span, Links, Deep}
+
+pub record Refusal : Type 0 where
+  pub number : ℕ
+  pub place : ℕ
+
+abbrev pub refuse : ℕ → ℕ → Option Refusal
+refuse number place = some (record { number = number; place = place })
+
+abbrev pub onlyIf : Bool → Option Refusal → Option Refusal
+onlyIf true r = r
+onlyIf false r = none
+
+-- a number that is tried before others
+abbrev pub orElse : Option Refusal → Option Refusal → Option Refusal
+orElse (some r) later = some r
+orElse none later = later
+
+-- the first of the n nodes from node a on that is bad, with the number
+unfoldable pub firstBad : ℕ → (ℕ → Bool) → ℕ → ℕ → Option Refusal
+firstBad number bad a zero = none
+firstBad number bad a (suc n) = orElse (onlyIf (bad a) (refuse number a)) (firstBad number bad (suc a) n)
+
+abbrev pub isNone : Option Refusal → Bool
+isNone none = true
+isNone (some r) = false
+
+-- 4: "The tape's length is 0, no multiple of 16, or over 65,535 nodes; place 0."
+abbrev pub badLength : List ℕ → Bool
+badLength t = either (eqb (length t) 0) (either (not (eqb (length t % 16) 0)) (ltb 65535 (count t)))
+
+-- 5: "A kind is over 8, or Root is missing at 0 or present elsewhere; place: that node."
+abbrev pub badKind : List ℕ → ℕ → Bool
+badKind t zero = not (eqb (kindAt t 0) 0)
+badKind t (suc i) = not (within 1 8 (kindAt t (suc i)))
+
+-- 6: "A span from node 1 on leaves the source or splits a character; place: that node."
+abbrev pub badSpan : List ℕ → List ℕ → ℕ → Bool
+badSpan s t i =
+    either (ltb (length s) (startAt t i + lenAt t i)) (either (not (starts s (startAt t i))) (not (starts s (startAt t i + lenAt t i))))
+
+-- 7, the root: "The root's link is n, or n − 1 with a close there that is the link of no other open."
+abbrev pub opensTo : List ℕ → ℕ → ℕ → Bool
+opensTo t link i = both (isOpen (kindAt t i)) (eqb (linkAt t i) link)
+
+abbrev pub goodRoot : List ℕ → Bool
+goodRoot t =
+    either (eqb (linkAt t 0) (count t))
+    (both (eqb (linkAt t 0 + 1) (count t))
+    (both (isClose (kindAt t (linkAt t 0))) (isNone (firstBad 7 (opensTo t (linkAt t 0)) 1 (count t - 1)))))
+
+-- 7 and 8, the others: "Read nodes from 1 with the opens not yet closed, the root outermost. A close (kinds MarkerClose, BlockEnd) at i must be the link of the innermost open."
+-- "A 65th open nests inside 64, root not counted; place: that node"
+pub data Step : Type 0 where
+  go : List ℕ → Step
+  stop : ℕ → Step
+
+abbrev pub pickStep : Bool → Step → Step → Step
+pickStep true a b = a
+pickStep false a b = b
+
+-- one node more opened, where its link is awaited
+abbrev pub opened : ℕ → List ℕ → Step
+opened link awaited = pickStep (ltb (length awaited) 64) (go (link ∷ awaited)) (stop 8)
+
+-- the innermost open closed, or the root
+abbrev pub closed : ℕ → ℕ → List ℕ → Step
+closed root i [] = pickStep (eqb i root) (go []) (stop 7)
+closed root i (link ∷ awaited) = pickStep (eqb i link) (go awaited) (stop 7)
+
+unfoldable pub step : List ℕ → ℕ → List ℕ → Step
+step t i awaited =
+    pickStep (isOpen (kindAt t i)) (opened (linkAt t i) awaited)
+    (pickStep (isClose (kindAt t i)) (closed (linkAt t 0) i awaited) (go awaited))
+
+abbrev pub resume : Step → ℕ → (List ℕ → Option Refusal) → Option Refusal
+resume (go awaited) i rest = rest awaited
+resume (stop number) i rest = refuse number i
+
+-- "else n for an unclosed open"
+abbrev pub ended : ℕ → List ℕ → Option Refusal
+ended n [] = none
+ended n (link ∷ awaited) = refuse 7 n
+
+-- the n nodes from node i on, with the links that are awaited, the innermost first
+unfoldable pub read : List ℕ → ℕ → ℕ → List ℕ → Option Refusal
+read t zero i awaited = ended i awaited
+read t (suc n) i awaited = resume (step t i awaited) i (read t n (suc i))
+
+-- the numbers in checking order, of 7 and 8 the smaller place
+unfoldable pub tapeRefusal : List ℕ → List ℕ → Option Refusal
+tapeRefusal s t =
+    orElse (onlyIf (badLength t) (refuse 4 0))
+    (orElse (firstBad 5 (badKind t) 0 (count t))
+    (orElse (firstBad 6 (badSpan s t) 1 (count t - 1))
+    (orElse (onlyIf (not (goodRoot t)) (refuse 7 0)) (read t (count t - 1) 1 []))))
+
+-- what the answer of the check says
+abbrev pub refusalOf : TapeCheck → Option Refusal
+refusalOf Good = none
+refusalOf Length = refuse 4 0
+refusalOf (Kind i) = refuse 5 i
+refusalOf (Span i) = refuse 6 i
+refusalOf (Links i) = refuse 7 i
+refusalOf (Deep i) = refuse 8 i
