@@ -82,6 +82,12 @@ const PATCHES: &[Patch] = &[
         times: 1,
     },
     Patch {
+        file: "cst.rs",
+        old: "    idx: u32,\n}",
+        new: "    pub(crate) idx: u32,\n}",
+        times: 1,
+    },
+    Patch {
         file: "span.rs",
         old: " memchr::",
         new: " crate::stubs::memchr::",

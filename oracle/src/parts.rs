@@ -1,5 +1,6 @@
 //! Single functions of the published code, for comparisons below a whole document.
 
+use crate::cst::Cursor;
 use crate::document::{Document, kind};
 use crate::judge::{with_published, with_table};
 use crate::serialize::attached_numbers;
@@ -69,6 +70,44 @@ pub fn book(code: &str) -> Option<u8> {
 /// The marker that an accepted table text gives a name.
 pub fn lookup(table: &[u8], name: &str) -> Option<u16> {
     with_table(table, |table| table.lookup(name).map(|id| id.0))
+}
+
+/// What the published cursor says of a node.
+#[derive(Debug, PartialEq, Eq)]
+pub struct Seen {
+    pub text: Vec<u8>,
+    pub name: Vec<u8>,
+    pub first_child: Option<usize>,
+    pub next_sibling: Option<usize>,
+    pub number: Option<u32>,
+    /// The name of its table entry.
+    pub info: Option<Vec<u8>>,
+}
+
+fn seen(c: Cursor<'_>) -> Seen {
+    let place = |c: Cursor<'_>| c.idx as usize;
+    Seen {
+        text: c.text().into(),
+        name: c.marker_name().into(),
+        first_child: c.first_child().map(place),
+        next_sibling: c.next_sibling().map(place),
+        number: c.number(),
+        info: c.marker_info().map(|info| info.name.into()),
+    }
+}
+
+/// What the published cursor says of each node of an accepted document but the root, whose span
+/// nothing checks.
+pub fn seen_nodes(document: &Document) -> Vec<Seen> {
+    let n = document.node_count();
+    with_published(document, |root| {
+        let at = |i: usize| {
+            let mut c = root;
+            c.idx = i as u32;
+            c
+        };
+        (1..n).map(|i| seen(at(i))).collect()
+    })
 }
 
 /// The numbers attached to the chapters and verses that stand among the root's children.

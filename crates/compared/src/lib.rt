@@ -1,8 +1,21 @@
 // Functions of the library under C names, for the program that compares them with the Rust's. Nothing is asked of a caller but valid slices.
+use cursor::NumberRead;
+use cursor::Place;
+use table::Book;
+use table::BookId;
+use table::Category;
+use table::DefaultAttribute;
+use table::Info;
+use table::Layout;
+use table::Lookup;
+use table::MarkerId;
+use table::TextRole;
+use tape::TapeCheck;
 use text::Parsed;
 use text::Utf8;
 ghost use mathlib.Core.Path.{_≡_};
-ghost use mathlib.Core.Bool.{not};
+ghost use mathlib.Core.Bool.{true, not};
+ghost use Prim.Native.Nat.{_+_, _*_, _%_, _<_};
 ghost use lib.Dec.{eqb};
 ghost use lib.ListN.{length, drop};
 ghost use Rattle.compared.specs.Told.{orElse};
@@ -12,6 +25,7 @@ ghost use Rattle.text.specs.Blank.{blank};
 ghost use Rattle.text.specs.Characters.{find, findByte, starts};
 ghost use Rattle.text.specs.Words.{trimStart, trim, firstWord, secondWord};
 ghost use Rattle.text.specs.Number.{digit, parsed};
+ghost use Rattle.cursor.specs.Inner.{Spanned};
 
 // The place of the first ill-formed sequence, or the length.
 #[no_mangle]
@@ -124,4 +138,212 @@ pub extern "C" fn compared_second_word(s: &[u8], out: &mut [u8]) -> usize
     ensures { λ r. ⌜ r ≡ length (cut (secondWord (now (s .entry))) (now (s .entry))) ⌝ }
 {
     copy(text::second_word(s), out)
+}
+
+// A number and a place in one word.
+fn told(number: u64, place: usize) -> u64
+    requires { ⌜ number < 16 ⌝ }
+    ensures { λ r. ⌜ r ≡ number * 4294967296 + place % 4294967296 ⌝ }
+{
+    number * 4294967296 + place as u64 % 4294967296
+}
+
+// The number that turns a tape back, times 2 to the power of 32, and its place; 0 for none.
+#[no_mangle]
+pub extern "C" fn compared_tape_check(source: &[u8], tape: &[u8]) -> u64 {
+    match tape::tape_check(source, tape) {
+        TapeCheck::Good => 0,
+        TapeCheck::Length => told(4, 0),
+        TapeCheck::Kind(i) => told(5, i),
+        TapeCheck::Span(i) => told(6, i),
+        TapeCheck::Links(i) => told(7, i),
+        TapeCheck::Deep(i) => told(8, i),
+    }
+}
+
+// Whether a node's text lies in the source.
+fn spanned(source: &[u8], tape: &[u8], i: usize) -> bool
+    ensures { λ r. ⌜ (r ≡ true → Spanned (now (source .entry)) (now (tape .entry)) i) ⌝ }
+{
+    if tape.len() / 16 <= i {
+        return false;
+    }
+    let end = tape::start_at(tape, i) as usize + tape::len_at(tape, i) as usize;
+    end <= source.len()
+}
+
+// A node's text, or nothing where it doesn't lie in the source.
+#[no_mangle]
+pub extern "C" fn compared_text(source: &[u8], tape: &[u8], i: usize, out: &mut [u8]) -> usize {
+    if !spanned(source, tape, i) {
+        return 0;
+    }
+    copy(cursor::text(source, tape, i), out)
+}
+
+#[no_mangle]
+pub extern "C" fn compared_marker_name(
+    source: &[u8],
+    tape: &[u8],
+    i: usize,
+    out: &mut [u8],
+) -> usize {
+    if !spanned(source, tape, i) {
+        return 0;
+    }
+    copy(cursor::marker_name(source, tape, i), out)
+}
+
+// A place, or 2 to the power of 32.
+fn place_of(p: Place) -> u64 {
+    match p {
+        Place::At(i) => i as u64,
+        Place::Nowhere => 4294967296,
+    }
+}
+
+#[no_mangle]
+pub extern "C" fn compared_first_child(tape: &[u8], i: usize) -> u64 {
+    if tape.len() / 16 <= i {
+        return 4294967296;
+    }
+    place_of(cursor::first_child(tape, i))
+}
+
+#[no_mangle]
+pub extern "C" fn compared_next_sibling(tape: &[u8], i: usize) -> u64 {
+    if tape.len() / 16 <= i {
+        return 4294967296;
+    }
+    place_of(cursor::next_sibling(tape, i))
+}
+
+// The number of a chapter or a verse, or 2 to the power of 32.
+#[no_mangle]
+pub extern "C" fn compared_number(tape: &[u8], i: usize) -> u64 {
+    if tape.len() / 16 <= i {
+        return 4294967296;
+    }
+    match cursor::number(tape, i) {
+        NumberRead::Is(n) => n as u64,
+        NumberRead::NoNumber => 4294967296,
+    }
+}
+
+// The number of a table's entries, or 2 to the power of 32 and the place of its first bad line.
+#[no_mangle]
+pub extern "C" fn compared_table(table: &[u8]) -> u64 {
+    let mut words = [0u64; 512];
+    match table::index(table, &mut words) {
+        Layout::Good(n) => told(0, n),
+        Layout::Bad(at) => told(1, at),
+    }
+}
+
+// The number of the marker that a name stands for, or 2 to the power of 32, also where the table is badly laid out.
+#[no_mangle]
+pub extern "C" fn compared_lookup(table: &[u8], name: &[u8]) -> u64 {
+    let mut words = [0u64; 512];
+    let Layout::Good(n) = table::index(table, &mut words) else {
+        return 4294967296;
+    };
+    match MarkerId::lookup(table, &words, n, name) {
+        Lookup::Found(id) => id.0 as u64,
+        Lookup::Unknown => 4294967296,
+    }
+}
+
+fn category_number(c: Category) -> u64 {
+    match c {
+        Category::Identification => 0,
+        Category::Chapter => 1,
+        Category::Verse => 2,
+        Category::Paragraph => 3,
+        Category::Character => 4,
+        Category::Note => 5,
+        Category::Milestone => 6,
+        Category::Other => 7,
+    }
+}
+
+fn role_number(r: TextRole) -> u64 {
+    match r {
+        TextRole::Content => 0,
+        TextRole::Excluded => 1,
+        TextRole::Boundary => 2,
+    }
+}
+
+// An entry's category and role, eight times the role and the category, or 2 to the power of 32.
+fn info_number(i: Info) -> u64 {
+    match i {
+        Info::Known(m) => {
+            let c = m.category;
+            let r = m.text_role;
+            category_number(c) % 8 + 8 * (role_number(r) % 3)
+        }
+        Info::Missing => 4294967296,
+    }
+}
+
+// Of marker number k of a table.
+#[no_mangle]
+pub extern "C" fn compared_info(table: &[u8], k: u16) -> u64 {
+    let mut words = [0u64; 512];
+    let Layout::Good(n) = table::index(table, &mut words) else {
+        return 4294967296;
+    };
+    info_number(MarkerId::info(table, &words, n, MarkerId(k)))
+}
+
+// Of a node's marker.
+#[no_mangle]
+pub extern "C" fn compared_marker_info(table: &[u8], tape: &[u8], i: usize) -> u64 {
+    let mut words = [0u64; 512];
+    let Layout::Good(n) = table::index(table, &mut words) else {
+        return 4294967296;
+    };
+    if tape.len() / 16 <= i {
+        return 4294967296;
+    }
+    info_number(cursor::marker_info(table, &words, n, tape, i))
+}
+
+#[no_mangle]
+pub extern "C" fn compared_strip_level_suffix(name: &[u8], out: &mut [u8]) -> usize {
+    copy(table::strip_level_suffix(name), out)
+}
+
+// The attribute's position: lemma, gloss, href, loc, link-href, id, who; 7 for none.
+#[no_mangle]
+pub extern "C" fn compared_default_attribute(name: &[u8]) -> u8 {
+    match table::default_attribute(name) {
+        DefaultAttribute::Lemma => 0,
+        DefaultAttribute::Gloss => 1,
+        DefaultAttribute::Href => 2,
+        DefaultAttribute::Loc => 3,
+        DefaultAttribute::LinkHref => 4,
+        DefaultAttribute::Id => 5,
+        DefaultAttribute::Who => 6,
+        DefaultAttribute::NoDefault => 7,
+    }
+}
+
+// The book's place, or 256.
+#[no_mangle]
+pub extern "C" fn compared_book(code: &[u8]) -> u16 {
+    match BookId::from_code(code) {
+        Book::Known(b) => b.0 as u16,
+        Book::Unknown => 256,
+    }
+}
+
+#[no_mangle]
+pub extern "C" fn compared_is_front_matter_code(code: &[u8]) -> bool {
+    table::is_front_matter_code(code)
+}
+
+#[no_mangle]
+pub extern "C" fn compared_is_note_only_marker(name: &[u8]) -> bool {
+    table::is_note_only_marker(name)
 }

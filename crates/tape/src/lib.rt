@@ -114,7 +114,7 @@ pub fn link_at(tape: &[u8], i: usize) -> u32
     read_word(tape, 16 * i + 12)
 }
 
-fn is_close(kind: u8) -> bool
+pub fn is_close(kind: u8) -> bool
     ensures { λ r. ⌜ r ≡ isClose kind ⌝ }
 {
     if kind == 2 { true } else { kind == 7 }

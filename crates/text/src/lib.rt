@@ -31,7 +31,8 @@ pub enum Parsed {
     NotANumber,
 }
 
-fn holds(b: u8, lo: u8, hi: u8) -> bool
+// Whether a byte lies between two others, both included.
+pub fn holds(b: u8, lo: u8, hi: u8) -> bool
     ensures { λ r. ⌜ r ≡ within lo hi b ⌝ }
 {
     if lo <= b { b <= hi } else { false }

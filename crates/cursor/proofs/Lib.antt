@@ -1,0 +1,3 @@
+pub mod Around
+pub mod Named
+pub mod Entry

@@ -1,0 +1,21 @@
+-- What the functions of the crate ask for, and what the inner ones promise.
+use Prim.Native.Nat.{ℕ, _+_, _<_, _≤_}
+use mathlib.Core.Path.{_≡_}
+use mathlib.Core.List.{List}
+use lib.ListN.{length}
+use Rattle.tape.specs.Nodes.{count, startAt, lenAt}
+
+-- a node of the tape whose span lies in the source; of an accepted tape, every node but the root
+pub record Spanned (s t : List ℕ) (i : ℕ) : Type 0 where
+  pub inside : i < count t
+  pub fits : startAt t i + lenAt t i ≤ length s
+
+-- the place lies n bytes past another, inside the text or at its end
+pub record Ended (s : List ℕ) (from n r : ℕ) : Type 0 where
+  pub is : r ≡ from + n
+  pub inside : r ≤ length s
+
+-- the place, inside the text or at its end
+pub record Reached (s : List ℕ) (place r : ℕ) : Type 0 where
+  pub is : r ≡ place
+  pub inside : r ≤ length s

@@ -1,0 +1,189 @@
+// The cursor: from a node of an accepted tape to its text, its name, its number and the nodes around it.
+use table::Info;
+use table::MarkerId;
+ghost use mathlib.Core.Path.{_≡_};
+ghost use Prim.Native.Nat.{_<_, _≤_};
+ghost use lib.ListN.{length, drop};
+ghost use Rattle.text.specs.Pick.{cut};
+ghost use Rattle.text.specs.Characters.{find};
+ghost use Rattle.tape.specs.Nodes.{count, startAt, lenAt, kindAt, linkAt};
+ghost use Rattle.tape.specs.Nodes as nodes;
+ghost use Rattle.cursor.specs.Names.{pastOne, endsName, nameOf};
+ghost use Rattle.cursor.specs.Steps.{firstChild, nextSibling, numberAt, holdsNodes, placeOf, valueOf};
+ghost use Rattle.table.specs.Entries.{Indexed, infoOf};
+ghost use Rattle.cursor.specs.Info.{hasMarker, infoAt};
+ghost use Rattle.cursor.specs.Inner.{Spanned, Ended, Reached};
+
+// Where a node's text stands in the source.
+pub struct NodeSpan {
+    pub start: u32,
+    pub len: u32,
+}
+
+// A node's number, if there is such a node.
+pub enum Place {
+    At(usize),
+    Nowhere,
+}
+
+// The number of a chapter or a verse.
+pub enum NumberRead {
+    Is(u32),
+    NoNumber,
+}
+
+pub fn span(tape: &[u8], i: usize) -> NodeSpan
+    requires { ⌜ i < count (now tape) ⌝ }
+    ensures { λ r. ⌜ (r .start ≡ startAt (now (tape .entry)) i) × (r .len ≡ lenAt (now (tape .entry)) i) ⌝ }
+{
+    NodeSpan {
+        start: tape::start_at(tape, i),
+        len: tape::len_at(tape, i),
+    }
+}
+
+// The text of a node: a part of the source.
+pub fn text<'a, 'b>(source: &'a [u8], tape: &'b [u8], i: usize) -> &'a [u8]
+    requires { ⌜ Spanned (now source) (now tape) i ⌝ }
+    ensures { λ r. ⌜ now r ≡ cut (nodes.span (now (tape .entry)) i) (now (source .entry)) ⌝ }
+{
+    let a = tape::start_at(tape, i) as usize;
+    let e = a + tape::len_at(tape, i) as usize;
+    &source[a..e]
+}
+
+fn past_one(s: &[u8], i: usize, b: u8) -> usize
+    requires { ⌜ i ≤ length (now s) ⌝ }
+    ensures { λ r. ⌜ Reached (now (s .entry)) (pastOne b (now (s .entry)) i) r ⌝ }
+{
+    if s.len() <= i {
+        return i;
+    }
+    if s[i] == b { i + 1 } else { i }
+}
+
+fn ends_name(cp: u32) -> bool
+    ensures { λ r. ⌜ r ≡ endsName cp ⌝ }
+{
+    if text::is_blank(cp) {
+        return true;
+    }
+    if cp == 0x2A {
+        return true;
+    }
+    if cp == 0x7C { true } else { cp == 0x5C }
+}
+
+// The place of the first character from a place on that ends a name, or the length.
+fn name_end(s: &[u8], from: usize) -> usize
+    requires { ⌜ from ≤ length (now s) ⌝ }
+    ensures { λ r. ⌜ Ended (now (s .entry)) from (find endsName (drop from (now (s .entry)))) r ⌝ }
+{
+    let mut i = from;
+    while i < s.len() {
+        let d = text::decode_at(s, i);
+        if ends_name(d.cp) {
+            return i;
+        }
+        i += d.width;
+    }
+    i
+}
+
+// The name that a node's text begins with: a part of it.
+pub fn name_of(s: &[u8]) -> &[u8]
+    ensures { λ r. ⌜ now r ≡ nameOf (now (s .entry)) ⌝ }
+{
+    let a = past_one(s, 0, 0x5C);
+    let b = past_one(s, a, 0x2B);
+    let e = name_end(s, b);
+    &s[b..e]
+}
+
+// The marker's name as written: a part of the source.
+pub fn marker_name<'a, 'b>(source: &'a [u8], tape: &'b [u8], i: usize) -> &'a [u8]
+    requires { ⌜ Spanned (now source) (now tape) i ⌝ }
+    ensures { λ r. ⌜ now r ≡ nameOf (cut (nodes.span (now (tape .entry)) i) (now (source .entry))) ⌝ }
+{
+    name_of(text(source, tape, i))
+}
+
+fn holds_nodes(kind: u8) -> bool
+    ensures { λ r. ⌜ r ≡ holdsNodes kind ⌝ }
+{
+    if kind == 0 { true } else { kind == 1 }
+}
+
+pub fn first_child(tape: &[u8], i: usize) -> Place
+    requires { ⌜ i < count (now tape) ⌝ }
+    ensures { λ r. ⌜ placeOf r ≡ firstChild (now (tape .entry)) i ⌝ }
+{
+    if !holds_nodes(tape::kind_at(tape, i)) {
+        return Place::Nowhere;
+    }
+    if i + 1 < tape::link_at(tape, i) as usize {
+        Place::At(i + 1)
+    } else {
+        Place::Nowhere
+    }
+}
+
+fn past_node(tape: &[u8], i: usize) -> usize
+    requires { ⌜ i < count (now tape) ⌝ }
+    ensures { λ r. ⌜ r ≡ Rattle.cursor.specs.Steps.pastNode (now (tape .entry)) i ⌝ }
+{
+    if holds_nodes(tape::kind_at(tape, i)) {
+        tape::link_at(tape, i) as usize + 1
+    } else {
+        i + 1
+    }
+}
+
+pub fn next_sibling(tape: &[u8], i: usize) -> Place
+    requires { ⌜ i < count (now tape) ⌝ }
+    ensures { λ r. ⌜ placeOf r ≡ nextSibling (now (tape .entry)) i ⌝ }
+{
+    let next = past_node(tape, i);
+    if tape.len() / 16 <= next {
+        return Place::Nowhere;
+    }
+    if tape::is_close(tape::kind_at(tape, next)) {
+        Place::Nowhere
+    } else {
+        Place::At(next)
+    }
+}
+
+pub fn number(tape: &[u8], i: usize) -> NumberRead
+    requires { ⌜ i < count (now tape) ⌝ }
+    ensures { λ r. ⌜ valueOf r ≡ numberAt (now (tape .entry)) i ⌝ }
+{
+    let kind = tape::kind_at(tape, i);
+    if kind == 3 {
+        return NumberRead::Is(tape::link_at(tape, i));
+    }
+    if kind == 4 {
+        return NumberRead::Is(tape::link_at(tape, i));
+    }
+    NumberRead::NoNumber
+}
+
+fn has_marker(kind: u8) -> bool
+    ensures { λ r. ⌜ r ≡ hasMarker kind ⌝ }
+{
+    if kind < 1 {
+        return false;
+    }
+    if kind <= 4 { true } else { kind == 7 }
+}
+
+// The table entry of a node that bears a marker.
+pub fn marker_info(table: &[u8], words: &[u64], count: usize, tape: &[u8], i: usize) -> Info
+    requires { ⌜ (Indexed (now table) (now words) count) × (i < nodes.count (now tape)) ⌝ }
+    ensures { λ r. ⌜ infoOf r ≡ infoAt (now (table .entry)) (now (tape .entry)) i ⌝ }
+{
+    if !has_marker(tape::kind_at(tape, i)) {
+        return Info::Missing;
+    }
+    MarkerId::info(table, words, count, MarkerId(tape::marker_at(tape, i)))
+}

@@ -1,0 +1,10 @@
+pub mod Words
+pub mod Suffix
+pub mod Positions
+pub mod Parts
+pub mod Finding
+pub mod Unpack
+pub mod Values
+pub mod Steps
+pub mod Filling
+pub mod NumberOne

@@ -1,0 +1,157 @@
+-- Equal lists of bytes, and the first word of a list that equals another.
+-- Assumes nothing.
+use mathlib.Core.Path.{_≡_, refl, sym, ap, _∙_}
+use mathlib.Core.Bool.{Bool, true, false, false≢true}
+use mathlib.Core.List.{List, [], _∷_}
+use mathlib.Core.Option.{some, none}
+use Prim.Native.Nat.{ℕ, suc, _+_, _-_, _*_, _/_, _<_, _≤_}
+use native.Mathlib.Numerals.{add-one}
+use native.Mathlib.Omega.{arith}
+use lib.Dec.{eqb}
+use lib.ListN.{length, getD, take, drop, length-take, length-drop, drop-of-length-le}
+use lib.Seq.{drop-drop}
+use borrow.Author.Tests.{eq-eqb, ne-eqb, eqb-true}
+use Rattle.text.specs.Pick.{both, either, pickNat, pickOption}
+use Rattle.text.proofs.Rows.{both-left, both-right, place}
+use Rattle.table.specs.Bytes.{equal, all, oneOf, starting, beyond}
+use Rattle.table.specs.Entries.{position}
+use Rattle.table.specs.Names.{noteOnly}
+use Rattle.table.specs.Books.{codeFrom}
+use Rattle.table.specs.Inner.{triples, known}
+
+pub equal-true : (a b : List ℕ) → equal a b ≡ true → a ≡ b
+unfolding equal
+equal-true [] [] e = refl
+equal-true [] (y ∷ b) e = absurd (false≢true e)
+equal-true (x ∷ a) [] e = absurd (false≢true e)
+equal-true (x ∷ a) (y ∷ b) e =
+    let first : x ≡ y = eqb-true x y (both-left (eqb x y) (equal a b) e) in
+    let rest : a ≡ b = equal-true a b (both-right (eqb x y) (equal a b) e) in
+    cc
+
+pub equal-apart : (a b : List ℕ) → (length a ≡ length b → ⊥) → equal a b ≡ false
+equal-apart a b h = go (equal a b) refl
+  where
+    go : (t : Bool) → equal a b ≡ t → t ≡ false
+    go true e = absurd (h (ap length (equal-true a b e)))
+    go false e = refl
+
+pub starts-short : (key s : List ℕ) → length s < length key → false ≡ starting key s
+starts-short key s h = sym (equal-apart key (take (length key) s) (λ e. omega (arith, e, length-take (length key) s)))
+
+pub starts-long : (key s : List ℕ) → starting key s ≡ true → length s ≡ length key + length (beyond key s)
+starts-long key s e = omega (arith, ap length (equal-true key (take (length key) s) e), length-take (length key) s, length-drop (length key) s)
+
+-- past an equal byte, at one that differs, and at the end
+module _ (a b : List ℕ) (i : ℕ) where
+  pub equal-past : i < length a → i < length b → getD a i 0 ≡ getD b i 0 → equal (drop i a) (drop i b) ≡ equal (drop (i + 1) a) (drop (i + 1) b)
+  unfolding equal
+  equal-past h k e = rw (place a i h, place b i k, eq-eqb _ _ e)
+
+  pub equal-stops : i < length a → i < length b → (getD a i 0 ≡ getD b i 0 → ⊥) → equal (drop i a) (drop i b) ≡ false
+  unfolding equal
+  equal-stops h k e = rw (place a i h, place b i k, ne-eqb _ _ e)
+
+  pub equal-ends : length a ≤ i → length b ≤ i → equal (drop i a) (drop i b) ≡ true
+  unfolding equal
+  equal-ends h k = rw (drop-of-length-le a h, drop-of-length-le b k)
+
+-- the same of a test of every byte
+module _ (p : ℕ → Bool) (s : List ℕ) (i : ℕ) where
+  pub all-past : i < length s → p (getD s i 0) ≡ true → all p (drop i s) ≡ all p (drop (i + 1) s)
+  unfolding all
+  all-past h e = rw (place s i h, e)
+
+  pub all-stops : i < length s → p (getD s i 0) ≡ false → all p (drop i s) ≡ false
+  unfolding all
+  all-stops h e = rw (place s i h, e)
+
+  pub all-ends : length s ≤ i → all p (drop i s) ≡ true
+  unfolding all
+  all-ends h = rw (drop-of-length-le s h)
+
+-- the first word that equals the list, and the words before it
+module _ (k : ℕ) (s : List ℕ) where
+  pub code-hit : (w : List ℕ) (ws l : List (List ℕ)) → l ≡ w ∷ ws → equal w s ≡ true → codeFrom k l s ≡ some k
+  unfolding codeFrom
+  code-hit w ws l f e = rw (f, e)
+
+  pub code-miss : (w : List ℕ) (ws l : List (List ℕ)) → l ≡ w ∷ ws → equal w s ≡ false → codeFrom k l s ≡ codeFrom (k + 1) ws s
+  unfolding codeFrom
+  code-miss w ws l f e = rw (f, e, add-one)
+
+  pub code-none : (l : List (List ℕ)) → l ≡ [] → codeFrom k l s ≡ none
+  unfolding codeFrom
+  code-none l f = rw f
+
+pub one-of : (ws : List (List ℕ)) (s : List ℕ) (k : ℕ) → oneOf ws s ≡ known (codeFrom k ws s)
+unfolding oneOf codeFrom
+one-of [] s k = refl
+one-of (w ∷ ws) s k = go (equal w s) (one-of ws s (suc k))
+  where
+    go : (t : Bool) → oneOf ws s ≡ known (codeFrom (suc k) ws s) → either t (oneOf ws s) ≡ known (pickOption t (some k) (codeFrom (suc k) ws s))
+    go true e = refl
+    go false e = e
+
+-- what a test says of every word, it says of each list that is one of them
+unfoldable pub every : (List ℕ → Bool) → List (List ℕ) → Bool
+every p [] = true
+every p (w ∷ ws) = both (p w) (every p ws)
+
+pub one-passes : (p : List ℕ → Bool) (ws : List (List ℕ)) (s : List ℕ) → every p ws ≡ true → oneOf ws s ≡ true → p s ≡ true
+unfolding every oneOf
+one-passes p [] s h e = absurd (false≢true e)
+one-passes p (w ∷ ws) s h e = go (equal w s) refl e (one-passes p ws s (both-right (p w) (every p ws) h))
+  where
+    go : (t : Bool) → equal w s ≡ t → either t (oneOf ws s) ≡ true → (oneOf ws s ≡ true → p s ≡ true) → p s ≡ true
+    go true f g ih = rw (equal-true w s f) at (both-left (p w) (every p ws) h)
+    go false f g ih = ih g
+
+-- the names that stand in notes alone begin with f or x
+pub not-noted : (s : List ℕ) → (getD s 0 0 ≡ 102 → ⊥) → (getD s 0 0 ≡ 120 → ⊥) → false ≡ oneOf noteOnly s
+unfolding every noteOnly
+not-noted s h k = go (oneOf noteOnly s) refl
+  where
+    go : (t : Bool) → oneOf noteOnly s ≡ t → false ≡ t
+    go true e = sym (rw (ne-eqb (getD s 0 0) 102 h, ne-eqb (getD s 0 0) 120 k)) ∙ one-passes (λ (w : List ℕ). either (eqb (getD w 0 0) 102) (eqb (getD w 0 0) 120)) noteOnly s refl e
+    go false e = refl
+
+-- where a word is found
+pub record At (ws : List (List ℕ)) (s : List ℕ) (k p : ℕ) : Type 0 where
+  pub is : p ≡ k + position ws s
+  pub inside : p < k + length ws
+  pub there : oneOf ws s ≡ true
+
+pub found : (ws : List (List ℕ)) (s : List ℕ) (k p : ℕ) → codeFrom k ws s ≡ some p → At ws s k p
+unfolding oneOf codeFrom position
+found [] s k p e = let z : _≡_ {A = ℕ} 0 1 = cc in absurd (omega arith)
+found (w ∷ ws) s k p e = let g = go (equal w s) e (found ws s (suc k) p) in record { is = g .0; inside = g .1; there = g .2 }
+  where
+    go : (t : Bool) → pickOption t (some k) (codeFrom (suc k) ws s) ≡ some p → (codeFrom (suc k) ws s ≡ some p → At ws s (suc k) p) →
+        (p ≡ k + pickNat t 0 (suc (position ws s))) × (p < k + suc (length ws)) × (either t (oneOf ws s) ≡ true)
+    go true e ih = let z : k ≡ p = cc in (omega arith, omega arith, refl)
+    go false e ih = let a = ih e in (omega arith, omega arith, a .there)
+
+-- a list of codes of three bytes, at code number k
+pub code-at : (l : List ℕ) (k : ℕ) → k < length l / 3 → triples (drop (3 * k) l) ≡ take (3 * k + 3 - 3 * k) (drop (3 * k) l) ∷ triples (drop (3 * (k + 1)) l)
+unfolding triples
+code-at l k h =
+    let n : 3 * k + 3 - 3 * k ≡ 3 = omega arith in
+    let e : 3 * (k + 1) ≡ 3 * k + 3 = omega arith in
+    rw (n, e, ← drop-drop 3 (3 * k) l) (go (drop (3 * k) l) (omega (arith, length-drop (3 * k) l)))
+  where
+    go : (m : List ℕ) → 3 ≤ length m → triples m ≡ take 3 m ∷ triples (drop 3 m)
+    go [] g = absurd (omega arith)
+    go (a ∷ []) g = absurd (omega arith)
+    go (a ∷ b ∷ []) g = absurd (omega arith)
+    go (a ∷ b ∷ c ∷ m) g = refl
+
+pub code-end : (l : List ℕ) (k : ℕ) → length l / 3 ≤ k → triples (drop (3 * k) l) ≡ []
+unfolding triples
+code-end l k h = go (drop (3 * k) l) (omega (arith, length-drop (3 * k) l))
+  where
+    go : (m : List ℕ) → length m < 3 → triples m ≡ []
+    go [] g = refl
+    go (a ∷ []) g = refl
+    go (a ∷ b ∷ []) g = refl
+    go (a ∷ b ∷ c ∷ m) g = absurd (omega arith)

@@ -1,0 +1,108 @@
+-- The entries of a table: "marker k is the k-th from 0".
+use Prim.Native.Nat.{ℕ, zero, suc, _+_, _-_, _*_, _<_, _≤_}
+use mathlib.Core.Path.{_≡_}
+use mathlib.Core.Bool.{Bool, true, false}
+use mathlib.Core.List.{List, [], _∷_}
+use mathlib.Core.Option.{Option, some, none}
+use lib.ListN.{length, getD}
+use Rattle.text.specs.Pick.{Part, pickNat}
+use Rattle.table.specs.Bytes.{equal, beyond}
+use Rattle.table.specs.Lines.{Line, lines, categories, roles, categoryKey, roleKey}
+use Rattle.table.specs.declared.Category.{Category}
+use Rattle.table.specs.declared.Category.the-variants.{Identification, Chapter, Verse, Paragraph, Character, Note, Milestone, Other}
+use Rattle.table.specs.declared.TextRole.{TextRole}
+use Rattle.table.specs.declared.TextRole.the-variants.{Content, Excluded, Boundary}
+use Rattle.table.specs.declared.Info.{Info}
+use Rattle.table.specs.declared.Info.the-variants as info
+use Rattle.table.specs.declared.MarkerInfo.{MarkerInfo}
+use Rattle.table.specs.declared.Layout.{Layout}
+use Rattle.table.specs.declared.Layout.the-variants as layout
+
+-- how many words stand before the first that equals the list
+unfoldable pub position : List (List ℕ) → List ℕ → ℕ
+position [] s = 0
+position (w ∷ ws) s = pickNat (equal w s) 0 (suc (position ws s))
+
+-- an entry: where its name stands in the table, and the positions of its category and its role in the lists of document 01
+pub record Entry : Type 0 where
+  pub name : Part
+  pub category : ℕ
+  pub role : ℕ
+
+abbrev pub entryOf : Line → Line → Line → Entry
+entryOf a b c =
+    record {
+      name = record { start = a .at + 5; len = length (a .body) - 5 };
+      category = position categories (beyond categoryKey (b .body));
+      role = position roles (beyond roleKey (c .body));
+    }
+
+unfoldable pub entriesOf : List Line → List Entry
+entriesOf [] = []
+entriesOf (a ∷ []) = []
+entriesOf (a ∷ b ∷ []) = []
+entriesOf (a ∷ b ∷ c ∷ ls) = entryOf a b c ∷ entriesOf ls
+
+unfoldable pub entries : List ℕ → List Entry
+entries t = entriesOf (lines 0 t)
+
+-- the k-th of a list, or none
+unfoldable pub nth : List Entry → ℕ → Option Entry
+nth [] k = none
+nth (e ∷ es) zero = some e
+nth (e ∷ es) (suc k) = nth es k
+
+-- the positions that the enums stand for
+abbrev pub categoryOf : Category → ℕ
+categoryOf Identification = 0
+categoryOf Chapter = 1
+categoryOf Verse = 2
+categoryOf Paragraph = 3
+categoryOf Character = 4
+categoryOf Note = 5
+categoryOf Milestone = 6
+categoryOf Other = 7
+
+abbrev pub roleOf : TextRole → ℕ
+roleOf Content = 0
+roleOf Excluded = 1
+roleOf Boundary = 2
+
+abbrev pub entryOfInfo : MarkerInfo → Entry
+entryOfInfo m = record { name = record { start = m .«name_start»; len = m .«name_len» }; category = categoryOf (m .category); role = roleOf (m .«text_role») }
+
+-- what `info` says: an entry, or that the number is past the table
+abbrev pub infoOf : Info → Option Entry
+infoOf (info.Known m) = some (entryOfInfo m)
+infoOf info.Missing = none
+
+-- one word holds an entry
+abbrev pub pack : Entry → ℕ
+pack e = e .name .start + 65536 * (e .name .len + 32 * (e .category + 8 * e .role))
+
+-- the bounds of an entry of a table that has no bad line
+pub record Sound (t : List ℕ) (e : Entry) : Type 0 where
+  pub inside : e .name .start + e .name .len ≤ length t
+  pub start-low : e .name .start < 65536
+  pub named : 1 ≤ e .name .len
+  pub short : e .name .len ≤ 16
+  pub category-low : e .category < 8
+  pub role-low : e .role < 3
+
+-- the first n words of the index are the table's entries, in order, and there are no others
+pub record Indexed (t ix : List ℕ) (n : ℕ) : Type 0 where
+  pub count : n ≡ length (entries t)
+  pub few : n ≤ 512
+  pub room : n ≤ length ix
+  pub each : (k : ℕ) (e : Entry) → nth (entries t) k ≡ some e → getD ix k 0 ≡ pack e
+  pub sound : (k : ℕ) (e : Entry) → nth (entries t) k ≡ some e → Sound t e
+
+-- what the check of the layout says: number 1's place, or none
+abbrev pub placeOf : Layout → Option ℕ
+placeOf (layout.Good n) = none
+placeOf (layout.Bad at) = some at
+
+-- what it leaves in the index where there is none
+abbrev pub leaves : List ℕ → List ℕ → Layout → Type 0
+leaves t ix (layout.Good n) = Indexed t ix n
+leaves t ix (layout.Bad at) = Unit {0}

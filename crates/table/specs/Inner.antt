@@ -1,0 +1,151 @@
+-- What the functions inside the crate promise.
+use Prim.Native.Nat.{ℕ, zero, suc, _+_, _*_, _%_, _<_, _≤_}
+use mathlib.Core.Path.{_≡_}
+use mathlib.Core.Bool.{Bool, true, false}
+use mathlib.Core.List.{List, [], _∷_, _++_}
+use mathlib.Core.Logic.{_⊎_}
+use mathlib.Core.Option.{Option, some, none}
+use lib.Dec.{eqb, ltb}
+use lib.ListN.{length, take, drop}
+use Rattle.text.specs.Pick.{both, pickOption}
+use Rattle.text.specs.Characters.{findByte}
+use Rattle.table.specs.Bytes.{starting, beyond}
+use Rattle.table.specs.Lines.{Line, lines, goodLine, nameKey, categoryKey, roleKey, categories, roles, goodName, badFrom}
+use Rattle.table.specs.Entries.{Entry, entriesOf, pack, Sound}
+use Rattle.table.specs.declared.Value.{Value}
+use Rattle.table.specs.declared.Value.the-variants as value
+use Rattle.table.specs.declared.Step.{Step}
+use Rattle.table.specs.declared.Step.the-variants as step
+use Rattle.table.specs.declared.Marker.{Marker}
+use Rattle.table.specs.declared.Marker.the-variants as marker
+use Rattle.table.specs.declared.DefaultAttribute.{DefaultAttribute}
+use Rattle.table.specs.declared.DefaultAttribute.the-variants.{Lemma, Gloss, Href, Loc, LinkHref, Id, Who, NoDefault}
+use Rattle.table.specs.declared.Category.{Category}
+use Rattle.table.specs.declared.Category.the-variants.{Identification, Chapter, Verse, Paragraph, Character, Note, Milestone, Other}
+use Rattle.table.specs.declared.TextRole.{TextRole}
+use Rattle.table.specs.declared.TextRole.the-variants.{Content, Excluded, Boundary}
+use Rattle.table.specs.Names.{strippedLength, glued, named, pickDefault}
+use Rattle.table.specs.Books.{codeFrom}
+
+-- the words of a list in which byte 10 ends each
+abbrev pub onWord : Bool → ℕ → List (List ℕ) → List (List ℕ)
+onWord true b ws = [] ∷ ws
+onWord false b [] = (b ∷ []) ∷ []
+onWord false b (w ∷ ws) = (b ∷ w) ∷ ws
+
+unfoldable pub wordsOf : List ℕ → List (List ℕ)
+wordsOf [] = []
+wordsOf (b ∷ s) = onWord (eqb b 10) b (wordsOf s)
+
+-- the codes of a list in which each has three bytes
+unfoldable pub triples : List ℕ → List (List ℕ)
+triples [] = []
+triples (a ∷ []) = []
+triples (a ∷ b ∷ []) = []
+triples (a ∷ b ∷ c ∷ l) = (a ∷ b ∷ c ∷ []) ∷ triples l
+
+-- what a good line says behind its key: the name's length, or the position of the word among the words
+abbrev pub nameValue : List ℕ → Option ℕ
+nameValue s = pickOption (goodName s) (some (length (beyond nameKey s))) none
+
+abbrev pub wordValue : List ℕ → List (List ℕ) → List ℕ → Option ℕ
+wordValue key ws s = pickOption (starting key s) (codeFrom 0 ws (beyond key s)) none
+
+abbrev pub lineValue : ℕ → List ℕ → Option ℕ
+lineValue zero s = nameValue s
+lineValue (suc zero) s = wordValue categoryKey categories s
+lineValue (suc (suc j)) s = wordValue roleKey roles s
+
+abbrev pub known : Option ℕ → Bool
+known (some n) = true
+known none = false
+
+abbrev pub valueOf : Value → Option ℕ
+valueOf (value.Known n) = some n
+valueOf value.Unknown = none
+
+-- the line at the head of a text: its value and the place past it, if byte 10 ends it and it is good
+abbrev pub stepBy : Bool → Option ℕ → ℕ → Step
+stepBy true (some v) next = step.Good v next
+stepBy true none next = step.Bad
+stepBy false o next = step.Bad
+
+unfoldable pub stepOf : ℕ → ℕ → List ℕ → Step
+stepOf j at l = stepBy (ltb (findByte (eqb 10) l) (length l)) (lineValue j (take (findByte (eqb 10) l) l)) (at + findByte (eqb 10) l + 1)
+
+-- the three lines of marker number m at a place: they are good, and what follows them gives what is left
+pub record Passed (t : List ℕ) (at : ℕ) (w next : ℕ) : Type 0 where
+  pub entry : Entry
+  pub word : w ≡ pack entry
+  pub sound : Sound t entry
+  pub inside : next ≤ length t
+  pub on : at < next
+  pub near : next ≤ at + 64
+  pub good : (m : ℕ) → m < 512 → badFrom (length t) (3 * m) (lines at (drop at t)) ≡ badFrom (length t) (3 * (m + 1)) (lines next (drop next t))
+  pub first : entriesOf (lines at (drop at t)) ≡ entry ∷ entriesOf (lines next (drop next t))
+
+abbrev pub Marked : List ℕ → ℕ → Marker → Type 0
+Marked t at (marker.Good w next) = Passed t at w next
+Marked t at (marker.Bad p) = (m : ℕ) → m < 512 → badFrom (length t) (3 * m) (lines at (drop at t)) ≡ some p
+
+-- the attribute of w, wa, wg, wh, rb, xt, ref, jmp, periph, by the name's position
+abbrev pub attributeAt : ℕ → DefaultAttribute
+attributeAt zero = Lemma
+attributeAt (suc zero) = Lemma
+attributeAt (suc (suc zero)) = Lemma
+attributeAt (suc (suc (suc zero))) = Lemma
+attributeAt (suc (suc (suc (suc zero)))) = Gloss
+attributeAt (suc (suc (suc (suc (suc zero))))) = Href
+attributeAt (suc (suc (suc (suc (suc (suc zero)))))) = Loc
+attributeAt (suc (suc (suc (suc (suc (suc (suc zero))))))) = LinkHref
+attributeAt (suc (suc (suc (suc (suc (suc (suc (suc k)))))))) = Id
+
+abbrev pub attributeBy : Option ℕ → Bool → DefaultAttribute
+attributeBy (some p) q = attributeAt p
+attributeBy none q = pickDefault q Who NoDefault
+
+-- the category and the role at a position of their lists
+abbrev pub categoryAt : ℕ → Category
+categoryAt zero = Identification
+categoryAt (suc zero) = Chapter
+categoryAt (suc (suc zero)) = Verse
+categoryAt (suc (suc (suc zero))) = Paragraph
+categoryAt (suc (suc (suc (suc zero)))) = Character
+categoryAt (suc (suc (suc (suc (suc zero))))) = Note
+categoryAt (suc (suc (suc (suc (suc (suc zero)))))) = Milestone
+categoryAt (suc (suc (suc (suc (suc (suc (suc k))))))) = Other
+
+abbrev pub roleAt : ℕ → TextRole
+roleAt zero = Content
+roleAt (suc zero) = Excluded
+roleAt (suc (suc k)) = Boundary
+
+-- the second and the third way to look a name up
+abbrev pub stripped : List ℕ → List ℕ → Option ℕ
+stripped t s = pickOption (ltb (strippedLength s) (length s)) (named t (take (strippedLength s) s)) none
+
+abbrev pub unglued : List ℕ → List ℕ → Option ℕ
+unglued t s = pickOption (glued s) (named t (take 1 s)) none
+
+-- number 1's place: the first byte of the first bad line
+unfoldable pub goodFrom : ℕ → List Line → Bool
+goodFrom k [] = true
+goodFrom k (l ∷ ls) = both (goodLine k l) (goodFrom (suc k) ls)
+
+pub record BadLine (t : List ℕ) (p : ℕ) : Type 0 where
+  pub before : List Line
+  pub line : Line
+  pub after : List Line
+  pub all : lines 0 t ≡ before ++ (line ∷ after)
+  pub good : goodFrom 0 before ≡ true
+  pub bad : goodLine (length before) line ≡ false
+  pub place : line .at ≡ p
+
+-- or the text's length, where no line is bad and a triple is unfinished
+pub record Unfinished (t : List ℕ) (p : ℕ) : Type 0 where
+  pub good : goodFrom 0 (lines 0 t) ≡ true
+  pub unfinished : length (lines 0 t) % 3 ≡ 0 → ⊥
+  pub place : length t ≡ p
+
+abbrev pub NumberOne : List ℕ → ℕ → Type 0
+NumberOne t p = BadLine t p ⊎ Unfinished t p

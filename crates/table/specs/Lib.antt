@@ -1,0 +1,6 @@
+pub mod Bytes
+pub mod Lines
+pub mod Entries
+pub mod Names
+pub mod Books
+pub mod Inner

@@ -1,0 +1,138 @@
+-- `lookup`, `strip_level_suffix`, `default_attribute`, and the names that some checks ask for.
+-- Document 01, module 3: "`lookup`: exact name; else without `strip_level_suffix`; else `v` or `c` before a digit. First equal name counts."
+use Prim.Native.Nat.{ℕ, zero, suc, _+_, _-_}
+use mathlib.Core.Bool.{Bool, true, false, not}
+use mathlib.Core.List.{List, [], _∷_}
+use mathlib.Core.Option.{Option, some, none}
+use lib.Dec.{eqb, ltb}
+use lib.ListN.{length, getD, take}
+use Rattle.text.specs.Pick.{both, either, pickNat, pickOption, cut}
+use Rattle.text.specs.Number.{digit}
+use Rattle.table.specs.Bytes.{equal, oneOf, starting}
+use Rattle.table.specs.Entries.{Entry, entries}
+use Rattle.table.specs.declared.Lookup.{Lookup}
+use Rattle.table.specs.declared.Lookup.the-variants as lookup
+use Rattle.table.specs.declared.DefaultAttribute.{DefaultAttribute}
+use Rattle.table.specs.declared.DefaultAttribute.the-variants.{Lemma, Gloss, Href, Loc, LinkHref, Id, Who, NoDefault}
+
+-- the number of the first entry that has the name, counted from k
+unfoldable pub namedFrom : List ℕ → ℕ → List Entry → List ℕ → Option ℕ
+namedFrom t k [] s = none
+namedFrom t k (e ∷ es) s = pickOption (equal (cut (e .name) t) s) (some k) (namedFrom t (suc k) es s)
+
+abbrev pub named : List ℕ → List ℕ → Option ℕ
+named t s = namedFrom t 0 (entries t) s
+
+-- of a byte, and how many bytes are left of what follows it when the digits at its end are taken off
+abbrev pub keepBefore : Bool → ℕ → ℕ
+keepBefore isDigit zero = pickNat isDigit 0 1
+keepBefore isDigit (suc k) = suc (suc k)
+
+-- how many bytes are left of the list when the digits at its end are taken off
+unfoldable pub undigited : List ℕ → ℕ
+undigited [] = 0
+undigited (b ∷ s) = keepBefore (digit b) (undigited s)
+
+-- the length without a tail of a hyphen and digits: "Optional `-<digits>` (column-span tail)"
+abbrev pub tailOff : List ℕ → ℕ
+tailOff s =
+    pickNat (both (ltb (undigited s) (length s)) (both (ltb 0 (undigited s)) (eqb (getD s (undigited s - 1) 0) 45))) (undigited s - 1) (length s)
+
+-- the Rust's `strip_level_suffix`: the length of what is left. "Only treat it as a suffix if a non-empty base remains."
+abbrev pub strippedBy : ℕ → ℕ → ℕ → ℕ
+strippedBy base end whole = pickNat (both (ltb 0 base) (ltb base end)) base whole
+
+unfoldable pub strippedLength : List ℕ → ℕ
+strippedLength s = strippedBy (undigited (take (tailOff s) s)) (tailOff s) (length s)
+
+abbrev pub orElse : Option ℕ → Option ℕ → Option ℕ
+orElse (some n) other = some n
+orElse none other = other
+
+-- `v` or `c`, and a digit after it
+abbrev pub glued : List ℕ → Bool
+glued s = both (ltb 1 (length s)) (both (either (eqb (getD s 0 0) 118) (eqb (getD s 0 0) 99)) (digit (getD s 1 0)))
+
+unfoldable pub lookedUp : List ℕ → List ℕ → Option ℕ
+lookedUp t s =
+    orElse (named t s)
+    (orElse (pickOption (ltb (strippedLength s) (length s)) (named t (take (strippedLength s) s)) none)
+    (pickOption (glued s) (named t (take 1 s)) none))
+
+abbrev pub foundOf : Lookup → Option ℕ
+foundOf (lookup.Found m) = some (m .0)
+foundOf lookup.Unknown = none
+
+-- w, wa, wg, wh
+unfoldable pub lemmaNames : List (List ℕ)
+lemmaNames =
+    (119 ∷ [])
+    ∷ (119 ∷ 97 ∷ [])
+    ∷ (119 ∷ 103 ∷ [])
+    ∷ (119 ∷ 104 ∷ [])
+    ∷ []
+
+abbrev pub rb : List ℕ
+rb = 114 ∷ 98 ∷ []
+
+abbrev pub xt : List ℕ
+xt = 120 ∷ 116 ∷ []
+
+abbrev pub ref : List ℕ
+ref = 114 ∷ 101 ∷ 102 ∷ []
+
+abbrev pub jmp : List ℕ
+jmp = 106 ∷ 109 ∷ 112 ∷ []
+
+abbrev pub periph : List ℕ
+periph = 112 ∷ 101 ∷ 114 ∷ 105 ∷ 112 ∷ 104 ∷ []
+
+abbrev pub qt : List ℕ
+qt = 113 ∷ 116 ∷ []
+
+abbrev pub pickDefault : Bool → DefaultAttribute → DefaultAttribute → DefaultAttribute
+pickDefault true a b = a
+pickDefault false a b = b
+
+-- the Rust's `default_attribute`: the attribute that a marker's bare value sets
+unfoldable pub defaultOf : List ℕ → DefaultAttribute
+defaultOf s =
+    pickDefault (oneOf lemmaNames s) Lemma
+    (pickDefault (equal rb s) Gloss
+    (pickDefault (equal xt s) Href
+    (pickDefault (equal ref s) Loc
+    (pickDefault (equal jmp s) LinkHref
+    (pickDefault (equal periph s) Id
+    (pickDefault (starting qt s) Who NoDefault))))))
+
+-- FRT, INT, BAK, OTH, CNC, GLO, TDX, NDX: the Rust's `is_front_matter_code`
+unfoldable pub frontMatter : List (List ℕ)
+frontMatter =
+    (70 ∷ 82 ∷ 84 ∷ [])
+    ∷ (73 ∷ 78 ∷ 84 ∷ [])
+    ∷ (66 ∷ 65 ∷ 75 ∷ [])
+    ∷ (79 ∷ 84 ∷ 72 ∷ [])
+    ∷ (67 ∷ 78 ∷ 67 ∷ [])
+    ∷ (71 ∷ 76 ∷ 79 ∷ [])
+    ∷ (84 ∷ 68 ∷ 88 ∷ [])
+    ∷ (78 ∷ 68 ∷ 88 ∷ [])
+    ∷ []
+
+-- fr, ft, fk, fq, fqa, fl, fw, fp, fv, fdc, xop, xot, xnt, xdc: the Rust's `is_note_only_marker`
+unfoldable pub noteOnly : List (List ℕ)
+noteOnly =
+    (102 ∷ 114 ∷ [])
+    ∷ (102 ∷ 116 ∷ [])
+    ∷ (102 ∷ 107 ∷ [])
+    ∷ (102 ∷ 113 ∷ [])
+    ∷ (102 ∷ 113 ∷ 97 ∷ [])
+    ∷ (102 ∷ 108 ∷ [])
+    ∷ (102 ∷ 119 ∷ [])
+    ∷ (102 ∷ 112 ∷ [])
+    ∷ (102 ∷ 118 ∷ [])
+    ∷ (102 ∷ 100 ∷ 99 ∷ [])
+    ∷ (120 ∷ 111 ∷ 112 ∷ [])
+    ∷ (120 ∷ 111 ∷ 116 ∷ [])
+    ∷ (120 ∷ 110 ∷ 116 ∷ [])
+    ∷ (120 ∷ 100 ∷ 99 ∷ [])
+    ∷ []

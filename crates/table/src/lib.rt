@@ -1,0 +1,543 @@
+// The marker table: its layout, its entries, and what is looked up in it.
+ghost use mathlib.Core.Path.{_≡_};
+ghost use Prim.Native.Nat.{_+_, _<_, _≤_};
+ghost use lib.ListN.{length, drop, take};
+ghost use Rattle.text.specs.Pick.{within, cut};
+ghost use Rattle.table.specs.Bytes.{equal, all, oneOf, starting};
+ghost use Rattle.table.specs.Lines.{nameByte, badTable};
+ghost use Rattle.table.specs.Entries.{entries, nth, infoOf, entryOfInfo, Indexed, placeOf, leaves};
+ghost use Rattle.table.specs.Names.{undigited, strippedLength, tailOff, named, lookedUp, foundOf, defaultOf, frontMatter, noteOnly, glued};
+ghost use Rattle.table.specs.Books.{codeFrom, bookOf, idOf};
+ghost use Rattle.table.specs.Inner.{wordsOf, triples, known, nameValue, wordValue, lineValue, valueOf, stepOf, Marked, attributeAt, categoryAt, roleAt, stripped, unglued};
+
+// A place in the marker table.
+pub struct MarkerId(pub u16);
+
+// A place in the book list.
+pub struct BookId(pub u8);
+
+pub enum Category {
+    Identification,
+    Chapter,
+    Verse,
+    Paragraph,
+    Character,
+    Note,
+    Milestone,
+    Other,
+}
+
+pub enum TextRole {
+    Content,
+    Excluded,
+    Boundary,
+}
+
+// An entry: where its name stands in the table's text, and its other two lines.
+pub struct MarkerInfo {
+    pub name_start: usize,
+    pub name_len: usize,
+    pub category: Category,
+    pub text_role: TextRole,
+}
+
+// What a marker number stands for.
+pub enum Info {
+    Known(MarkerInfo),
+    Missing,
+}
+
+// What the check of the layout finds: the number of entries, or the place of number 1.
+pub enum Layout {
+    Good(usize),
+    Bad(usize),
+}
+
+pub enum Lookup {
+    Found(MarkerId),
+    Unknown,
+}
+
+pub enum Book {
+    Known(BookId),
+    Unknown,
+}
+
+// The attribute that a marker's bare value sets.
+pub enum DefaultAttribute {
+    Lemma,
+    Gloss,
+    Href,
+    Loc,
+    LinkHref,
+    Id,
+    Who,
+    NoDefault,
+}
+
+// The position of a word in a list, or a name's length, if there is one.
+enum Value {
+    Known(usize),
+    Unknown,
+}
+
+// A good line's value and the place of the next line.
+enum Step {
+    Good(usize, usize),
+    Bad,
+}
+
+// An entry in one word and the place of the next marker, or the place of a bad line.
+enum Marker {
+    Good(u64, usize),
+    Bad(usize),
+}
+
+const BOOK_CODES: [u8; 348] =
+    *b"GENEXOLEVNUMDEUJOSJDGRUT1SA2SA1KI2KI1CH2CHEZRNEHESTJOBPSAPROECCSNGISAJERLAMEZK\
+    DANHOSJOLAMOOBAJONMICNAMHABZEPHAGZECMALMATMRKLUKJHNACTROM1CO2COGALEPHPHPCOL1TH\
+    2TH1TI2TITITPHMHEBJAS1PE2PE1JN2JN3JNJUDREVTOBJDTESGWISSIRBARLJES3YSUSBEL1MA2MA\
+    3MA4MA1ES2ESMANPS2ODAPSSEZA5EZ6EZDAGPS32BALBAJUBENO1MQ2MQ3MQREP4BALAOFRTBAKOTH\
+    INTCNCGLOTDXNDXXXAXXBXXCXXDXXEXXFXXG";
+
+// Whether two lists of bytes are equal.
+pub fn same(a: &[u8], b: &[u8]) -> bool
+    ensures { λ r. ⌜ r ≡ equal (now (a .entry)) (now (b .entry)) ⌝ }
+{
+    if a.len() != b.len() {
+        return false;
+    }
+    let mut i: usize = 0;
+    while i < a.len() {
+        if a[i] != b[i] {
+            return false;
+        }
+        i += 1;
+    }
+    true
+}
+
+fn starts_with(s: &[u8], key: &[u8]) -> bool
+    ensures { λ r. ⌜ r ≡ starting (now (key .entry)) (now (s .entry)) ⌝ }
+{
+    let n = key.len();
+    if s.len() < n {
+        return false;
+    }
+    same(key, &s[..n])
+}
+
+fn is_known(v: Value) -> bool
+    ensures { λ r. ⌜ r ≡ known (valueOf v) ⌝ }
+{
+    match v {
+        Value::Known(k) => true,
+        Value::Unknown => false,
+    }
+}
+
+// The position in a list of codes, each of three bytes.
+fn code_in(codes: &[u8], s: &[u8]) -> Value
+    ensures { λ r. ⌜ valueOf r ≡ codeFrom 0 (triples (now (codes .entry))) (now (s .entry)) ⌝ }
+{
+    let n = codes.len() / 3;
+    let mut k: usize = 0;
+    while k < n {
+        let at = 3 * k;
+        let end = at + 3;
+        if same(&codes[at..end], s) {
+            return Value::Known(k);
+        }
+        k += 1;
+    }
+    Value::Unknown
+}
+
+// The position in a list of words, each ended by byte 10.
+fn word_in(words: &[u8], s: &[u8]) -> Value
+    ensures { λ r. ⌜ valueOf r ≡ codeFrom 0 (wordsOf (now (words .entry))) (now (s .entry)) ⌝ }
+{
+    let mut at: usize = 0;
+    let mut k: usize = 0;
+    while at < words.len() {
+        let rest = &words[at..];
+        let n = text::find_byte(rest, 10);
+        if same(&rest[..n], s) {
+            return Value::Known(k);
+        }
+        at = at + n + 1;
+        k += 1;
+    }
+    Value::Unknown
+}
+
+impl BookId {
+    // The book that a code stands for.
+    pub fn from_code(code: &[u8]) -> Book
+        ensures { λ r. ⌜ idOf r ≡ bookOf (now (code .entry)) ⌝ }
+    {
+        match code_in(&BOOK_CODES, code) {
+            Value::Known(k) => Book::Known(BookId(k as u8)),
+            Value::Unknown => Book::Unknown,
+        }
+    }
+}
+
+pub fn is_front_matter_code(code: &[u8]) -> bool
+    ensures { λ r. ⌜ r ≡ oneOf frontMatter (now (code .entry)) ⌝ }
+{
+    is_known(code_in(b"FRTINTBAKOTHCNCGLOTDXNDX", code))
+}
+
+pub fn is_note_only_marker(name: &[u8]) -> bool
+    ensures { λ r. ⌜ r ≡ oneOf noteOnly (now (name .entry)) ⌝ }
+{
+    if name.len() == 0 {
+        return false;
+    }
+    // All of them begin with one of two letters, and few other names do.
+    let b = name[0];
+    if b != b'f' {
+        if b != b'x' {
+            return false;
+        }
+    }
+    is_known(word_in(
+        b"fr\nft\nfk\nfq\nfqa\nfl\nfw\nfp\nfv\nfdc\nxop\nxot\nxnt\nxdc\n",
+        name,
+    ))
+}
+
+fn attribute(p: usize) -> DefaultAttribute
+    ensures { λ r. ⌜ r ≡ attributeAt p ⌝ }
+{
+    match p {
+        0..=3 => DefaultAttribute::Lemma,
+        4 => DefaultAttribute::Gloss,
+        5 => DefaultAttribute::Href,
+        6 => DefaultAttribute::Loc,
+        7 => DefaultAttribute::LinkHref,
+        _ => DefaultAttribute::Id,
+    }
+}
+
+pub fn default_attribute(name: &[u8]) -> DefaultAttribute
+    ensures { λ r. ⌜ r ≡ defaultOf (now (name .entry)) ⌝ }
+{
+    match word_in(b"w\nwa\nwg\nwh\nrb\nxt\nref\njmp\nperiph\n", name) {
+        Value::Known(p) => attribute(p),
+        Value::Unknown => if starts_with(name, b"qt") {
+            DefaultAttribute::Who
+        } else {
+            DefaultAttribute::NoDefault
+        },
+    }
+}
+
+// How many of the first bytes are left when the digits at their end are taken off.
+fn undigited_len(s: &[u8], end: usize) -> usize
+    requires { ⌜ end ≤ length (now s) ⌝ }
+    ensures { λ r. ⌜ r ≡ undigited (take end (now (s .entry))) ⌝ }
+{
+    let mut i = end;
+    while 0 < i {
+        if !text::holds(s[i - 1], b'0', b'9') {
+            return i;
+        }
+        i -= 1;
+    }
+    0
+}
+
+fn tail_off(s: &[u8]) -> usize
+    ensures { λ r. ⌜ r ≡ tailOff (now (s .entry)) ⌝ }
+{
+    let n = s.len();
+    let i = undigited_len(s, n);
+    if n <= i {
+        return n;
+    }
+    if i == 0 {
+        return n;
+    }
+    if s[i - 1] == b'-' { i - 1 } else { n }
+}
+
+// The name without the level or the columns at its end.
+pub fn strip_level_suffix(name: &[u8]) -> &[u8]
+    ensures { λ r. ⌜ now r ≡ take (strippedLength (now (name .entry))) (now (name .entry)) ⌝ }
+{
+    let end = tail_off(name);
+    let base = undigited_len(name, end);
+    if base == 0 {
+        return name;
+    }
+    if end <= base {
+        return name;
+    }
+    &name[..base]
+}
+
+fn is_name_byte(b: u8) -> bool
+    ensures { λ r. ⌜ r ≡ nameByte b ⌝ }
+{
+    if text::holds(b, b'A', b'Z') {
+        return true;
+    }
+    if text::holds(b, b'a', b'z') {
+        return true;
+    }
+    if text::holds(b, b'0', b'9') {
+        true
+    } else {
+        b == b'-'
+    }
+}
+
+fn name_bytes(s: &[u8]) -> bool
+    ensures { λ r. ⌜ r ≡ all nameByte (now (s .entry)) ⌝ }
+{
+    let mut i: usize = 0;
+    while i < s.len() {
+        if !is_name_byte(s[i]) {
+            return false;
+        }
+        i += 1;
+    }
+    true
+}
+
+fn name_value(line: &[u8]) -> Value
+    ensures { λ r. ⌜ valueOf r ≡ nameValue (now (line .entry)) ⌝ }
+{
+    if !starts_with(line, b"name=") {
+        return Value::Unknown;
+    }
+    let n = line.len() - 5;
+    if n == 0 {
+        return Value::Unknown;
+    }
+    if 16 < n {
+        return Value::Unknown;
+    }
+    if name_bytes(&line[5..]) {
+        Value::Known(n)
+    } else {
+        Value::Unknown
+    }
+}
+
+fn word_value(line: &[u8], key: &[u8], words: &[u8]) -> Value
+    ensures { λ r. ⌜ valueOf r ≡ wordValue (now (key .entry)) (wordsOf (now (words .entry))) (now (line .entry)) ⌝ }
+{
+    if !starts_with(line, key) {
+        return Value::Unknown;
+    }
+    let from = key.len();
+    word_in(words, &line[from..])
+}
+
+// What line number j of a marker says.
+fn line_value(line: &[u8], j: u8) -> Value
+    ensures { λ r. ⌜ valueOf r ≡ lineValue j (now (line .entry)) ⌝ }
+{
+    match j {
+        0 => name_value(line),
+        1 => word_value(
+            line,
+            b"category=",
+            b"identification\nchapter\nverse\nparagraph\ncharacter\nnote\nmilestone\nother\n",
+        ),
+        _ => word_value(line, b"role=", b"content\nexcluded\nboundary\n"),
+    }
+}
+
+fn line_at(table: &[u8], at: usize, j: u8) -> Step
+    requires { ⌜ at ≤ length (now table) ⌝ }
+    ensures { λ r. ⌜ r ≡ stepOf j at (drop at (now (table .entry))) ⌝ }
+{
+    let rest = &table[at..];
+    let n = text::find_byte(rest, 10);
+    if n == rest.len() {
+        return Step::Bad;
+    }
+    match line_value(&rest[..n], j) {
+        Value::Known(v) => Step::Good(v, at + n + 1),
+        Value::Unknown => Step::Bad,
+    }
+}
+
+// A text that ends within a marker has its next line at its end, where no byte 10 follows.
+// The place is low enough that the start of the name takes 16 bits of the word.
+fn marker_at(table: &[u8], at: usize) -> Marker
+    requires { ⌜ (at < length (now table)) × (at < 65000) ⌝ }
+    ensures { λ r. ⌜ Marked (now (table .entry)) at r ⌝ }
+{
+    let Step::Good(len, second) = line_at(table, at, 0) else {
+        return Marker::Bad(at);
+    };
+    let Step::Good(category, third) = line_at(table, second, 1) else {
+        return Marker::Bad(second);
+    };
+    let Step::Good(role, next) = line_at(table, third, 2) else {
+        return Marker::Bad(third);
+    };
+    let start = (at + 5) as u64;
+    Marker::Good(
+        start + 65536 * (len as u64 + 32 * (category as u64 + 8 * role as u64)),
+        next,
+    )
+}
+
+// Checks the layout of a table and writes its entries to the index, a word each.
+pub fn index(table: &[u8], words: &mut [u64]) -> Layout
+    requires { ⌜ 512 ≤ length (now words) ⌝ }
+    ensures place { λ r. ⌜ placeOf r ≡ badTable (now (table .entry)) ⌝ }
+    ensures entries { λ r. ⌜ leaves (now (table .entry)) (now (words .exit)) r ⌝ }
+{
+    let mut at: usize = 0;
+    let mut k: usize = 0;
+    while at < table.len() {
+        if k == 512 {
+            return Layout::Bad(at);
+        }
+        match marker_at(table, at) {
+            Marker::Good(word, next) => {
+                words[k] = word;
+                k += 1;
+                at = next;
+            }
+            Marker::Bad(place) => return Layout::Bad(place),
+        }
+    }
+    Layout::Good(k)
+}
+
+fn category_of(n: u64) -> Category
+    ensures { λ r. ⌜ r ≡ categoryAt n ⌝ }
+{
+    match n {
+        0 => Category::Identification,
+        1 => Category::Chapter,
+        2 => Category::Verse,
+        3 => Category::Paragraph,
+        4 => Category::Character,
+        5 => Category::Note,
+        6 => Category::Milestone,
+        _ => Category::Other,
+    }
+}
+
+fn role_of(n: u64) -> TextRole
+    ensures { λ r. ⌜ r ≡ roleAt n ⌝ }
+{
+    match n {
+        0 => TextRole::Content,
+        1 => TextRole::Excluded,
+        _ => TextRole::Boundary,
+    }
+}
+
+// The name of an entry.
+pub fn name<'a>(table: &'a [u8], m: MarkerInfo) -> &'a [u8]
+    requires { ⌜ m .«name_start» + m .«name_len» ≤ length (now table) ⌝ }
+    ensures { λ r. ⌜ now r ≡ cut (entryOfInfo m .name) (now (table .entry)) ⌝ }
+{
+    let start = m.name_start;
+    let end = start + m.name_len;
+    &table[start..end]
+}
+
+fn find_name(table: &[u8], words: &[u64], count: usize, name: &[u8]) -> Lookup
+    requires { ⌜ Indexed (now table) (now words) count ⌝ }
+    ensures { λ r. ⌜ foundOf r ≡ named (now (table .entry)) (now (name .entry)) ⌝ }
+{
+    let mut k: usize = 0;
+    while k < count {
+        let w = words[k];
+        let start = (w % 65536) as usize;
+        let end = start + (w / 65536 % 32) as usize;
+        if same(&table[start..end], name) {
+            return Lookup::Found(MarkerId(k as u16));
+        }
+        k += 1;
+    }
+    Lookup::Unknown
+}
+
+fn find_stripped(table: &[u8], words: &[u64], count: usize, name: &[u8]) -> Lookup
+    requires { ⌜ Indexed (now table) (now words) count ⌝ }
+    ensures { λ r. ⌜ foundOf r ≡ stripped (now (table .entry)) (now (name .entry)) ⌝ }
+{
+    let base = strip_level_suffix(name);
+    if base.len() < name.len() {
+        find_name(table, words, count, base)
+    } else {
+        Lookup::Unknown
+    }
+}
+
+fn is_glued(s: &[u8]) -> bool
+    ensures { λ r. ⌜ r ≡ glued (now (s .entry)) ⌝ }
+{
+    if s.len() < 2 {
+        return false;
+    }
+    let b = s[0];
+    if b == b'v' {
+        return text::holds(s[1], b'0', b'9');
+    }
+    if b == b'c' {
+        text::holds(s[1], b'0', b'9')
+    } else {
+        false
+    }
+}
+
+fn find_glued(table: &[u8], words: &[u64], count: usize, name: &[u8]) -> Lookup
+    requires { ⌜ Indexed (now table) (now words) count ⌝ }
+    ensures { λ r. ⌜ foundOf r ≡ unglued (now (table .entry)) (now (name .entry)) ⌝ }
+{
+    if is_glued(name) {
+        find_name(table, words, count, &name[..1])
+    } else {
+        Lookup::Unknown
+    }
+}
+
+// Functions of a type, since the names of free functions may not be those of the enums in lower case.
+impl MarkerId {
+    // What a marker number stands for.
+    pub fn info(table: &[u8], words: &[u64], count: usize, id: MarkerId) -> Info
+        requires { ⌜ Indexed (now table) (now words) count ⌝ }
+        ensures { λ r. ⌜ infoOf r ≡ nth (entries (now (table .entry))) (id .0) ⌝ }
+    {
+        let k = id.0 as usize;
+        if count <= k {
+            return Info::Missing;
+        }
+        let w = words[k];
+        let category = category_of(w / 2097152 % 8);
+        let text_role = role_of(w / 16777216);
+        Info::Known(MarkerInfo {
+            name_start: (w % 65536) as usize,
+            name_len: (w / 65536 % 32) as usize,
+            category,
+            text_role,
+        })
+    }
+
+    // The number of the marker that a name stands for.
+    pub fn lookup(table: &[u8], words: &[u64], count: usize, name: &[u8]) -> Lookup
+        requires { ⌜ Indexed (now table) (now words) count ⌝ }
+        ensures { λ r. ⌜ foundOf r ≡ lookedUp (now (table .entry)) (now (name .entry)) ⌝ }
+    {
+        match find_name(table, words, count, name) {
+            Lookup::Found(id) => Lookup::Found(id),
+            Lookup::Unknown => match find_stripped(table, words, count, name) {
+                Lookup::Found(id) => Lookup::Found(id),
+                Lookup::Unknown => find_glued(table, words, count, name),
+            },
+        }
+    }
+}
