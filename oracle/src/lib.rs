@@ -11,6 +11,7 @@ pub use stubs::{Document, Version};
 
 pub mod arguments;
 pub mod coverage;
+pub mod differ;
 pub mod document;
 pub mod exhaustive;
 pub mod features;

@@ -17,6 +17,58 @@ unsafe extern "C" {
     fn compared_trim(s: *const c_uchar, n: usize, out: *mut c_uchar, room: usize) -> usize;
     fn compared_first_word(s: *const c_uchar, n: usize, out: *mut c_uchar, room: usize) -> usize;
     fn compared_second_word(s: *const c_uchar, n: usize, out: *mut c_uchar, room: usize) -> usize;
+    fn compared_tape_check(
+        source: *const c_uchar,
+        source_len: usize,
+        tape: *const c_uchar,
+        tape_len: usize,
+    ) -> u64;
+    fn compared_text(
+        source: *const c_uchar,
+        source_len: usize,
+        tape: *const c_uchar,
+        tape_len: usize,
+        i: usize,
+        out: *mut c_uchar,
+        room: usize,
+    ) -> usize;
+    fn compared_marker_name(
+        source: *const c_uchar,
+        source_len: usize,
+        tape: *const c_uchar,
+        tape_len: usize,
+        i: usize,
+        out: *mut c_uchar,
+        room: usize,
+    ) -> usize;
+    fn compared_first_child(tape: *const c_uchar, n: usize, i: usize) -> u64;
+    fn compared_next_sibling(tape: *const c_uchar, n: usize, i: usize) -> u64;
+    fn compared_number(tape: *const c_uchar, n: usize, i: usize) -> u64;
+    fn compared_table(table: *const c_uchar, n: usize) -> u64;
+    fn compared_lookup(
+        table: *const c_uchar,
+        table_len: usize,
+        name: *const c_uchar,
+        name_len: usize,
+    ) -> u64;
+    fn compared_info(table: *const c_uchar, n: usize, k: u16) -> u64;
+    fn compared_marker_info(
+        table: *const c_uchar,
+        table_len: usize,
+        tape: *const c_uchar,
+        tape_len: usize,
+        i: usize,
+    ) -> u64;
+    fn compared_strip_level_suffix(
+        name: *const c_uchar,
+        n: usize,
+        out: *mut c_uchar,
+        room: usize,
+    ) -> usize;
+    fn compared_default_attribute(name: *const c_uchar, n: usize) -> u8;
+    fn compared_book(code: *const c_uchar, n: usize) -> u16;
+    fn compared_is_front_matter_code(code: *const c_uchar, n: usize) -> bool;
+    fn compared_is_note_only_marker(name: *const c_uchar, n: usize) -> bool;
 }
 
 pub fn utf8_check(s: &[u8]) -> usize {
@@ -81,4 +133,116 @@ pub fn first_word(s: &[u8]) -> Vec<u8> {
 
 pub fn second_word(s: &[u8]) -> Vec<u8> {
     part(compared_second_word, s)
+}
+
+pub fn strip_level_suffix(name: &[u8]) -> Vec<u8> {
+    part(compared_strip_level_suffix, name)
+}
+
+/// A number of up to 32 bits; the library says none by one that is larger.
+fn small(word: u64) -> Option<u32> {
+    u32::try_from(word).ok()
+}
+
+fn place(word: u64) -> Option<usize> {
+    small(word).map(|place| place as usize)
+}
+
+/// The number that turns a tape back, with its place.
+pub fn tape_check(source: &[u8], tape: &[u8]) -> Option<(u32, u64)> {
+    let told =
+        unsafe { compared_tape_check(source.as_ptr(), source.len(), tape.as_ptr(), tape.len()) };
+    (told != 0).then_some(((told >> 32) as u32, told & 0xFFFF_FFFF))
+}
+
+pub fn text(source: &[u8], tape: &[u8], i: usize) -> Vec<u8> {
+    node_part(compared_text, source, tape, i)
+}
+
+pub fn marker_name(source: &[u8], tape: &[u8], i: usize) -> Vec<u8> {
+    node_part(compared_marker_name, source, tape, i)
+}
+
+type NodeCopier = unsafe extern "C" fn(
+    *const c_uchar,
+    usize,
+    *const c_uchar,
+    usize,
+    usize,
+    *mut c_uchar,
+    usize,
+) -> usize;
+
+fn node_part(f: NodeCopier, source: &[u8], tape: &[u8], i: usize) -> Vec<u8> {
+    let mut out = vec![0; source.len()];
+    let (s, t) = (source.as_ptr(), tape.as_ptr());
+    let n = unsafe {
+        f(
+            s,
+            source.len(),
+            t,
+            tape.len(),
+            i,
+            out.as_mut_ptr(),
+            out.len(),
+        )
+    };
+    out.truncate(n);
+    out
+}
+
+pub fn first_child(tape: &[u8], i: usize) -> Option<usize> {
+    place(unsafe { compared_first_child(tape.as_ptr(), tape.len(), i) })
+}
+
+pub fn next_sibling(tape: &[u8], i: usize) -> Option<usize> {
+    place(unsafe { compared_next_sibling(tape.as_ptr(), tape.len(), i) })
+}
+
+pub fn number(tape: &[u8], i: usize) -> Option<u32> {
+    small(unsafe { compared_number(tape.as_ptr(), tape.len(), i) })
+}
+
+/// The number of a table's entries, or the place that number 1 gives.
+pub fn table(table: &[u8]) -> Result<usize, u64> {
+    let told = unsafe { compared_table(table.as_ptr(), table.len()) };
+    place(told).ok_or(told & 0xFFFF_FFFF)
+}
+
+pub fn lookup(table: &[u8], name: &[u8]) -> Option<u16> {
+    let (t, n) = (table.as_ptr(), name.as_ptr());
+    let told = unsafe { compared_lookup(t, table.len(), n, name.len()) };
+    u16::try_from(told).ok()
+}
+
+/// Category and role of an entry.
+fn entry(told: u64) -> Option<(u8, u8)> {
+    small(told).map(|told| ((told % 8) as u8, (told / 8) as u8))
+}
+
+pub fn info(table: &[u8], k: u16) -> Option<(u8, u8)> {
+    entry(unsafe { compared_info(table.as_ptr(), table.len(), k) })
+}
+
+pub fn marker_info(table: &[u8], tape: &[u8], i: usize) -> Option<(u8, u8)> {
+    let (t, n) = (table.as_ptr(), tape.as_ptr());
+    entry(unsafe { compared_marker_info(t, table.len(), n, tape.len(), i) })
+}
+
+pub fn default_attribute(name: &[u8]) -> Option<&'static str> {
+    const NAMES: [&str; 7] = ["lemma", "gloss", "href", "loc", "link-href", "id", "who"];
+    let told = unsafe { compared_default_attribute(name.as_ptr(), name.len()) };
+    NAMES.get(told as usize).copied()
+}
+
+pub fn book(code: &[u8]) -> Option<u8> {
+    u8::try_from(unsafe { compared_book(code.as_ptr(), code.len()) }).ok()
+}
+
+pub fn is_front_matter_code(code: &[u8]) -> bool {
+    unsafe { compared_is_front_matter_code(code.as_ptr(), code.len()) }
+}
+
+pub fn is_note_only_marker(name: &[u8]) -> bool {
+    unsafe { compared_is_note_only_marker(name.as_ptr(), name.len()) }
 }

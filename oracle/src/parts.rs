@@ -80,8 +80,8 @@ pub struct Seen {
     pub first_child: Option<usize>,
     pub next_sibling: Option<usize>,
     pub number: Option<u32>,
-    /// The name of its table entry.
-    pub info: Option<Vec<u8>>,
+    /// Category and role of its table entry, by their places in the published enums.
+    pub info: Option<(u8, u8)>,
 }
 
 fn seen(c: Cursor<'_>) -> Seen {
@@ -92,7 +92,9 @@ fn seen(c: Cursor<'_>) -> Seen {
         first_child: c.first_child().map(place),
         next_sibling: c.next_sibling().map(place),
         number: c.number(),
-        info: c.marker_info().map(|info| info.name.into()),
+        info: c
+            .marker_info()
+            .map(|info| (info.category as u8, info.text_role as u8)),
     }
 }
 

@@ -4,6 +4,7 @@
 use std::process::exit;
 
 use oracle::arguments::numbers;
+use oracle::differ::same;
 use oracle::generate::generate;
 use oracle::library;
 use oracle::rng::Rng;
@@ -22,13 +23,6 @@ const TELLING: [char; 36] = [
     '\u{fffd}', '😀',
 ];
 
-fn same<T: PartialEq + std::fmt::Debug>(what: &str, input: &[u8], ours: T, theirs: T) {
-    if ours != theirs {
-        println!("{what} differs on {input:02X?}: the library has {ours:?}, Rust has {theirs:?}");
-        exit(1);
-    }
-}
-
 /// What std decodes at a place: the first of one to four bytes that are one character, else U+FFFD.
 fn decoded(s: &[u8], at: usize) -> (u32, usize) {
     if s.len() <= at {
@@ -44,13 +38,13 @@ fn decoded(s: &[u8], at: usize) -> (u32, usize) {
 
 fn bytes(s: &[u8]) {
     let place = std::str::from_utf8(s).map_or_else(|e| e.valid_up_to(), str::len);
-    same("utf8_check", s, library::utf8_check(s), place);
+    same("utf8_check", &s, library::utf8_check(s), place);
     for at in 0..=s.len() + 1 {
-        same("decode_at", s, library::decode_at(s, at), decoded(s, at));
+        same("decode_at", &s, library::decode_at(s, at), decoded(s, at));
     }
     for b in [b'-', b'=', 0x80, 0xBF, 0xFF] {
         let found = s.iter().position(|&x| x == b).unwrap_or(s.len());
-        same("find_byte", s, library::find_byte(s, b), found);
+        same("find_byte", &s, library::find_byte(s, b), found);
     }
 }
 
@@ -59,7 +53,7 @@ fn text(t: &str) {
     for at in 0..=s.len() + 1 {
         same(
             "is_char_boundary",
-            s,
+            &s,
             library::is_char_boundary(s, at),
             t.is_char_boundary(at),
         );
@@ -68,32 +62,32 @@ fn text(t: &str) {
         let found = t.find(c).unwrap_or(s.len());
         same(
             "find of a character",
-            s,
+            &s,
             library::find_byte(s, c as u8),
             found,
         );
     }
     let digits = t.find(|c: char| !c.is_ascii_digit()).unwrap_or(s.len());
-    same("find_non_digit", s, library::find_non_digit(s), digits);
+    same("find_non_digit", &s, library::find_non_digit(s), digits);
     let blank = t.find(char::is_whitespace).unwrap_or(s.len());
-    same("find_blank", s, library::find_blank(s), blank);
+    same("find_blank", &s, library::find_blank(s), blank);
     let mut words = t.split_whitespace();
     let word = |w: Option<&str>| w.unwrap_or("").as_bytes().to_vec();
-    same("first_word", s, library::first_word(s), word(words.next()));
+    same("first_word", &s, library::first_word(s), word(words.next()));
     same(
         "second_word",
-        s,
+        &s,
         library::second_word(s),
         word(words.next()),
     );
     same(
         "trim_start",
-        s,
+        &s,
         library::trim_start(s),
         t.trim_start().as_bytes().to_vec(),
     );
-    same("trim", s, library::trim(s), t.trim().as_bytes().to_vec());
-    same("parse", s, library::parse(s), t.parse().ok());
+    same("trim", &s, library::trim(s), t.trim().as_bytes().to_vec());
+    same("parse", &s, library::parse(s), t.parse().ok());
 }
 
 /// The text as it is if it is UTF-8, and as bytes in any case.
@@ -107,11 +101,11 @@ fn either(s: &[u8]) {
 fn code_points() {
     for cp in 0..=0x11_0000 {
         let blank = char::from_u32(cp).is_some_and(char::is_whitespace);
-        same("is_blank", &cp.to_be_bytes(), library::is_blank(cp), blank);
+        same("is_blank", &cp, library::is_blank(cp), blank);
         if let Some(c) = char::from_u32(cp) {
             let mut room = [0; 4];
             let s = c.encode_utf8(&mut room).as_bytes();
-            same("decode_at", s, library::decode_at(s, 0), (cp, s.len()));
+            same("decode_at", &s, library::decode_at(s, 0), (cp, s.len()));
         }
     }
 }
@@ -139,7 +133,7 @@ fn short_strings() -> u64 {
     let mut count = 0;
     let mut place = |s: &[u8]| {
         let theirs = std::str::from_utf8(s).map_or_else(|e| e.valid_up_to(), str::len);
-        same("utf8_check", s, library::utf8_check(s), theirs);
+        same("utf8_check", &s, library::utf8_check(s), theirs);
         count += 1;
     };
     for length in 0..=3 {
