@@ -199,6 +199,11 @@ pub fn next_sibling(tape: &[u8], i: usize) -> Option<usize> {
     place(unsafe { compared_next_sibling(tape.as_ptr(), tape.len(), i) })
 }
 
+/// A node's children: the first one, and the siblings after it.
+pub fn children(tape: &[u8], i: usize) -> Vec<usize> {
+    std::iter::successors(first_child(tape, i), |&k| next_sibling(tape, k)).collect()
+}
+
 pub fn number(tape: &[u8], i: usize) -> Option<u32> {
     small(unsafe { compared_number(tape.as_ptr(), tape.len(), i) })
 }

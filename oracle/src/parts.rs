@@ -79,6 +79,7 @@ pub struct Seen {
     pub name: Vec<u8>,
     pub first_child: Option<usize>,
     pub next_sibling: Option<usize>,
+    pub children: Vec<usize>,
     pub number: Option<u32>,
     /// Category and role of its table entry, by their places in the published enums.
     pub info: Option<(u8, u8)>,
@@ -91,6 +92,7 @@ fn seen(c: Cursor<'_>) -> Seen {
         name: c.marker_name().into(),
         first_child: c.first_child().map(place),
         next_sibling: c.next_sibling().map(place),
+        children: c.children().map(place).collect(),
         number: c.number(),
         info: c
             .marker_info()

@@ -98,6 +98,7 @@ fn cursor(document: &Document, rng: &mut Rng) {
             library::next_sibling(t, i),
             seen.next_sibling,
         );
+        same("children", &at, library::children(t, i), seen.children);
         same("number", &at, library::number(t, i), seen.number);
         // Each call indexes the table anew, so some nodes have to do.
         if rng.one_in(16) {

@@ -1,0 +1,16 @@
+-- `limits_trial::first` meets its contract.
+-- Assumes nothing.
+use borrow.Author.Needs.{needs}
+use lib.Seq.{length-take-le}
+use mathlib.Core.Path.{sym}
+use Rattle.limits_trial.proofs.first.Statement.{statement}
+use Rattle.limits_trial.proofs.first.Tie as tie
+
+slice-aggregate-result : tie.Need-slice-aggregate-result
+slice-aggregate-result c = sym (length-take-le _ _ (c .before .pre))
+
+returns : tie.Need-returns
+returns c = search needs
+
+pub first-spec : {M : Type 1} → statement M
+first-spec = tie.close (tie.spec slice-aggregate-result returns)
