@@ -69,6 +69,11 @@ unsafe extern "C" {
     fn compared_book(code: *const c_uchar, n: usize) -> u16;
     fn compared_is_front_matter_code(code: *const c_uchar, n: usize) -> bool;
     fn compared_is_note_only_marker(name: *const c_uchar, n: usize) -> bool;
+    fn compared_part_number(s: *const c_uchar, n: usize) -> u64;
+    fn compared_part_letter(s: *const c_uchar, n: usize) -> u8;
+    fn compared_end_number(s: *const c_uchar, n: usize) -> u64;
+    fn compared_end_letter(s: *const c_uchar, n: usize) -> u8;
+    fn compared_sequence(expected: u64, wanted: u8, actual: u64, given: u8) -> bool;
 }
 
 pub fn utf8_check(s: &[u8]) -> usize {
@@ -250,4 +255,21 @@ pub fn is_front_matter_code(code: &[u8]) -> bool {
 
 pub fn is_note_only_marker(name: &[u8]) -> bool {
     unsafe { compared_is_note_only_marker(name.as_ptr(), name.len()) }
+}
+
+/// A verse position: its number, and its letter's byte or 0.
+pub fn parse_verse_part(label: &[u8]) -> Option<(u32, u8)> {
+    let (s, n) = (label.as_ptr(), label.len());
+    let number = small(unsafe { compared_part_number(s, n) })?;
+    Some((number, unsafe { compared_part_letter(s, n) }))
+}
+
+pub fn parse_verse_range_end(label: &[u8]) -> Option<(u32, u8)> {
+    let (s, n) = (label.as_ptr(), label.len());
+    let number = small(unsafe { compared_end_number(s, n) })?;
+    Some((number, unsafe { compared_end_letter(s, n) }))
+}
+
+pub fn is_valid_verse_sequence(expected: (u32, u8), actual: (u32, u8)) -> bool {
+    unsafe { compared_sequence(expected.0.into(), expected.1, actual.0.into(), actual.1) }
 }

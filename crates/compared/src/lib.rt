@@ -1,6 +1,9 @@
 // Functions of the library under C names, for the program that compares them with the Rust's. Nothing is asked of a caller but valid slices.
 use cursor::NumberRead;
 use cursor::Place;
+use numbers::PartRead;
+use numbers::Suffix;
+use numbers::VersePart;
 use table::Book;
 use table::BookId;
 use table::Category;
@@ -18,8 +21,9 @@ ghost use mathlib.Core.Bool.{true, not};
 ghost use Prim.Native.Nat.{_+_, _*_, _%_, _<_};
 ghost use lib.Dec.{eqb};
 ghost use lib.ListN.{length, drop};
-ghost use Rattle.compared.specs.Told.{orElse};
-ghost use Rattle.text.specs.Pick.{cut};
+ghost use Rattle.compared.specs.Told.{orElse, numberTold, letterTold, positionTold, low};
+ghost use Rattle.numbers.specs.Verse.{readOf, positionOf, suffixOf, versePart, verseEnd, next, inSequence};
+ghost use Rattle.text.specs.Pick.{both, cut};
 ghost use Rattle.text.specs.Utf8.{firstIllFormed, decode};
 ghost use Rattle.text.specs.Blank.{blank};
 ghost use Rattle.text.specs.Characters.{find, findByte, starts};
@@ -346,4 +350,91 @@ pub extern "C" fn compared_is_front_matter_code(code: &[u8]) -> bool {
 #[no_mangle]
 pub extern "C" fn compared_is_note_only_marker(name: &[u8]) -> bool {
     table::is_note_only_marker(name)
+}
+
+fn letter_told(suffix: Suffix) -> u8
+    ensures { λ r. ⌜ r ≡ orElse 0 (suffixOf suffix) ⌝ }
+{
+    match suffix {
+        Suffix::Letter(b) => b,
+        Suffix::None => 0,
+    }
+}
+
+fn part_number(read: PartRead) -> u64
+    ensures { λ r. ⌜ r ≡ numberTold (readOf read) ⌝ }
+{
+    match read {
+        PartRead::Is(p) => p.num,
+        PartRead::NotRead => 18446744073709551615,
+    }
+}
+
+fn part_letter(read: PartRead) -> u8
+    ensures { λ r. ⌜ r ≡ letterTold (readOf read) ⌝ }
+{
+    match read {
+        PartRead::Is(p) => {
+            let suffix = p.suffix;
+            letter_told(suffix)
+        }
+        PartRead::NotRead => 0,
+    }
+}
+
+fn position(num: u64, letter: u8) -> VersePart
+    ensures { λ r. ⌜ positionOf r ≡ positionTold num letter ⌝ }
+{
+    if letter == 0 {
+        return VersePart {
+            num: num,
+            suffix: Suffix::None,
+        };
+    }
+    VersePart {
+        num: num,
+        suffix: Suffix::Letter(letter),
+    }
+}
+
+#[no_mangle]
+pub extern "C" fn compared_part_number(s: &[u8]) -> u64
+    ensures { λ r. ⌜ r ≡ numberTold (versePart (now (s .entry))) ⌝ }
+{
+    part_number(numbers::parse_verse_part(s))
+}
+
+#[no_mangle]
+pub extern "C" fn compared_part_letter(s: &[u8]) -> u8
+    ensures { λ r. ⌜ r ≡ letterTold (versePart (now (s .entry))) ⌝ }
+{
+    part_letter(numbers::parse_verse_part(s))
+}
+
+#[no_mangle]
+pub extern "C" fn compared_end_number(s: &[u8]) -> u64
+    ensures { λ r. ⌜ r ≡ numberTold (verseEnd (now (s .entry))) ⌝ }
+{
+    part_number(numbers::parse_verse_range_end(s))
+}
+
+#[no_mangle]
+pub extern "C" fn compared_end_letter(s: &[u8]) -> u8
+    ensures { λ r. ⌜ r ≡ letterTold (verseEnd (now (s .entry))) ⌝ }
+{
+    part_letter(numbers::parse_verse_range_end(s))
+}
+
+// Whether a position may stand where another is expected. Numbers past 4,294,967,296 never may: no label has them.
+#[no_mangle]
+pub extern "C" fn compared_sequence(expected: u64, wanted: u8, actual: u64, given: u8) -> bool
+    ensures { λ r. ⌜ r ≡ both (low expected) (both (low actual) (inSequence (positionTold expected wanted) (positionTold actual given))) ⌝ }
+{
+    if 4294967296 < expected {
+        return false;
+    }
+    if 4294967296 < actual {
+        return false;
+    }
+    numbers::is_valid_verse_sequence(position(expected, wanted), position(actual, given))
 }

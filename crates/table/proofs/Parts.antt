@@ -9,11 +9,12 @@ use native.Mathlib.Nat.{not-suc-le-zero}
 use native.Mathlib.Omega.{arith}
 use lib.Dec.{eqb, ltb, leb·suc-suc}
 use lib.ListN.{length, take, drop, length-drop, drop-of-length-le}
-use lib.Seq.{drop-drop, take-all}
+use lib.Seq.{drop-drop}
 use borrow.Author.Tests.{lt-ltb, eq-eqb, ne-eqb, eqb-true, eqb-false}
 use Rattle.text.specs.Pick.{pickNat}
 use Rattle.text.specs.Characters.{findByte}
 use Rattle.text.proofs.Chars.{byte-le}
+use Rattle.text.proofs.Cuts.{rest-all}
 use Rattle.table.specs.Bytes.{equal}
 use Rattle.table.specs.Lines.{Line, lines, onFirst, lineBy}
 use Rattle.table.specs.Books.{codeFrom}
@@ -69,9 +70,6 @@ module _ (t : List ℕ) (at : ℕ) where
   unfolding lines
   line-none h = rw (drop-of-length-le t h)
 
-  pub rest-all : at ≤ length t → take (length t - at) (drop at t) ≡ drop at t
-  rest-all h = take-all (length t - at) (drop at t) (omega (arith, length-drop at t))
-
 -- the first byte 10 from a place on, as it is searched for
 module _ (l : List ℕ) (at n : ℕ) (is : n ≡ width (take (length l - at) (drop at l))) where
   pub break-le : n ≤ length (take (length l - at) (drop at l))
@@ -79,10 +77,10 @@ module _ (l : List ℕ) (at n : ℕ) (is : n ≡ width (take (length l - at) (dr
 
   module _ (h : at ≤ length l) where
     pub break-inside : at + n ≤ length l
-    break-inside = omega (arith, break-le, ap length (rest-all l at h), length-drop at l)
+    break-inside = omega (arith, break-le, ap length (rest-all l at), length-drop at l)
 
     pub break-at : n ≡ width (drop at l)
-    break-at = rw (rest-all l at h) at is
+    break-at = rw (rest-all l at) at is
 
 -- the words of a list in which byte 10 ends each are what stands in its lines
 unfoldable pub bodies : List Line → List (List ℕ)
@@ -108,7 +106,7 @@ module _ (l s : List ℕ) (k at n : ℕ) (is : n ≡ width (take (length l - at)
   unfolding bodies
   word-there h =
       let g : at ≤ length l = omega arith in
-      rw (line-there l at h, rest-all l at g, break-at l at n is g)
+      rw (line-there l at h, rest-all l at, break-at l at n is g)
 
   pub word-hit : at < length l → equal (take n rest) s ≡ true → codeFrom k (bodies (lines at (drop at l))) s ≡ some k
   word-hit h e = code-hit k s _ _ _ (word-there h) e

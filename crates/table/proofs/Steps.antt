@@ -11,13 +11,14 @@ use lib.ListN.{length, take, drop, length-drop}
 use lib.Seq.{length-take-le}
 use borrow.Author.Tests.{lt-ltb, le-ltb, ltb-true, ltb-false, ne-eqb}
 use Rattle.text.specs.Pick.{both}
+use Rattle.text.proofs.Cuts.{rest-all}
 use Rattle.text.proofs.Rows.{both-false}
 use Rattle.table.specs.declared.Step.the-variants as step
 use Rattle.table.specs.declared.Marker.the-variants as marker
 use Rattle.table.specs.Lines.{lines, goodBody, badFrom, categoryKey, categories, roleKey, roles}
 use Rattle.table.specs.Entries.{Entry, entryOf, entriesOf}
 use Rattle.table.specs.Inner.{known, lineValue, stepBy, stepOf, Marked}
-use Rattle.table.proofs.Parts.{width, first, line-there, line-none, rest-all, break-le, break-at}
+use Rattle.table.proofs.Parts.{width, first, line-there, line-none, break-le, break-at}
 use Rattle.table.proofs.Values.{good-known, Named, name-says, shorter, Worded, word-says}
 use Rattle.table.proofs.Words.{every}
 
@@ -27,7 +28,7 @@ module _ (t : List ℕ) (at j n : ℕ) (h : at ≤ length t) (is : n ≡ width (
   rest = take (length t - at) (drop at t)
 
   all : rest ≡ drop at t
-  all = rest-all t at h
+  all = rest-all t at
 
   here : n ≡ width (drop at t)
   here = break-at t at n is h

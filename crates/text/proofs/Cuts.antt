@@ -12,6 +12,10 @@ use Rattle.text.specs.Blank.{blank}
 use Rattle.text.specs.Characters.{chars, find}
 use Rattle.text.specs.Words.{solid, trimStart, kept, trim, wordFrom}
 
+-- from the place a to the end
+pub rest-all : (s : List ℕ) (a : ℕ) → take (length s - a) (drop a s) ≡ drop a s
+rest-all s a = take-all (length s - a) (drop a s) (omega (arith, length-drop a s))
+
 -- from the place a to the place e
 pub word-end : (s : List ℕ) (i a e : ℕ) → a ≡ i + find solid (drop i s) → e ≡ a + find blank (drop a s) → e ≡ end (wordFrom i s)
 unfolding wordFrom
@@ -29,7 +33,6 @@ pub trim-cut : (s : List ℕ) (a n : ℕ) → a ≡ 0 + find solid s → n ≡ 0
 unfolding trim
 trim-cut s a n h k =
     let e : a ≡ find solid s = h ∙ zero-add _ in
-    let rest : take (length s - a) (drop a s) ≡ drop a s = take-all (length s - a) (drop a s) (omega (arith, length-drop a s)) in
     let m : a + n - a ≡ n = omega arith in
-    let f : n ≡ kept (chars (drop a s)) = k ∙ zero-add _ ∙ rw rest in
+    let f : n ≡ kept (chars (drop a s)) = k ∙ zero-add _ ∙ rw (rest-all s a) in
     rw (m, f, e)

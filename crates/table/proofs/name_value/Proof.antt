@@ -14,7 +14,7 @@ use Rattle.table.specs.Bytes.{all}
 use Rattle.table.specs.Lines.{nameKey, nameByte}
 use Rattle.table.proofs.Words.{starts-long}
 use Rattle.table.proofs.Values.{name-keyless, name-empty, name-long, name-bytes}
-use Rattle.table.proofs.Parts.{rest-all}
+use Rattle.text.proofs.Cuts.{rest-all}
 use Rattle.table.proofs.name_value.Statement.{statement}
 use Rattle.table.proofs.name_value.Tie as tie
 
@@ -53,8 +53,7 @@ by-bytes c t e =
     let d = c .before .before in
     let s = now (c .before .before .before .before .before .before .before .before .args .line) in
     let k = sym (d .before .before .before .starts-with .ensures) ∙ not-false _ (d .before .before .if1 .left) in
-    let h : 5 ≤ length s = omega (arith, starts-long nameKey s k) in
-    name-bytes s k (d .before .if2 .left) (d .if3 .left) t (ap (all nameByte) (sym (rest-all s 5 h)) ∙ sym (c .name-bytes .ensures) ∙ e)
+    name-bytes s k (d .before .if2 .left) (d .if3 .left) t (ap (all nameByte) (sym (rest-all s 5)) ∙ sym (c .name-bytes .ensures) ∙ e)
 
 returns-4 : tie.Need-returns-4
 returns-4 c = by-bytes (c .before) _ (c .if4 .taken)

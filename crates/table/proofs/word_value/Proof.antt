@@ -9,7 +9,7 @@ use native.Mathlib.Omega.{arith}
 use Rattle.table.specs.Books.{codeFrom}
 use Rattle.table.specs.Inner.{wordsOf}
 use Rattle.table.proofs.Words.{starts-long}
-use Rattle.table.proofs.Parts.{rest-all}
+use Rattle.text.proofs.Cuts.{rest-all}
 use Rattle.table.proofs.word_value.Statement.{statement}
 use Rattle.table.proofs.word_value.Tie as tie
 
@@ -39,8 +39,7 @@ returns-2 : tie.Need-returns-2
 returns-2 c =
     let a = c .before .before .before .before .before .before .before .args in
     let k = sym (c .before .before .before .starts-with .ensures) ∙ not-false _ (c .before .before .if1 .left) in
-    let h : length (now (a .key)) ≤ length (now (a .line)) = omega (arith, starts-long (now (a .key)) (now (a .line)) k) in
-    c .word-in .ensures ∙ ap (codeFrom 0 (wordsOf (now (a .words)))) (rest-all (now (a .line)) (length (now (a .key))) h) ∙ sym (rw k)
+    c .word-in .ensures ∙ ap (codeFrom 0 (wordsOf (now (a .words)))) (rest-all (now (a .line)) (length (now (a .key)))) ∙ sym (rw k)
 
 pub word-value-spec : {M : Type 1} → statement M
 word-value-spec =

@@ -1,0 +1,99 @@
+-- Laws about verse parts, their order, and what follows them.
+-- Assumes nothing.
+use Prim.Native.Nat.{ℕ, suc, _+_, _-_, _<_, _≤_}
+use mathlib.Core.Path.{_≡_, refl, sym, ap, _∙_}
+use mathlib.Core.Bool.{Bool, true, false, not, false≢true}
+use mathlib.Core.List.{List, [], _∷_}
+use mathlib.Core.Option.{Option, some, none}
+use native.Mathlib.Omega.{arith}
+use borrow.Author.Tests.{lt-ltb, le-ltb, ltb-true, ne-eqb}
+use lib.Dec.{leb, eqb}
+use lib.ListN.{length, take, drop, getD}
+use Rattle.text.specs.Pick.{both, pickNat, pickOption, within, cut}
+use Rattle.text.specs.declared.Parsed.{Parsed}
+use Rattle.text.specs.declared.Parsed.the-variants as parsed
+use Rattle.text.specs.Characters.{findByte}
+use Rattle.text.specs.Words.{trimStart}
+use Rattle.text.specs.Number.{digit, digits, numberOf}
+use Rattle.text.specs.Number as number
+use Rattle.text.proofs.Chars.{byte-le}
+use Rattle.text.proofs.Cuts.{rest-all}
+use Rattle.numbers.specs.declared.Suffix.{Suffix}
+use Rattle.numbers.specs.declared.Suffix.the-variants.{Letter, None}
+use Rattle.numbers.specs.declared.VersePart.{VersePart}
+use Rattle.numbers.specs.Verse.{Position, Readable, letterOf, withLetter, digitsEnd, partOf, versePart, verseEnd, next, nextBy, noEarlier, otherNumber, inSequence, pickBool, suffixOf, positionOf, letterLow}
+
+-- the order of letters
+pub letters : (e a : Suffix) (x y : ℕ) → e ≡ Letter x → a ≡ Letter y → leb x y ≡ noEarlier (suffixOf e) (suffixOf a)
+letters e a x y p q = rw p (rw q refl)
+
+-- another number than the expected one
+pub after-letter : (e l : Suffix) (x n m : ℕ) → e ≡ Letter x → eqb n (m + 1) ≡ otherNumber (suffixOf e) m (suffixOf l) n
+after-letter e l x n m p = rw p refl
+
+pub lettered : (e l : Suffix) (b n m : ℕ) (v : Bool) → e ≡ None → l ≡ Letter b → leb 1 n ≡ v → both v (eqb (n + 1) m) ≡ otherNumber (suffixOf e) m (suffixOf l) n
+lettered e l b n m v p q h = rw p (rw q (rw h refl))
+
+-- the sequence, by whether the numbers are equal
+pub sequence : (e a : VersePart) (v x : Bool) → eqb (a .num) (e .num) ≡ v → x ≡ pickBool v (noEarlier (suffixOf (e .suffix)) (suffixOf (a .suffix))) (otherNumber (suffixOf (e .suffix)) (e .num) (suffixOf (a .suffix)) (a .num)) → x ≡ inSequence (positionOf e) (positionOf a)
+unfolding inSequence
+sequence e a v x h y = rw h y
+
+-- the position after another
+pub letter-low : (p : VersePart) (b : ℕ) → Readable (positionOf p) → p .suffix ≡ Letter b → b < 255
+letter-low p b r h = ltb-true b 255 (ap (λ (s : Suffix). letterLow (suffixOf s)) (sym h) ∙ r .letter-low)
+
+pub next-by : (p : VersePart) (s : Suffix) (q : Position) → p .suffix ≡ s → q ≡ nextBy (p .num) (suffixOf s) → q ≡ next (positionOf p)
+unfolding next
+next-by p s q h e = rw h e
+
+-- the letter that a text begins with
+pub no-letter : (s : List ℕ) → length s ≡ 0 → none ≡ letterOf s
+no-letter [] h = refl
+no-letter (b ∷ s) h = absurd (omega (arith, h))
+
+pub letter-by : (s : List ℕ) (x v : Bool) → (length s ≡ 0 → ⊥) → x ≡ within 0x61 0x7A (getD s 0 0) → x ≡ v → pickOption v (some (getD s 0 0)) none ≡ letterOf s
+letter-by [] x v l e h = absurd (l refl)
+letter-by (b ∷ s) x v l e h = ap (λ (t : Bool). pickOption t (some b) none) (sym h ∙ e)
+
+-- a run of digits has no `+` before it
+no-plus : (b : ℕ) → digit b ≡ true → eqb b 0x2B ≡ false
+no-plus b h = ne-eqb b 0x2B (λ e. false≢true (ap digit (sym e) ∙ h))
+
+pub end-le : (t : List ℕ) (e : ℕ) → e ≡ digitsEnd t → e ≤ length t
+end-le t e h = rw h (byte-le (λ b. not (digit b)) t)
+
+pub digits-parsed : (t : List ℕ) → number.parsed (take (digitsEnd t) t) ≡ digits (take (digitsEnd t) t)
+unfolding findByte number.parsed digits
+digits-parsed [] = refl
+digits-parsed (b ∷ t) = go (digit b) refl
+  where
+    go : (v : Bool) → digit b ≡ v → number.parsed (take (pickNat (not v) 0 (suc (digitsEnd t))) (b ∷ t)) ≡ digits (take (pickNat (not v) 0 (suc (digitsEnd t))) (b ∷ t))
+    go true h = rw (no-plus b h) refl
+    go false h = refl
+
+module _ (s t : List ℕ) (e : ℕ) (r : Parsed) (cut-is : t ≡ cut (trimStart s) s) (end-is : e ≡ digitsEnd t) (read : numberOf r ≡ number.parsed (take e t)) where
+  read-digits : number.parsed (take e t) ≡ digits (take e t)
+  read-digits = rw end-is (digits-parsed t)
+
+  part-cut : withLetter (digits (take e t)) (letterOf (drop e t)) ≡ versePart s
+  unfolding versePart partOf
+  part-cut = rw end-is (ap partOf cut-is)
+
+  chain : withLetter (numberOf r) (letterOf (drop e t)) ≡ versePart s
+  chain = ap (λ (o : Option ℕ). withLetter o (letterOf (drop e t))) (read ∙ read-digits) ∙ part-cut
+
+  pub part-read : (n : ℕ) (l : Suffix) → r ≡ parsed.Value n → suffixOf l ≡ letterOf (take (length t - e) (drop e t)) → some (record { number = n; letter = suffixOf l }) ≡ versePart s
+  part-read n l h g = ap (λ (o : Parsed). withLetter (numberOf o) (suffixOf l)) (sym h) ∙ ap (withLetter (numberOf r)) (g ∙ ap letterOf (rest-all t e)) ∙ chain
+
+  pub part-missing : r ≡ parsed.NotANumber → none ≡ versePart s
+  part-missing h = ap (λ (o : Parsed). withLetter (numberOf o) (letterOf (drop e t))) (sym h) ∙ chain
+
+-- the end of a range
+pub end-after : (s : List ℕ) (at : ℕ) (x : Option Position) → at ≡ findByte (eqb 0x2D) s → at < length s → x ≡ versePart (take (length s - (at + 1)) (drop (at + 1) s)) → x ≡ verseEnd s
+unfolding verseEnd
+end-after s at x e l h = rw (sym e) (rw (lt-ltb at (length s) l) (h ∙ ap versePart (rest-all s (at + 1))))
+
+pub end-start : (s : List ℕ) (at : ℕ) (x : Option Position) → at ≡ findByte (eqb 0x2D) s → length s ≤ at → x ≡ versePart s → x ≡ verseEnd s
+unfolding verseEnd
+end-start s at x e l h = rw (sym e) (rw (le-ltb at (length s) l) h)

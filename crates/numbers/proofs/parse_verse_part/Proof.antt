@@ -1,0 +1,73 @@
+-- `numbers::parse_verse_part` meets its contract.
+use borrow.Author.Needs.{needs}
+use lib.Seq.{length-take-le}
+use mathlib.Core.Path.{sym}
+use Rattle.numbers.proofs.Parts.{end-le, part-read, part-missing}
+use Rattle.text.proofs.Chars.{byte-le}
+use Rattle.numbers.proofs.parse_verse_part.Statement.{statement}
+use Rattle.numbers.proofs.parse_verse_part.Tie as tie
+
+trim-start-requires : tie.Need-trim-start-requires
+trim-start-requires c κs = search needs
+
+find-non-digit-requires : tie.Need-find-non-digit-requires
+find-non-digit-requires c κs = search needs
+
+slice-aggregate-parse : tie.Need-slice-aggregate-parse
+slice-aggregate-parse c = sym (length-take-le _ _ (end-le _ _ (c .before .find-non-digit .ensures)))
+
+parse-requires : tie.Need-parse-requires
+parse-requires c κs = search needs
+
+enum-known-n : tie.Need-enum-known-n
+enum-known-n c = search needs
+
+cast-t9 : tie.Need-cast-t9
+cast-t9 c = search needs
+
+sub-letter : tie.Need-sub-letter
+sub-letter c = end-le _ _ (c .before .before .before .before .before .find-non-digit .ensures)
+
+part-letter-start : tie.Need-part-letter-start
+part-letter-start c =
+    let l = end-le _ _ (c .before .before .before .before .before .find-non-digit .ensures) in
+    search needs
+
+part-letter-end : tie.Need-part-letter-end
+part-letter-end c = search needs
+
+letter-requires : tie.Need-letter-requires
+letter-requires c κs = search needs
+
+enum-told : tie.Need-enum-told
+enum-told c = search needs
+
+returns : tie.Need-returns
+returns c =
+    let p = c .before .before .before .before .before in
+    let f = p .before .before in
+    part-read _ _ _ _ (f .before .trim-start .ensures) (f .find-non-digit .ensures) (p .parse .ensures) _ (c .letter .result) (c .before .before .before .n .given .1) (c .letter .ensures)
+
+returns-2 : tie.Need-returns-2
+returns-2 c =
+    let p = c .before .before in
+    let f = p .before .before in
+    part-missing _ _ _ _ (f .before .trim-start .ensures) (f .find-non-digit .ensures) (p .parse .ensures) (c .enum-told .given .1)
+
+pub parse-verse-part-spec : {M : Type 1} → statement M
+parse-verse-part-spec =
+    tie.close
+    (tie.spec
+    trim-start-requires
+    find-non-digit-requires
+    slice-aggregate-parse
+    parse-requires
+    enum-known-n
+    cast-t9
+    sub-letter
+    part-letter-start
+    part-letter-end
+    letter-requires
+    enum-told
+    returns
+    returns-2)

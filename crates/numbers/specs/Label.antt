@@ -1,0 +1,55 @@
+-- Document 01, module 4: "A label is what the marker name has beyond its table name (glued), else the second word of the node's text."
+use Prim.Native.Nat.{ℕ, _-_}
+use mathlib.Core.Bool.{Bool, true, false, not}
+use mathlib.Core.List.{List}
+use mathlib.Core.Option.{Option, some, none}
+use lib.Dec.{eqb, ltb}
+use lib.ListN.{length, drop}
+use Rattle.text.specs.Pick.{both, either, cut}
+use Rattle.text.specs.Characters.{starts}
+use Rattle.text.specs.Words.{secondWord}
+use Rattle.tape.specs.Nodes.{count, kindAt, span}
+use Rattle.tape.specs.Reading.{Refusal, refuse, firstBad}
+use Rattle.table.specs.Entries.{Entry}
+use Rattle.cursor.specs.Names.{nameOf}
+use Rattle.cursor.specs.Info.{infoAt}
+use Rattle.numbers.specs.declared.LabelCheck.{LabelCheck}
+use Rattle.numbers.specs.declared.LabelCheck.the-variants as label
+
+-- how long the table's name is; without an entry there is nothing that the name could be longer than
+abbrev pub baseLen : Option Entry → List ℕ → ℕ
+baseLen none name = length name
+baseLen (some e) name = e .name .len
+
+-- the name is longer than the table's
+abbrev pub isGlued : Option Entry → List ℕ → Bool
+isGlued e name = ltb (baseLen e name) (length name)
+
+abbrev pub pickList : Bool → List ℕ → List ℕ → List ℕ
+pickList true a b = a
+pickList false a b = b
+
+-- of a node's entry and its text
+unfoldable pub labelOf : Option Entry → List ℕ → List ℕ
+labelOf e text = pickList (isGlued e (nameOf text)) (drop (baseLen e (nameOf text)) (nameOf text)) (cut (secondWord text) text)
+
+-- "longer than its table name and the cut splits a character"
+unfoldable pub splits : Option Entry → List ℕ → Bool
+splits e text = both (isGlued e (nameOf text)) (not (starts (nameOf text) (baseLen e (nameOf text))))
+
+-- Chapter and Verse
+abbrev pub numbered : ℕ → Bool
+numbered k = either (eqb k 3) (eqb k 4)
+
+-- 9: "A Chapter or Verse name is longer than its table name and the cut splits a character; place: that node."
+abbrev pub badLabel : List ℕ → List ℕ → List ℕ → ℕ → Bool
+badLabel table s t i = both (numbered (kindAt t i)) (splits (infoAt table t i) (cut (span t i) s))
+
+-- node 0 is the root
+unfoldable pub labelRefusal : List ℕ → List ℕ → List ℕ → Option Refusal
+labelRefusal table s t = firstBad 9 (badLabel table s t) 1 (count t - 1)
+
+-- what the answer says
+abbrev pub refusalOf : LabelCheck → Option Refusal
+refusalOf label.Good = none
+refusalOf (label.Split i) = refuse 9 i

@@ -1,0 +1,2 @@
+pub mod Verse
+pub mod Label

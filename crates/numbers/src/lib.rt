@@ -1,0 +1,222 @@
+// Chapter and verse numbers: labels, verse positions, and the order of verses.
+use table::Info;
+use text::Parsed;
+ghost use mathlib.Core.Path.{_≡_};
+ghost use Prim.Native.Nat.{_≤_};
+ghost use Rattle.tape.specs.Forest.{Accepted};
+ghost use Rattle.table.specs.Entries.{Indexed, infoOf};
+ghost use Rattle.cursor.specs.Names.{nameOf};
+ghost use Rattle.cursor.specs.Inner.{Spanned};
+ghost use Rattle.numbers.specs.Label.{baseLen, isGlued, labelOf, splits, numbered, badLabel, labelRefusal, refusalOf};
+ghost use Rattle.numbers.specs.Verse.{versePart, verseEnd, next, inSequence, letterOf, noEarlier, otherNumber, suffixOf, positionOf, readOf, Readable};
+
+// The letter of a verse position, `9a`, or none.
+pub enum Suffix {
+    Letter(u8),
+    None,
+}
+
+pub struct VersePart {
+    pub num: u64,
+    pub suffix: Suffix,
+}
+
+pub enum PartRead {
+    Is(VersePart),
+    NotRead,
+}
+
+// What the check of the labels finds: nothing, or the node whose name is cut inside a character (number 9).
+pub enum LabelCheck {
+    Good,
+    Split(usize),
+}
+
+// How long the table's name is; without an entry, the name's own length.
+fn base_len(info: Info, name: &[u8]) -> usize
+    ensures { λ r. ⌜ r ≡ baseLen (infoOf info) (now (name .entry)) ⌝ }
+{
+    match info {
+        Info::Known(m) => m.name_len,
+        Info::Missing => name.len(),
+    }
+}
+
+// Whether a chapter's or verse's number stands in its marker's name, `\v12`.
+pub fn is_glued(info: Info, text: &[u8]) -> bool
+    ensures { λ r. ⌜ r ≡ isGlued (infoOf info) (nameOf (now (text .entry))) ⌝ }
+{
+    let name = cursor::name_of(text);
+    base_len(info, name) < name.len()
+}
+
+// The number of a chapter or a verse as written: a part of the node's text.
+pub fn number_label(info: Info, text: &[u8]) -> &[u8]
+    ensures { λ r. ⌜ now r ≡ labelOf (infoOf info) (now (text .entry)) ⌝ }
+{
+    let name = cursor::name_of(text);
+    let base = base_len(info, name);
+    if base < name.len() {
+        return &name[base..];
+    }
+    text::second_word(text)
+}
+
+fn label_splits(info: Info, text: &[u8]) -> bool
+    ensures { λ r. ⌜ r ≡ splits (infoOf info) (now (text .entry)) ⌝ }
+{
+    let name = cursor::name_of(text);
+    let base = base_len(info, name);
+    if base < name.len() {
+        return !text::is_char_boundary(name, base);
+    }
+    false
+}
+
+fn is_numbered(kind: u8) -> bool
+    ensures { λ r. ⌜ r ≡ numbered kind ⌝ }
+{
+    if kind == 3 { true } else { kind == 4 }
+}
+
+fn bad_label(
+    table: &[u8],
+    words: &[u64],
+    count: usize,
+    source: &[u8],
+    tape: &[u8],
+    i: usize,
+) -> bool
+    requires { ⌜ (Indexed (now table) (now words) count) × (Spanned (now source) (now tape) i) ⌝ }
+    ensures { λ r. ⌜ r ≡ badLabel (now (table .entry)) (now (source .entry)) (now (tape .entry)) i ⌝ }
+{
+    if !is_numbered(tape::kind_at(tape, i)) {
+        return false;
+    }
+    let info = cursor::marker_info(table, words, count, tape, i);
+    label_splits(info, cursor::text(source, tape, i))
+}
+
+// Number 9, over a tape that numbers 4 to 8 pass.
+pub fn label_check(
+    table: &[u8],
+    words: &[u64],
+    count: usize,
+    source: &[u8],
+    tape: &[u8],
+) -> LabelCheck
+    requires { ⌜ (Indexed (now table) (now words) count) × (Accepted (now source) (now tape)) ⌝ }
+    ensures { λ r. ⌜ refusalOf r ≡ labelRefusal (now (table .entry)) (now (source .entry)) (now (tape .entry)) ⌝ }
+{
+    let n = tape.len() / 16;
+    let mut i: usize = 1;
+    while i < n {
+        if bad_label(table, words, count, source, tape, i) {
+            return LabelCheck::Split(i);
+        }
+        i += 1;
+    }
+    LabelCheck::Good
+}
+
+// The lower-case letter that the text begins with.
+fn letter(s: &[u8]) -> Suffix
+    ensures { λ r. ⌜ suffixOf r ≡ letterOf (now (s .entry)) ⌝ }
+{
+    if s.len() == 0 {
+        return Suffix::None;
+    }
+    let b = s[0];
+    if text::holds(b, 0x61, 0x7A) {
+        Suffix::Letter(b)
+    } else {
+        Suffix::None
+    }
+}
+
+pub fn parse_verse_part(s: &[u8]) -> PartRead
+    ensures { λ r. ⌜ readOf r ≡ versePart (now (s .entry)) ⌝ }
+{
+    let rest = text::trim_start(s);
+    let end = text::find_non_digit(rest);
+    match text::parse(&rest[..end]) {
+        Parsed::Value(n) => PartRead::Is(VersePart {
+            num: n as u64,
+            suffix: letter(&rest[end..]),
+        }),
+        Parsed::NotANumber => PartRead::NotRead,
+    }
+}
+
+pub fn parse_verse_range_end(s: &[u8]) -> PartRead
+    ensures { λ r. ⌜ readOf r ≡ verseEnd (now (s .entry)) ⌝ }
+{
+    let at = text::find_byte(s, b'-');
+    if at < s.len() {
+        parse_verse_part(&s[at + 1..])
+    } else {
+        parse_verse_part(s)
+    }
+}
+
+pub fn next_expected(p: VersePart) -> VersePart
+    requires { ⌜ Readable (positionOf p) ⌝ }
+    ensures { λ r. ⌜ positionOf r ≡ next (positionOf p) ⌝ }
+{
+    let suffix = p.suffix;
+    match suffix {
+        Suffix::Letter(b) => VersePart {
+            num: p.num,
+            suffix: Suffix::Letter(b + 1),
+        },
+        Suffix::None => VersePart {
+            num: p.num + 1,
+            suffix: Suffix::None,
+        },
+    }
+}
+
+fn no_earlier(expected: Suffix, actual: Suffix) -> bool
+    ensures { λ r. ⌜ r ≡ noEarlier (suffixOf expected) (suffixOf actual) ⌝ }
+{
+    match expected {
+        Suffix::None => true,
+        Suffix::Letter(a) => match actual {
+            Suffix::None => false,
+            Suffix::Letter(b) => a <= b,
+        },
+    }
+}
+
+// Whether a position with another number than the expected one may stand there: `10` after `9a`, and `9a` after `9`.
+fn other_number(expected: VersePart, actual: VersePart) -> bool
+    requires { ⌜ (expected .num ≤ 4294967296) × (actual .num ≤ 4294967296) ⌝ }
+    ensures { λ r. ⌜ r ≡ otherNumber (suffixOf (expected .suffix)) (expected .num) (suffixOf (actual .suffix)) (actual .num) ⌝ }
+{
+    let wanted = expected.suffix;
+    let given = actual.suffix;
+    match wanted {
+        Suffix::Letter(_) => actual.num == expected.num + 1,
+        Suffix::None => match given {
+            Suffix::None => false,
+            Suffix::Letter(_) => if 1 <= actual.num {
+                actual.num + 1 == expected.num
+            } else {
+                false
+            },
+        },
+    }
+}
+
+pub fn is_valid_verse_sequence(expected: VersePart, actual: VersePart) -> bool
+    requires { ⌜ (expected .num ≤ 4294967296) × (actual .num ≤ 4294967296) ⌝ }
+    ensures { λ r. ⌜ r ≡ inSequence (positionOf expected) (positionOf actual) ⌝ }
+{
+    let wanted = expected.suffix;
+    let given = actual.suffix;
+    if actual.num == expected.num {
+        no_earlier(wanted, given)
+    } else {
+        other_number(expected, actual)
+    }
+}
