@@ -73,6 +73,8 @@ unsafe extern "C" {
     fn compared_part_letter(s: *const c_uchar, n: usize) -> u8;
     fn compared_end_number(s: *const c_uchar, n: usize) -> u64;
     fn compared_end_letter(s: *const c_uchar, n: usize) -> u8;
+    fn compared_cell_start(name: *const c_uchar, n: usize) -> u64;
+    fn compared_cell_end(name: *const c_uchar, n: usize) -> u64;
     fn compared_sequence(expected: u64, wanted: u8, actual: u64, given: u8) -> bool;
 }
 
@@ -272,4 +274,10 @@ pub fn parse_verse_range_end(label: &[u8]) -> Option<(u32, u8)> {
 
 pub fn is_valid_verse_sequence(expected: (u32, u8), actual: (u32, u8)) -> bool {
     unsafe { compared_sequence(expected.0.into(), expected.1, actual.0.into(), actual.1) }
+}
+
+pub fn table_cell_columns(name: &[u8]) -> Option<(u32, u32)> {
+    let (s, n) = (name.as_ptr(), name.len());
+    let start = small(unsafe { compared_cell_start(s, n) })?;
+    Some((start, small(unsafe { compared_cell_end(s, n) })?))
 }

@@ -4,6 +4,7 @@ use mathlib.Core.Bool.{Bool}
 use mathlib.Core.Option.{Option, some, none}
 use lib.Dec.{leb}
 use Rattle.numbers.specs.Verse.{Position}
+use Rattle.rows.specs.Cells.{Range}
 
 -- the number, or another that stands for none
 abbrev pub orElse : ℕ → Option ℕ → ℕ
@@ -27,3 +28,12 @@ positionTold n (suc b) = record { number = n; letter = some (suc b) }
 -- the number is at most 4,294,967,296, which the number after one that is read can be
 abbrev pub low : ℕ → Bool
 low n = leb n 4294967296
+
+-- the first and the last column of a cell
+abbrev pub startTold : Option Range → ℕ
+startTold (some r) = r .start
+startTold none = 4294967296
+
+abbrev pub endTold : Option Range → ℕ
+endTold (some r) = r .end
+endTold none = 4294967296

@@ -4,6 +4,7 @@ use cursor::Place;
 use numbers::PartRead;
 use numbers::Suffix;
 use numbers::VersePart;
+use rows::Cell;
 use table::Book;
 use table::BookId;
 use table::Category;
@@ -21,7 +22,8 @@ ghost use mathlib.Core.Bool.{true, not};
 ghost use Prim.Native.Nat.{_+_, _*_, _%_, _<_};
 ghost use lib.Dec.{eqb};
 ghost use lib.ListN.{length, drop};
-ghost use Rattle.compared.specs.Told.{orElse, numberTold, letterTold, positionTold, low};
+ghost use Rattle.compared.specs.Told.{orElse, numberTold, letterTold, positionTold, low, startTold, endTold};
+ghost use Rattle.rows.specs.Cells.{cellColumns, cellOf};
 ghost use Rattle.numbers.specs.Verse.{readOf, positionOf, suffixOf, versePart, verseEnd, next, inSequence};
 ghost use Rattle.text.specs.Pick.{both, cut};
 ghost use Rattle.text.specs.Utf8.{firstIllFormed, decode};
@@ -437,4 +439,36 @@ pub extern "C" fn compared_sequence(expected: u64, wanted: u8, actual: u64, give
         return false;
     }
     numbers::is_valid_verse_sequence(position(expected, wanted), position(actual, given))
+}
+
+fn cell_start(cell: Cell) -> u64
+    ensures { λ r. ⌜ r ≡ startTold (cellOf cell) ⌝ }
+{
+    match cell {
+        Cell::At(c) => c.start as u64,
+        Cell::NoColumns => 4294967296,
+    }
+}
+
+fn cell_end(cell: Cell) -> u64
+    ensures { λ r. ⌜ r ≡ endTold (cellOf cell) ⌝ }
+{
+    match cell {
+        Cell::At(c) => c.end as u64,
+        Cell::NoColumns => 4294967296,
+    }
+}
+
+#[no_mangle]
+pub extern "C" fn compared_cell_start(name: &[u8]) -> u64
+    ensures { λ r. ⌜ r ≡ startTold (cellColumns (now (name .entry))) ⌝ }
+{
+    cell_start(rows::table_cell_columns(name))
+}
+
+#[no_mangle]
+pub extern "C" fn compared_cell_end(name: &[u8]) -> u64
+    ensures { λ r. ⌜ r ≡ endTold (cellColumns (now (name .entry))) ⌝ }
+{
+    cell_end(rows::table_cell_columns(name))
 }

@@ -117,7 +117,7 @@ pub fn same(a: &[u8], b: &[u8]) -> bool
     true
 }
 
-fn starts_with(s: &[u8], key: &[u8]) -> bool
+pub fn starts_with(s: &[u8], key: &[u8]) -> bool
     ensures { λ r. ⌜ r ≡ starting (now (key .entry)) (now (s .entry)) ⌝ }
 {
     let n = key.len();

@@ -1,4 +1,4 @@
-//! Compares the library's reading and ordering of verse positions with the published functions.
+//! Compares the library's reading and ordering of verse positions, and the columns of cells, with the published functions.
 //! Exit status 1 at the first difference.
 
 use std::process::exit;
@@ -42,6 +42,30 @@ const PIECES: [&str; 30] = [
     "",
 ];
 
+/// What the names of cells are made of.
+const CELLS: [&str; 20] = [
+    "th",
+    "tc",
+    "tr",
+    "t",
+    "r",
+    "c",
+    "r",
+    "c",
+    "1",
+    "2",
+    "10",
+    "-",
+    "-",
+    "+",
+    "+3",
+    "4294967295",
+    "4294967296",
+    "0",
+    "é",
+    "",
+];
+
 /// The numbers of positions that stand close together, and two at the end.
 const NUMBERS: [u32; 8] = [0, 1, 2, 3, 9, 10, u32::MAX - 2, u32::MAX - 1];
 
@@ -50,6 +74,12 @@ const LETTERS: [u8; 7] = [0, 1, b'`', b'a', b'b', b'z', b'{'];
 
 fn label(rng: &mut Rng) -> String {
     (0..rng.below(6)).map(|_| rng.pick(&PIECES)).collect()
+}
+
+fn cell(rng: &mut Rng) -> String {
+    let letters = rng.pick(&CELLS[..3]);
+    let rest: String = (0..rng.below(5)).map(|_| rng.pick(&CELLS)).collect();
+    format!("{letters}{rest}")
 }
 
 fn every_order() -> u64 {
@@ -80,9 +110,18 @@ fn main() {
     }
     let pairs = every_order();
     let mut rng = Rng::new(seed);
-    let mut read = 0u64;
+    let (mut read, mut numbered) = (0u64, 0u64);
     let mut expected = (1, 0);
     for _ in 0..labels {
+        let cell = cell(&mut rng);
+        let columns = parts::table_cell_columns(&cell);
+        same(
+            "table_cell_columns",
+            &cell,
+            library::table_cell_columns(cell.as_bytes()),
+            columns,
+        );
+        numbered += u64::from(columns.is_some());
         let label = label(&mut rng);
         let s = label.as_bytes();
         let start = parts::parse_verse_part(&label);
@@ -116,6 +155,6 @@ fn main() {
         }
     }
     println!(
-        "numbers: no difference on {pairs} pairs of positions and {labels} labels from seed {seed}, {read} of them read and put in order"
+        "numbers: no difference on {pairs} pairs of positions and {labels} labels from seed {seed}, {read} of them read and put in order, and on as many names of cells, {numbered} of them with columns"
     );
 }
