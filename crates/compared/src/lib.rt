@@ -21,7 +21,9 @@ ghost use mathlib.Core.Path.{_≡_};
 ghost use mathlib.Core.Bool.{true, not};
 ghost use Prim.Native.Nat.{_+_, _*_, _%_, _<_};
 ghost use lib.Dec.{eqb};
-ghost use lib.ListN.{length, drop};
+ghost use lib.ListN.{length, take, drop};
+ghost use Rattle.table.specs.Bytes.{oneOf};
+ghost use Rattle.table.specs.Names.{frontMatter, noteOnly, strippedLength};
 ghost use Rattle.compared.specs.Told.{orElse, numberTold, letterTold, positionTold, low, startTold, endTold};
 ghost use Rattle.rows.specs.Cells.{cellColumns, cellOf};
 ghost use Rattle.numbers.specs.Verse.{readOf, positionOf, suffixOf, versePart, verseEnd, next, inSequence};
@@ -316,7 +318,9 @@ pub extern "C" fn compared_marker_info(table: &[u8], tape: &[u8], i: usize) -> u
 }
 
 #[no_mangle]
-pub extern "C" fn compared_strip_level_suffix(name: &[u8], out: &mut [u8]) -> usize {
+pub extern "C" fn compared_strip_level_suffix(name: &[u8], out: &mut [u8]) -> usize
+    ensures { λ r. ⌜ r ≡ length (take (strippedLength (now (name .entry))) (now (name .entry))) ⌝ }
+{
     copy(table::strip_level_suffix(name), out)
 }
 
@@ -345,12 +349,16 @@ pub extern "C" fn compared_book(code: &[u8]) -> u16 {
 }
 
 #[no_mangle]
-pub extern "C" fn compared_is_front_matter_code(code: &[u8]) -> bool {
+pub extern "C" fn compared_is_front_matter_code(code: &[u8]) -> bool
+    ensures { λ r. ⌜ r ≡ oneOf frontMatter (now (code .entry)) ⌝ }
+{
     table::is_front_matter_code(code)
 }
 
 #[no_mangle]
-pub extern "C" fn compared_is_note_only_marker(name: &[u8]) -> bool {
+pub extern "C" fn compared_is_note_only_marker(name: &[u8]) -> bool
+    ensures { λ r. ⌜ r ≡ oneOf noteOnly (now (name .entry)) ⌝ }
+{
     table::is_note_only_marker(name)
 }
 

@@ -16,7 +16,6 @@ use Rattle.text.specs.Characters.{findByte}
 use Rattle.text.specs.Words.{trimStart}
 use Rattle.text.specs.Number.{digit, digits, numberOf}
 use Rattle.text.specs.Number as number
-use Rattle.text.proofs.Chars.{byte-le}
 use Rattle.text.proofs.Cuts.{rest-all}
 use Rattle.numbers.specs.declared.Suffix.{Suffix}
 use Rattle.numbers.specs.declared.Suffix.the-variants.{Letter, None}
@@ -59,9 +58,6 @@ letter-by (b ∷ s) x v l e h = ap (λ (t : Bool). pickOption t (some b) none) (
 -- a run of digits has no `+` before it
 no-plus : (b : ℕ) → digit b ≡ true → eqb b 0x2B ≡ false
 no-plus b h = ne-eqb b 0x2B (λ e. false≢true (ap digit (sym e) ∙ h))
-
-pub end-le : (t : List ℕ) (e : ℕ) → e ≡ digitsEnd t → e ≤ length t
-end-le t e h = rw h (byte-le (λ b. not (digit b)) t)
 
 pub digits-parsed : (t : List ℕ) → number.parsed (take (digitsEnd t) t) ≡ digits (take (digitsEnd t) t)
 unfolding findByte number.parsed digits

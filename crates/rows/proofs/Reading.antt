@@ -7,13 +7,11 @@ use mathlib.Core.List.{List, [], _∷_}
 use mathlib.Core.Option.{Option, some, none}
 use native.Mathlib.Omega.{arith}
 use borrow.Author.Tests.{lt-ltb, le-ltb, not-true, not-false}
-use lib.Dec.{eqb}
 use lib.ListN.{length, getD, take, drop}
 use Rattle.text.specs.Pick.{either, pickNat}
 use Rattle.text.specs.Number.{parsed, numberOf}
 use Rattle.text.specs.declared.Parsed.{Parsed}
 use Rattle.text.specs.declared.Parsed.the-variants.{Value}
-use Rattle.text.proofs.Chars.{byte-le}
 use Rattle.text.proofs.Cuts.{rest-all}
 use Rattle.table.specs.Bytes.{starting}
 use Rattle.table.proofs.Words.{starts-long}
@@ -44,9 +42,6 @@ cell-long s h = go (starting (0x74 ∷ 0x68 ∷ []) s) refl h
 
 pub both-numbers : (a b : Parsed) (m n : ℕ) → a ≡ Value m → b ≡ Value n → some (record { start = m; end = n }) ≡ pair (numberOf a) (numberOf b)
 both-numbers a b m n p q = rw p (rw q refl)
-
-pub hyphen-le : (s : List ℕ) (at : ℕ) → at ≡ hyphen s → at ≤ length s
-hyphen-le s at h = rw h (byte-le (eqb 0x2D) s)
 
 module _ (s : List ℕ) (at : ℕ) (is : at ≡ hyphen s) where
   pub two-columns : (a b : Parsed) (x : Option Range) → at < length s → numberOf a ≡ parsed (take at s) → numberOf b ≡ parsed (take (length s - (at + 1)) (drop (at + 1) s)) → x ≡ pair (numberOf a) (numberOf b) → x ≡ columnsIn s

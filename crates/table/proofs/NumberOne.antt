@@ -14,7 +14,7 @@ use borrow.Author.Tests.{eqb-false, ne-eqb}
 use Rattle.text.specs.Pick.{pickOption}
 use Rattle.text.proofs.Rows.{both-left, both-right}
 use Rattle.table.specs.Lines.{Line, lines, goodLine, badFrom, badTable}
-use Rattle.table.specs.Inner.{goodFrom, NumberOne}
+use Rattle.table.specs.Conditions.{goodFrom, NumberOne}
 
 -- the same of the lines from number k on
 record Bad (k : ℕ) (ls : List Line) (p : ℕ) : Type 0 where

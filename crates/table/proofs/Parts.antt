@@ -13,7 +13,7 @@ use lib.Seq.{drop-drop}
 use borrow.Author.Tests.{lt-ltb, eq-eqb, ne-eqb, eqb-true, eqb-false}
 use Rattle.text.specs.Pick.{pickNat}
 use Rattle.text.specs.Characters.{findByte}
-use Rattle.text.proofs.Chars.{byte-le}
+use Rattle.text.proofs.Chars.{found-le}
 use Rattle.text.proofs.Cuts.{rest-all}
 use Rattle.table.specs.Bytes.{equal}
 use Rattle.table.specs.Lines.{Line, lines, onFirst, lineBy}
@@ -73,7 +73,7 @@ module _ (t : List ℕ) (at : ℕ) where
 -- the first byte 10 from a place on, as it is searched for
 module _ (l : List ℕ) (at n : ℕ) (is : n ≡ width (take (length l - at) (drop at l))) where
   pub break-le : n ≤ length (take (length l - at) (drop at l))
-  break-le = rw is (byte-le (eqb 10) (take (length l - at) (drop at l)))
+  break-le = found-le (eqb 10) (take (length l - at) (drop at l)) n is
 
   module _ (h : at ≤ length l) where
     pub break-inside : at + n ≤ length l

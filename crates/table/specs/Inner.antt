@@ -1,16 +1,15 @@
 -- What the functions inside the crate promise.
-use Prim.Native.Nat.{ℕ, zero, suc, _+_, _*_, _%_, _<_, _≤_}
+use Prim.Native.Nat.{ℕ, zero, suc, _+_, _*_, _<_, _≤_}
 use mathlib.Core.Path.{_≡_}
 use mathlib.Core.Bool.{Bool, true, false}
-use mathlib.Core.List.{List, [], _∷_, _++_}
-use mathlib.Core.Logic.{_⊎_}
+use mathlib.Core.List.{List, [], _∷_}
 use mathlib.Core.Option.{Option, some, none}
 use lib.Dec.{eqb, ltb}
 use lib.ListN.{length, take, drop}
-use Rattle.text.specs.Pick.{both, pickOption}
+use Rattle.text.specs.Pick.{pickOption}
 use Rattle.text.specs.Characters.{findByte}
 use Rattle.table.specs.Bytes.{starting, beyond}
-use Rattle.table.specs.Lines.{Line, lines, goodLine, nameKey, categoryKey, roleKey, categories, roles, goodName, badFrom}
+use Rattle.table.specs.Lines.{lines, nameKey, categoryKey, roleKey, categories, roles, goodName, badFrom}
 use Rattle.table.specs.Entries.{Entry, entriesOf, pack, Sound}
 use Rattle.table.specs.declared.Value.{Value}
 use Rattle.table.specs.declared.Value.the-variants as value
@@ -126,26 +125,3 @@ stripped t s = pickOption (ltb (strippedLength s) (length s)) (named t (take (st
 
 abbrev pub unglued : List ℕ → List ℕ → Option ℕ
 unglued t s = pickOption (glued s) (named t (take 1 s)) none
-
--- number 1's place: the first byte of the first bad line
-unfoldable pub goodFrom : ℕ → List Line → Bool
-goodFrom k [] = true
-goodFrom k (l ∷ ls) = both (goodLine k l) (goodFrom (suc k) ls)
-
-pub record BadLine (t : List ℕ) (p : ℕ) : Type 0 where
-  pub before : List Line
-  pub line : Line
-  pub after : List Line
-  pub all : lines 0 t ≡ before ++ (line ∷ after)
-  pub good : goodFrom 0 before ≡ true
-  pub bad : goodLine (length before) line ≡ false
-  pub place : line .at ≡ p
-
--- or the text's length, where no line is bad and a triple is unfinished
-pub record Unfinished (t : List ℕ) (p : ℕ) : Type 0 where
-  pub good : goodFrom 0 (lines 0 t) ≡ true
-  pub unfinished : length (lines 0 t) % 3 ≡ 0 → ⊥
-  pub place : length t ≡ p
-
-abbrev pub NumberOne : List ℕ → ℕ → Type 0
-NumberOne t p = BadLine t p ⊎ Unfinished t p

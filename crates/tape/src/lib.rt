@@ -1,4 +1,4 @@
-// The tape: nodes of 16 bytes, the check of numbers 4 to 8, and the cursor.
+// The tape: nodes of 16 bytes, and the check of numbers 4 to 8.
 ghost use mathlib.Core.Path.{_≡_};
 ghost use mathlib.Core.Bool.{not};
 ghost use Prim.Native.Nat.{_+_, _<_, _≤_};

@@ -84,3 +84,6 @@ byte-le p (b ∷ s) = go (p b) (byte-le p s)
     go : (t : Bool) → findByte p s ≤ length s → pickNat t 0 (suc (findByte p s)) ≤ suc (length s)
     go true h = omega arith
     go false h = omega arith
+
+pub found-le : (p : ℕ → Bool) (s : List ℕ) (at : ℕ) → at ≡ findByte p s → at ≤ length s
+found-le p s at h = rw h (byte-le p s)

@@ -2,8 +2,8 @@
 use borrow.Author.Needs.{needs}
 use lib.Seq.{length-take-le}
 use mathlib.Core.Path.{sym}
-use Rattle.numbers.proofs.Parts.{end-le, part-read, part-missing}
-use Rattle.text.proofs.Chars.{byte-le}
+use Rattle.numbers.proofs.Parts.{part-read, part-missing}
+use Rattle.text.proofs.Chars.{found-le}
 use Rattle.numbers.proofs.parse_verse_part.Statement.{statement}
 use Rattle.numbers.proofs.parse_verse_part.Tie as tie
 
@@ -14,7 +14,7 @@ find-non-digit-requires : tie.Need-find-non-digit-requires
 find-non-digit-requires c κs = search needs
 
 slice-aggregate-parse : tie.Need-slice-aggregate-parse
-slice-aggregate-parse c = sym (length-take-le _ _ (end-le _ _ (c .before .find-non-digit .ensures)))
+slice-aggregate-parse c = sym (length-take-le _ _ (found-le _ _ _ (c .before .find-non-digit .ensures)))
 
 parse-requires : tie.Need-parse-requires
 parse-requires c κs = search needs
@@ -26,11 +26,11 @@ cast-t9 : tie.Need-cast-t9
 cast-t9 c = search needs
 
 sub-letter : tie.Need-sub-letter
-sub-letter c = end-le _ _ (c .before .before .before .before .before .find-non-digit .ensures)
+sub-letter c = found-le _ _ _ (c .before .before .before .before .before .find-non-digit .ensures)
 
 part-letter-start : tie.Need-part-letter-start
 part-letter-start c =
-    let l = end-le _ _ (c .before .before .before .before .before .find-non-digit .ensures) in
+    let l = found-le _ _ _ (c .before .before .before .before .before .find-non-digit .ensures) in
     search needs
 
 part-letter-end : tie.Need-part-letter-end

@@ -3,8 +3,9 @@
 use borrow.Author.Needs.{needs}
 use denote.Ref.{now}
 use lib.Seq.{length-take-le}
+use Rattle.text.proofs.Chars.{found-le}
 use mathlib.Core.Path.{sym}
-use Rattle.rows.proofs.Reading.{hyphen-le, two-columns, one-column}
+use Rattle.rows.proofs.Reading.{two-columns, one-column}
 use Rattle.rows.proofs.columns_in.Statement.{statement}
 use Rattle.rows.proofs.columns_in.Tie as tie
 
@@ -12,7 +13,7 @@ find-byte-requires : tie.Need-find-byte-requires
 find-byte-requires c κs = search needs
 
 slice-aggregate-parse : tie.Need-slice-aggregate-parse
-slice-aggregate-parse c = sym (length-take-le _ _ (hyphen-le _ _ (c .before .before .find-byte .ensures)))
+slice-aggregate-parse c = sym (length-take-le _ _ (found-le _ _ _ (c .before .before .find-byte .ensures)))
 
 parse-requires : tie.Need-parse-requires
 parse-requires c κs = search needs
