@@ -61,7 +61,7 @@ pub fn overflow_is_noticed() -> bool {
     silently(|| std::hint::black_box(u32::MAX) + std::hint::black_box(1)).is_err()
 }
 
-fn found(diagnostic: Diagnostic) -> Found {
+pub(crate) fn found(diagnostic: Diagnostic) -> Found {
     Found {
         severity: match diagnostic.severity {
             Severity::Error => 0,

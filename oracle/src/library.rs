@@ -2,6 +2,8 @@
 
 use std::ffi::c_uchar;
 
+use crate::document::Document;
+
 #[link(name = "compared", kind = "static")]
 unsafe extern "C" {
     fn compared_utf8_check(s: *const c_uchar, n: usize) -> usize;
@@ -76,6 +78,73 @@ unsafe extern "C" {
     fn compared_cell_start(name: *const c_uchar, n: usize) -> u64;
     fn compared_cell_end(name: *const c_uchar, n: usize) -> u64;
     fn compared_sequence(expected: u64, wanted: u8, actual: u64, given: u8) -> bool;
+    fn compared_next_number(num: u64, letter: u8) -> u64;
+    fn compared_next_letter(num: u64, letter: u8) -> u8;
+    fn compared_label(
+        table: *const c_uchar,
+        table_len: usize,
+        source: *const c_uchar,
+        source_len: usize,
+        tape: *const c_uchar,
+        tape_len: usize,
+        i: usize,
+        out: *mut c_uchar,
+        room: usize,
+    ) -> usize;
+    fn compared_is_glued(
+        table: *const c_uchar,
+        table_len: usize,
+        source: *const c_uchar,
+        source_len: usize,
+        tape: *const c_uchar,
+        tape_len: usize,
+        i: usize,
+    ) -> bool;
+    fn compared_label_check(
+        table: *const c_uchar,
+        table_len: usize,
+        source: *const c_uchar,
+        source_len: usize,
+        tape: *const c_uchar,
+        tape_len: usize,
+    ) -> u64;
+    fn compared_row(
+        source: *const c_uchar,
+        source_len: usize,
+        tape: *const c_uchar,
+        tape_len: usize,
+        i: usize,
+        list: *mut u64,
+        room: usize,
+    ) -> u64;
+    fn compared_attributes(
+        source: *const c_uchar,
+        source_len: usize,
+        tape: *const c_uchar,
+        tape_len: usize,
+        i: usize,
+        list: *mut u64,
+        room: usize,
+    ) -> u64;
+    fn compared_attached(
+        source: *const c_uchar,
+        source_len: usize,
+        tape: *const c_uchar,
+        tape_len: usize,
+        parent: usize,
+        i: usize,
+        list: *mut u64,
+        room: usize,
+    ) -> u64;
+    fn compared_is_attached(
+        source: *const c_uchar,
+        source_len: usize,
+        tape: *const c_uchar,
+        tape_len: usize,
+        parent: usize,
+        i: usize,
+        at: u32,
+    ) -> bool;
 }
 
 pub fn utf8_check(s: &[u8]) -> usize {
@@ -276,8 +345,126 @@ pub fn is_valid_verse_sequence(expected: (u32, u8), actual: (u32, u8)) -> bool {
     unsafe { compared_sequence(expected.0.into(), expected.1, actual.0.into(), actual.1) }
 }
 
+/// The position after another; its number can be one past 32 bits.
+pub fn next_expected(of: (u32, u8)) -> (u64, u8) {
+    unsafe {
+        (
+            compared_next_number(of.0.into(), of.1),
+            compared_next_letter(of.0.into(), of.1),
+        )
+    }
+}
+
 pub fn table_cell_columns(name: &[u8]) -> Option<(u32, u32)> {
     let (s, n) = (name.as_ptr(), name.len());
     let start = small(unsafe { compared_cell_start(s, n) })?;
     Some((start, small(unsafe { compared_cell_end(s, n) })?))
+}
+
+/// The label of a chapter or a verse, and whether it is glued to its marker.
+pub fn number_label(document: &Document, i: usize) -> (Vec<u8>, bool) {
+    let (table, source, tape) = (&document.table, &document.source, &document.tape);
+    let mut out = vec![0; source.len()];
+    let n = unsafe {
+        compared_label(
+            table.as_ptr(),
+            table.len(),
+            source.as_ptr(),
+            source.len(),
+            tape.as_ptr(),
+            tape.len(),
+            i,
+            out.as_mut_ptr(),
+            out.len(),
+        )
+    };
+    out.truncate(n);
+    let glued = unsafe {
+        compared_is_glued(
+            table.as_ptr(),
+            table.len(),
+            source.as_ptr(),
+            source.len(),
+            tape.as_ptr(),
+            tape.len(),
+            i,
+        )
+    };
+    (out, glued)
+}
+
+/// The place that number 9 gives.
+pub fn label_check(document: &Document) -> Option<usize> {
+    let (table, source, tape) = (&document.table, &document.source, &document.tape);
+    place(unsafe {
+        compared_label_check(
+            table.as_ptr(),
+            table.len(),
+            source.as_ptr(),
+            source.len(),
+            tape.as_ptr(),
+            tape.len(),
+        )
+    })
+}
+
+type Finder = unsafe extern "C" fn(
+    *const c_uchar,
+    usize,
+    *const c_uchar,
+    usize,
+    usize,
+    *mut u64,
+    usize,
+) -> u64;
+
+/// The findings of an open node, eight words each, or `None` where it is no open node.
+fn findings(f: Finder, source: &[u8], tape: &[u8], i: usize) -> Option<Vec<[u64; 8]>> {
+    let (s, t) = (source.as_ptr(), tape.as_ptr());
+    let mut list = vec![0u64; tape.len() / 2];
+    // A second call where there are more findings than nodes.
+    let words = loop {
+        let (l, room) = (list.as_mut_ptr(), list.len());
+        let words = 8 * place(unsafe { f(s, source.len(), t, tape.len(), i, l, room) })?;
+        if words <= room {
+            break words;
+        }
+        list.resize(words, 0);
+    };
+    Some(
+        list[..words]
+            .chunks_exact(8)
+            .map(|words| words.try_into().expect("eight words"))
+            .collect(),
+    )
+}
+
+/// The findings of the cells of an open node.
+pub fn table_row(source: &[u8], tape: &[u8], i: usize) -> Option<Vec<[u64; 8]>> {
+    findings(compared_row, source, tape, i)
+}
+
+/// The findings of the attributes of an open node.
+pub fn attributes(source: &[u8], tape: &[u8], i: usize) -> Option<Vec<[u64; 8]>> {
+    findings(compared_attributes, source, tape, i)
+}
+
+/// The starts of the numbers attached to a chapter or a verse among a node's children, or `None` where it is none of them.
+pub fn attached_numbers(
+    source: &[u8],
+    tape: &[u8],
+    (parent, i): (usize, usize),
+) -> Option<Vec<u64>> {
+    let mut list = vec![0u64; 2];
+    let (s, t) = (source.as_ptr(), tape.as_ptr());
+    let (l, room) = (list.as_mut_ptr(), list.len());
+    let told = unsafe { compared_attached(s, source.len(), t, tape.len(), parent, i, l, room) };
+    list.truncate(place(told)?);
+    Some(list)
+}
+
+/// Whether a number that starts at the offset is attached to a node's child.
+pub fn is_attached(source: &[u8], tape: &[u8], (parent, i): (usize, usize), at: u32) -> bool {
+    let (s, t) = (source.as_ptr(), tape.as_ptr());
+    unsafe { compared_is_attached(s, source.len(), t, tape.len(), parent, i, at) }
 }

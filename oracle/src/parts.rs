@@ -2,7 +2,7 @@
 
 use crate::cst::Cursor;
 use crate::document::{Document, kind};
-use crate::judge::{with_published, with_table};
+use crate::judge::{Found, form_and_numbers, found, with_published, with_table};
 use crate::serialize::attached_numbers;
 use crate::serialize::vref::BookId;
 use crate::validate::VersePart;
@@ -104,21 +104,167 @@ fn seen(c: Cursor<'_>) -> Seen {
 /// nothing checks.
 pub fn seen_nodes(document: &Document) -> Vec<Seen> {
     let n = document.node_count();
+    with_published(document, |root| (1..n).map(|i| seen(at(root, i))).collect())
+}
+
+fn at(root: Cursor<'_>, i: usize) -> Cursor<'_> {
+    let mut c = root;
+    c.idx = i as u32;
+    c
+}
+
+fn is_open(c: Cursor<'_>) -> bool {
+    c.kind() as u8 == kind::MARKER_OPEN
+}
+
+fn is_anchor(c: Cursor<'_>) -> bool {
+    matches!(c.kind() as u8, kind::CHAPTER | kind::VERSE)
+}
+
+/// Each chapter and verse of a document that number 9 passes too: its label, and whether it is
+/// glued to its marker.
+pub fn labels(document: &Document) -> Vec<(usize, (Vec<u8>, bool))> {
+    let n = document.node_count();
     with_published(document, |root| {
-        let at = |i: usize| {
-            let mut c = root;
-            c.idx = i as u32;
-            c
-        };
-        (1..n).map(|i| seen(at(i))).collect()
+        let labelled = (1..n).map(|i| at(root, i)).filter(|&c| is_anchor(c));
+        labelled
+            .map(|c| {
+                let read = validate::number_label(c);
+                (c.idx as usize, (read.label.into(), read.glued))
+            })
+            .collect()
     })
+}
+
+/// A finding's severity, code, start, length, form and two numbers.
+pub type Told = [u64; 7];
+
+/// An open node taken as a row, whatever its name is.
+pub struct Row {
+    pub node: usize,
+    /// The children that have columns.
+    pub cells: usize,
+    /// `None` where a cell's last column is 4,294,967,295, after which the published sum leaves 32
+    /// bits.
+    pub findings: Option<Vec<Told>>,
+}
+
+/// What a function says of each open node.
+fn of_open_nodes<T>(document: &Document, says: fn(Cursor<'_>) -> T) -> Vec<T> {
+    let n = document.node_count();
+    with_published(document, |root| {
+        let nodes = (1..n).map(|i| at(root, i)).filter(|&c| is_open(c));
+        nodes.map(says).collect()
+    })
+}
+
+/// Each open node as a row.
+pub fn rows(document: &Document) -> Vec<Row> {
+    of_open_nodes(document, row)
+}
+
+fn row(tr: Cursor<'_>) -> Row {
+    let children = tr.children().filter(|&c| is_open(c));
+    let ends: Vec<u32> = children
+        .filter_map(|c| table_cell_columns(c.marker_name()))
+        .map(|(_, end)| end)
+        .collect();
+    Row {
+        node: tr.idx as usize,
+        cells: ends.len(),
+        findings: (!ends.contains(&u32::MAX)).then(|| row_findings(tr)),
+    }
+}
+
+fn row_findings(tr: Cursor<'_>) -> Vec<Told> {
+    let mut list = Vec::new();
+    validate::validate_table_row(tr, &mut list);
+    list.into_iter().map(|one| told(found(one))).collect()
+}
+
+fn told(it: Found) -> Told {
+    let (form, first, second) = form_and_numbers(it.code, &it.message).expect("a known message");
+    let [severity, code, start, len] = [it.severity, it.code, it.start, it.len].map(u64::from);
+    [severity, code, start, len, form, first, second]
+}
+
+/// The attributes of an open node.
+pub struct Attributes {
+    pub node: usize,
+    /// The children that are Attributes.
+    pub children: Vec<usize>,
+    pub findings: Vec<Told>,
+}
+
+/// The attributes of each open node.
+pub fn attributes(document: &Document) -> Vec<Attributes> {
+    of_open_nodes(document, attributes_of)
+}
+
+fn attributes_of(owner: Cursor<'_>) -> Attributes {
+    let is_attribute = |c: &Cursor<'_>| c.kind() as u8 == kind::ATTRIBUTE;
+    let mut list = Vec::new();
+    validate::validate_attributes(owner, owner.marker_name(), &mut list);
+    Attributes {
+        node: owner.idx as usize,
+        children: owner
+            .children()
+            .filter(is_attribute)
+            .map(|c| c.idx as usize)
+            .collect(),
+        findings: list
+            .into_iter()
+            .map(|one| with_owner(told(found(one)), owner))
+            .collect(),
+    }
+}
+
+/// Code 32's first number is the owner's node, which the published code doesn't say.
+fn with_owner([severity, code, start, len, form, first, second]: Told, owner: Cursor<'_>) -> Told {
+    let first = if code == 32 { owner.idx.into() } else { first };
+    [severity, code, start, len, form, first, second]
+}
+
+/// A chapter or a verse among the children of the root or of an open node.
+pub struct Anchor {
+    pub parent: usize,
+    pub node: usize,
+    /// The starts of the numbers attached to it.
+    pub starts: Vec<u64>,
+    /// The start of each of the next siblings, up to four, and whether it is attached as a number.
+    pub after: Vec<(u32, bool)>,
+}
+
+pub fn anchors(document: &Document) -> Vec<Anchor> {
+    let n = document.node_count();
+    with_published(document, |root| {
+        let inner = (1..n).map(|i| at(root, i)).filter(|&c| is_open(c));
+        let parents = std::iter::once(root).chain(inner);
+        parents.flat_map(anchors_of).collect()
+    })
+}
+
+fn anchors_of(parent: Cursor<'_>) -> Vec<Anchor> {
+    let children = parent.children().filter(|&c| is_anchor(c));
+    let anchor = |c: Cursor<'_>| Anchor {
+        parent: parent.idx as usize,
+        node: c.idx as usize,
+        starts: attached_numbers(c)
+            .map(|number| number.span().start.into())
+            .collect(),
+        after: std::iter::successors(c.next_sibling(), |c| c.next_sibling())
+            .take(4)
+            .map(|number| (number.span().start, validate::is_attached(c, number)))
+            .collect(),
+    };
+    children.map(anchor).collect()
 }
 
 /// The numbers attached to the chapters and verses that stand among the root's children.
 pub fn attached_at_top(document: &Document) -> usize {
     with_published(document, |root| {
         root.children()
-            .filter(|c| matches!(c.kind() as u8, kind::CHAPTER | kind::VERSE))
+            .filter(|&c| is_anchor(c))
             .map(|anchor| attached_numbers(anchor).count())
             .sum()
     })

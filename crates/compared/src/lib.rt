@@ -1,6 +1,9 @@
 // Functions of the library under C names, for the program that compares them with the Rust's. Nothing is asked of a caller but valid slices.
+use attachment::Attached;
 use cursor::NumberRead;
 use cursor::Place;
+use findings::Counts;
+use numbers::LabelCheck;
 use numbers::PartRead;
 use numbers::Suffix;
 use numbers::VersePart;
@@ -19,12 +22,13 @@ use text::Parsed;
 use text::Utf8;
 ghost use mathlib.Core.Path.{_≡_};
 ghost use mathlib.Core.Bool.{true, not};
-ghost use Prim.Native.Nat.{_+_, _*_, _%_, _<_};
+ghost use Prim.Native.Nat.{_+_, _*_, _%_, _<_, _≤_};
 ghost use lib.Dec.{eqb};
 ghost use lib.ListN.{length, take, drop};
 ghost use Rattle.table.specs.Bytes.{oneOf};
 ghost use Rattle.table.specs.Names.{frontMatter, noteOnly, strippedLength};
-ghost use Rattle.compared.specs.Told.{orElse, numberTold, letterTold, positionTold, low, startTold, endTold};
+ghost use Rattle.compared.specs.Told.{orElse, numberTold, letterTold, positionTold, nextTold, low, startTold, endTold};
+ghost use Rattle.compared.specs.Inner.{Child, Holds, Anchored};
 ghost use Rattle.rows.specs.Cells.{cellColumns, cellOf};
 ghost use Rattle.numbers.specs.Verse.{readOf, positionOf, suffixOf, versePart, verseEnd, next, inSequence};
 ghost use Rattle.text.specs.Pick.{both, cut};
@@ -33,7 +37,10 @@ ghost use Rattle.text.specs.Blank.{blank};
 ghost use Rattle.text.specs.Characters.{find, findByte, starts};
 ghost use Rattle.text.specs.Words.{trimStart, trim, firstWord, secondWord};
 ghost use Rattle.text.specs.Number.{digit, parsed};
-ghost use Rattle.cursor.specs.Inner.{Spanned};
+ghost use Rattle.tape.specs.Reading.{isNone, tapeRefusal};
+ghost use Rattle.cursor.specs.Inner.{Spanned, Run};
+ghost use Rattle.findings.specs.Written.{total, limit};
+ghost use Rattle.attachment.specs.Attached.{startsOf};
 
 // The place of the first ill-formed sequence, or the length.
 #[no_mangle]
@@ -449,6 +456,38 @@ pub extern "C" fn compared_sequence(expected: u64, wanted: u8, actual: u64, give
     numbers::is_valid_verse_sequence(position(expected, wanted), position(actual, given))
 }
 
+fn next_told(num: u64, letter: u8) -> VersePart
+    ensures { λ r. ⌜ positionOf r ≡ nextTold num letter ⌝ }
+{
+    let p = position(num, letter);
+    if 4294967295 < num {
+        return p;
+    }
+    if letter == 255 {
+        return p;
+    }
+    numbers::next_expected(p)
+}
+
+// The position after another, or that one itself where its number is past 4,294,967,295 or its letter is byte 255: no label has
+// these.
+#[no_mangle]
+pub extern "C" fn compared_next_number(num: u64, letter: u8) -> u64
+    ensures { λ r. ⌜ r ≡ nextTold num letter .number ⌝ }
+{
+    let p = next_told(num, letter);
+    p.num
+}
+
+#[no_mangle]
+pub extern "C" fn compared_next_letter(num: u64, letter: u8) -> u8
+    ensures { λ r. ⌜ r ≡ orElse 0 (nextTold num letter .letter) ⌝ }
+{
+    let p = next_told(num, letter);
+    let suffix = p.suffix;
+    letter_told(suffix)
+}
+
 fn cell_start(cell: Cell) -> u64
     ensures { λ r. ⌜ r ≡ startTold (cellOf cell) ⌝ }
 {
@@ -479,4 +518,261 @@ pub extern "C" fn compared_cell_end(name: &[u8]) -> u64
     ensures { λ r. ⌜ r ≡ endTold (cellColumns (now (name .entry))) ⌝ }
 {
     cell_end(rows::table_cell_columns(name))
+}
+
+// Whether numbers 4 to 8 pass a tape.
+fn accepted(source: &[u8], tape: &[u8]) -> bool
+    ensures { λ r. ⌜ r ≡ isNone (tapeRefusal (now (source .entry)) (now (tape .entry))) ⌝ }
+{
+    match tape::tape_check(source, tape) {
+        TapeCheck::Good => true,
+        TapeCheck::Length => false,
+        TapeCheck::Kind(_) => false,
+        TapeCheck::Span(_) => false,
+        TapeCheck::Links(_) => false,
+        TapeCheck::Deep(_) => false,
+    }
+}
+
+// Whether a number is one of a node, the root not among them, of an accepted tape.
+fn is_node(source: &[u8], tape: &[u8], i: usize) -> bool
+    ensures { λ r. ⌜ (r ≡ true → Child (now (source .entry)) (now (tape .entry)) i) ⌝ }
+{
+    if i == 0 {
+        return false;
+    }
+    if tape.len() / 16 <= i {
+        return false;
+    }
+    accepted(source, tape)
+}
+
+// The label of a node, read as that of a chapter or a verse, or nothing where table or tape is turned back or there is no such
+// node.
+#[no_mangle]
+pub extern "C" fn compared_label(
+    table: &[u8],
+    source: &[u8],
+    tape: &[u8],
+    i: usize,
+    out: &mut [u8],
+) -> usize {
+    let mut words = [0u64; 512];
+    let Layout::Good(n) = table::index(table, &mut words) else {
+        return 0;
+    };
+    if !is_node(source, tape, i) {
+        return 0;
+    }
+    let info = cursor::marker_info(table, &words, n, tape, i);
+    copy(
+        numbers::number_label(info, cursor::text(source, tape, i)),
+        out,
+    )
+}
+
+#[no_mangle]
+pub extern "C" fn compared_is_glued(table: &[u8], source: &[u8], tape: &[u8], i: usize) -> bool {
+    let mut words = [0u64; 512];
+    let Layout::Good(n) = table::index(table, &mut words) else {
+        return false;
+    };
+    if !is_node(source, tape, i) {
+        return false;
+    }
+    let info = cursor::marker_info(table, &words, n, tape, i);
+    numbers::is_glued(info, cursor::text(source, tape, i))
+}
+
+// The place of number 9, or 2 to the power of 32, also where table or tape is turned back.
+#[no_mangle]
+pub extern "C" fn compared_label_check(table: &[u8], source: &[u8], tape: &[u8]) -> u64 {
+    let mut words = [0u64; 512];
+    let Layout::Good(n) = table::index(table, &mut words) else {
+        return 4294967296;
+    };
+    if !accepted(source, tape) {
+        return 4294967296;
+    }
+    match numbers::label_check(table, &words, n, source, tape) {
+        LabelCheck::Good => 4294967296,
+        LabelCheck::Split(i) => i as u64,
+    }
+}
+
+// Whether a node is an open one of an accepted tape.
+fn opens(source: &[u8], tape: &[u8], i: usize) -> bool
+    ensures { λ r. ⌜ (r ≡ true → Child (now (source .entry)) (now (tape .entry)) i × Holds (now (source .entry)) (now (tape .entry)) i) ⌝ }
+{
+    if !is_node(source, tape, i) {
+        return false;
+    }
+    tape::kind_at(tape, i) == 1
+}
+
+// Whether a node is an open one of an accepted tape, or its root.
+fn holds_run(source: &[u8], tape: &[u8], i: usize) -> bool
+    ensures { λ r. ⌜ (r ≡ true → Holds (now (source .entry)) (now (tape .entry)) i) ⌝ }
+{
+    if i == 0 {
+        return accepted(source, tape);
+    }
+    opens(source, tape, i)
+}
+
+fn total_of(c: Counts) -> u64
+    requires { ⌜ total c ≤ limit ⌝ }
+    ensures { λ r. ⌜ r ≡ total c ⌝ }
+{
+    c.errors + c.warnings + c.infos
+}
+
+// The findings of an open node's cells, and how many they are, or 2 to the power of 32 where it is no open node of an
+// accepted tape over a source that number 2 passes.
+#[no_mangle]
+pub extern "C" fn compared_row(source: &[u8], tape: &[u8], i: usize, list: &mut [u64]) -> u64 {
+    if 1048576 < source.len() {
+        return 4294967296;
+    }
+    if !opens(source, tape, i) {
+        return 4294967296;
+    }
+    let link = tape::link_at(tape, i) as usize;
+    let none = Counts {
+        errors: 0,
+        warnings: 0,
+        infos: 0,
+    };
+    total_of(rows::validate_table_row(source, tape, i + 1, link, list, none))
+}
+
+// The findings of an open node's attributes, and how many they are, or 2 to the power of 32 as with its cells.
+#[no_mangle]
+pub extern "C" fn compared_attributes(
+    source: &[u8],
+    tape: &[u8],
+    i: usize,
+    list: &mut [u64],
+) -> u64 {
+    if 1048576 < source.len() {
+        return 4294967296;
+    }
+    if !opens(source, tape, i) {
+        return 4294967296;
+    }
+    let link = tape::link_at(tape, i) as usize;
+    let name = cursor::marker_name(source, tape, i);
+    let none = Counts {
+        errors: 0,
+        warnings: 0,
+        infos: 0,
+    };
+    total_of(attributes::validate_attributes(source, tape, i + 1, link, i, name, list, none))
+}
+
+// Where the siblings after a node of a run begin, or 0 if the node isn't one of its siblings.
+fn after_child(source: &[u8], tape: &[u8], from: usize, to: usize, i: usize) -> usize
+    requires { ⌜ Run (now source) (now tape) from to ⌝ }
+    ensures { λ r. ⌜ (1 ≤ r → Run (now (source .entry)) (now (tape .entry)) r to) ⌝ }
+{
+    let mut k = from;
+    while k < to {
+        let next = cursor::past_node(tape, k);
+        if k == i {
+            return next;
+        }
+        k = next;
+    }
+    0
+}
+
+fn put(list: &mut [u64], k: usize, x: u32) {
+    if k < list.len() {
+        list[k] = x as u64;
+    }
+}
+
+// The start offsets of attached numbers, as far as there is room, and how many they are.
+fn starts_told(numbers: Attached, list: &mut [u64]) -> u64
+    ensures { λ r. ⌜ r ≡ length (startsOf numbers) ⌝ }
+{
+    match numbers {
+        Attached::Nothing => 0,
+        Attached::One(a) => {
+            put(list, 0, a);
+            1
+        }
+        Attached::Two(a, b) => {
+            put(list, 0, a);
+            put(list, 1, b);
+            2
+        }
+    }
+}
+
+// Where the siblings after a chapter or a verse begin that is among a node's children, or 0 where it is no such child of a
+// root or an open node of an accepted tape.
+fn after_anchor(source: &[u8], tape: &[u8], parent: usize, i: usize) -> usize
+    ensures { λ r. ⌜ (1 ≤ r → Anchored (now (source .entry)) (now (tape .entry)) parent i r) ⌝ }
+{
+    if tape.len() / 16 <= i {
+        return 0;
+    }
+    let kind = tape::kind_at(tape, i);
+    if kind != 3 && kind != 4 {
+        return 0;
+    }
+    if !holds_run(source, tape, parent) {
+        return 0;
+    }
+    after_child(
+        source,
+        tape,
+        parent + 1,
+        tape::link_at(tape, parent) as usize,
+        i,
+    )
+}
+
+// The starts of the numbers attached to a chapter or a verse among a node's children, and how many they are, or 2 to the power
+// of 32 where there is no such child.
+#[no_mangle]
+pub extern "C" fn compared_attached(
+    source: &[u8],
+    tape: &[u8],
+    parent: usize,
+    i: usize,
+    list: &mut [u64],
+) -> u64 {
+    let from = after_anchor(source, tape, parent, i);
+    if from == 0 {
+        return 4294967296;
+    }
+    let kind = tape::kind_at(tape, i);
+    let to = tape::link_at(tape, parent) as usize;
+    starts_told(
+        attachment::attached_numbers(source, tape, kind, from, to),
+        list,
+    )
+}
+
+// Whether a number that starts at the offset is attached to it.
+#[no_mangle]
+pub extern "C" fn compared_is_attached(
+    source: &[u8],
+    tape: &[u8],
+    parent: usize,
+    i: usize,
+    at: u32,
+) -> bool {
+    let from = after_anchor(source, tape, parent, i);
+    if from == 0 {
+        return false;
+    }
+    let kind = tape::kind_at(tape, i);
+    let to = tape::link_at(tape, parent) as usize;
+    attachment::is_attached(
+        attachment::attached_numbers(source, tape, kind, from, to),
+        at,
+    )
 }

@@ -65,7 +65,7 @@ module _ (t : List ℕ) (i k : ℕ) (is-kind : k ≡ kindAt t i) where
 
 -- in a run of siblings that ends at a close or at the tape's end, the next sibling is the next node of the run, and after its last there is none
 module _ (t : List ℕ) where
-  past-next : (a : ℕ) → (kindAt t a ≡ 0 → ⊥) → pastNode t a ≡ nextAt t a
+  pub past-next : (a : ℕ) → (kindAt t a ≡ 0 → ⊥) → pastNode t a ≡ nextAt t a
   past-next a h = rw (ne-eqb (kindAt t a) 0 h) (go (eqb (kindAt t a) 1))
     where
       go : (b : Bool) → pickNat b (linkAt t a + 1) (a + 1) ≡ pickN b (linkAt t a + 1) (a + 1)
@@ -82,7 +82,7 @@ module _ (t : List ℕ) where
   no-close (one h z r) l = z
   no-close {d} {a} (inner h z c r) l = let k = eqb-true (kindAt t a) 1 h in rw k
 
-  next-nested : {d a b : ℕ} → Nested t d a b → a < b → Nested t d (nextAt t a) b
+  pub next-nested : {d a b : ℕ} → Nested t d a b → a < b → Nested t d (nextAt t a) b
   next-nested (done e) l = absurd (omega arith)
   next-nested (one h z r) l = rw h r
   next-nested (inner h z c r) l = rw h r

@@ -1,3 +1,4 @@
 pub mod Around
 pub mod Named
 pub mod Entry
+pub mod Runs

@@ -10,9 +10,7 @@ use lib.ListN.{length, getD, take, drop, List·getD-eq-default}
 use borrow.Author.Tests.{eq-eqb, ne-eqb}
 use Rattle.text.specs.Pick.{either, cut}
 use Rattle.text.specs.Blank.{blank}
-use Rattle.text.specs.Utf8.{decode}
 use Rattle.text.specs.Characters.{find}
-use Rattle.text.specs.declared.Decoded.{Decoded}
 use Rattle.cursor.specs.Names.{pastOne, endsName, namePart, nameOf}
 use Rattle.cursor.specs.Inner.{Reached, Ended}
 
@@ -47,9 +45,6 @@ module _ (c : ℕ) (x : Bool) (is-blank : x ≡ blank c) where
 
   pub ends-slash : x ≡ false → (c ≡ 0x2A → ⊥) → (c ≡ 0x7C → ⊥) → eqb c 0x5C ≡ endsName c
   ends-slash y n m = rw (← is-blank, y, ne-eqb c 0x2A n, ne-eqb c 0x7C m)
-
-pub tested : (s : List ℕ) (i : ℕ) (d : Decoded) (x v : Bool) → d ≡ decode (drop i s) → x ≡ endsName (d .cp) → x ≡ v → endsName (decode (drop i s) .cp) ≡ v
-tested s i d x v e f h = ap (λ (z : Decoded). endsName (z .cp)) (sym e) ∙ sym f ∙ h
 
 pub name-cut : (s : List ℕ) (a b e : ℕ) → a ≡ pastOne 0x5C s 0 → b ≡ pastOne 0x2B s a → e ≡ b + find endsName (drop b s) → take (e - b) (drop b s) ≡ nameOf s
 unfolding namePart

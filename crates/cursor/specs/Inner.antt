@@ -4,11 +4,20 @@ use mathlib.Core.Path.{_≡_}
 use mathlib.Core.List.{List}
 use lib.ListN.{length}
 use Rattle.tape.specs.Nodes.{count, startAt, lenAt}
+use Rattle.tape.specs.Forest.{Nested, Accepted}
 
 -- a node of the tape whose span lies in the source; of an accepted tape, every node but the root
 pub record Spanned (s t : List ℕ) (i : ℕ) : Type 0 where
   pub inside : i < count t
   pub fits : startAt t i + lenAt t i ≤ length s
+
+-- the nodes of an accepted tape from a up to b are a run of siblings with all inside them; of these, what is asked for by the functions that go along a run
+pub record Run (s t : List ℕ) (a b : ℕ) : Type 0 where
+  pub accepted : Accepted s t
+  pub depth : ℕ
+  pub nested : Nested t depth a b
+  pub from : 1 ≤ a
+  pub inside : b ≤ count t
 
 -- the place lies n bytes past another, inside the text or at its end
 pub record Ended (s : List ℕ) (from n r : ℕ) : Type 0 where

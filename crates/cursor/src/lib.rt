@@ -128,7 +128,8 @@ pub fn first_child(tape: &[u8], i: usize) -> Place
     }
 }
 
-fn past_node(tape: &[u8], i: usize) -> usize
+// The node past a node, with all inside it.
+pub fn past_node(tape: &[u8], i: usize) -> usize
     requires { ⌜ i < count (now tape) ⌝ }
     ensures { λ r. ⌜ r ≡ Rattle.cursor.specs.Steps.pastNode (now (tape .entry)) i ⌝ }
 {

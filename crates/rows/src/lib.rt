@@ -1,9 +1,19 @@
-// Rows of tables: the columns of a cell.
+// Rows of tables: the columns of a cell, and the order of the cells of a row.
+use findings::Counts;
+use findings::Finding;
+use findings::Severity;
 use text::Parsed;
 ghost use mathlib.Core.Path.{_≡_};
-ghost use Prim.Native.Nat.{_≤_};
+ghost use Prim.Native.Nat.{_<_, _≤_};
+ghost use mathlib.Core.List.{[]};
 ghost use lib.ListN.{length, drop};
 ghost use Rattle.text.specs.Number.{numberOf};
+ghost use Rattle.tape.specs.Nodes.{nodeAt, count};
+ghost use Rattle.tape.specs.Forest.{forest};
+ghost use Rattle.cursor.specs.Inner.{Run, Spanned};
+ghost use Rattle.findings.specs.Finding.{findingOf};
+ghost use Rattle.findings.specs.Written.{Wrote, Room};
+ghost use Rattle.rows.specs.Row.{cellIn, outOfOrder, rowFindings};
 ghost use Rattle.rows.specs.Cells.{isCell, isAligned, afterLetters, pair, columnsIn, cellColumns, cellOf};
 
 // The first and the last column of a cell.
@@ -81,4 +91,62 @@ pub fn table_cell_columns(name: &[u8]) -> Cell
         return Cell::NoColumns;
     }
     columns_in(after_letters(name))
+}
+
+// The columns of a node, if it is a cell.
+fn cell_at(source: &[u8], tape: &[u8], i: usize) -> Cell
+    requires { ⌜ Spanned (now source) (now tape) i ⌝ }
+    ensures { λ r. ⌜ cellOf r ≡ cellIn (nodeAt (now (source .entry)) (now (tape .entry)) i) ⌝ }
+{
+    if tape::kind_at(tape, i) != 1 {
+        return Cell::NoColumns;
+    }
+    table_cell_columns(cursor::marker_name(source, tape, i))
+}
+
+// The finding of a cell that stands at another column than the expected one.
+fn out_of_order(tape: &[u8], i: usize, expected: u64, found: u32) -> Finding
+    requires { ⌜ i < count (now tape) ⌝ }
+    ensures { λ r. ⌜ findingOf r ≡ outOfOrder (nodeAt [] (now (tape .entry)) i) expected found ⌝ }
+{
+    Finding {
+        severity: Severity::Error,
+        code: findings::INVALID_TABLE_COLUMN_SEQUENCE,
+        start: tape::start_at(tape, i) as u64,
+        len: tape::len_at(tape, i) as u64,
+        node: i as u64,
+        form: 0,
+        first: expected,
+        second: found as u64,
+    }
+}
+
+// The order of the cells of a row: the nodes from one up to another are its children.
+pub fn validate_table_row(
+    source: &[u8],
+    tape: &[u8],
+    from: usize,
+    to: usize,
+    list: &mut [u64],
+    counts: Counts,
+) -> Counts
+    requires { ⌜ (Run (now source) (now tape) from to) × Room counts (rowFindings (forest (now source) (now tape) from to)) ⌝ }
+    ensures { λ r. ⌜ Wrote (rowFindings (forest (now (source .entry)) (now (tape .entry)) from to)) (now (list .entry)) counts (now (list .exit)) r ⌝ }
+{
+    let mut c = counts;
+    let mut expected: u64 = 1;
+    let mut i = from;
+    while i < to {
+        let next = cursor::past_node(tape, i);
+        let Cell::At(columns) = cell_at(source, tape, i) else {
+            i = next;
+            continue;
+        };
+        let found = columns.start;
+        let f = out_of_order(tape, i, expected, found);
+        c = findings::push_if(list, c, found as u64 != expected, f);
+        expected = columns.end as u64 + 1;
+        i = next;
+    }
+    c
 }

@@ -8,3 +8,5 @@ pub mod Nest
 pub mod Accept
 pub mod OneNumber
 pub mod Nine
+pub mod Sizes
+pub mod Begins

@@ -2,6 +2,7 @@
 -- Assumes nothing.
 use Prim.Native.Nat.{ℕ, zero, suc, _+_, _-_, _<_, _≤_}
 use native.Mathlib.Numerals.{add-one}
+use native.Mathlib.Decide.{decLt, ℕ-discrete}
 use native.Mathlib.Omega.{arith}
 use mathlib.Core.Path.{_≡_, refl, sym, ap, ap₂, subst, _∙_}
 use mathlib.Core.Bool.{Bool, true, false, false≢true}
@@ -168,3 +169,30 @@ pub nested-leaf : {t : List ℕ} {d a b : ℕ} → Nested t d a b → a < b → 
 nested-leaf (done e) l q = absurd (omega arith)
 nested-leaf (one h z r) l q = record { open-no = h; close-no = z; after = r }
 nested-leaf (inner h z c r) l q = absurd (false≢true (sym q ∙ h))
+
+-- the children of any open node of a run are a run
+pub record Children (t : List ℕ) (i b : ℕ) : Type 0 where
+  pub depth : ℕ
+  pub later : i < linkAt t i
+  pub within : linkAt t i < b
+  pub nested : Nested t depth (i + 1) (linkAt t i)
+
+pub nested-inside : {t : List ℕ} {d a b : ℕ} → Nested t d a b → (i : ℕ) → a ≤ i → i < b → isOpen (kindAt t i) ≡ true → Children t i b
+nested-inside (done e) i g l q = absurd (omega arith)
+nested-inside {t} {d} {a} {b} (one h z r) i g l q = pick (ℕ-discrete a i) (λ k. nested-inside r i k l q)
+  where
+    pick : Dec (a ≡ i) → (a + 1 ≤ i → Children t i b) → Children t i b
+    pick (yes x) later = absurd (false≢true (sym h ∙ rw x q))
+    pick (no x) later = later (omega arith)
+nested-inside {t} {a} {b} (inner {d} h z c r) i g l q =
+    pick (ℕ-discrete a i) (decLt i (linkAt t a)) (ℕ-discrete i (linkAt t a)) (nested-le c) (nested-le r) (λ j k. nested-inside c i j k q) (λ k. nested-inside r i k l q)
+  where
+    pick : Dec (a ≡ i) → Dec (i < linkAt t a) → Dec (i ≡ linkAt t a) → a + 1 ≤ linkAt t a → linkAt t a + 1 ≤ b → (a + 1 ≤ i → i < linkAt t a → Children t i (linkAt t a)) → (linkAt t a + 1 ≤ i → Children t i b) → Children t i b
+    pick (yes x) u v m n f k =
+        subst (λ (j : ℕ). Children t j b) x (record { depth = d; later = omega arith; within = omega arith; nested = c })
+    pick (no x) (yes u) v m n f k =
+        let w = f (omega arith) u in
+        let y = w .within in
+        record { depth = w .depth; later = w .later; within = omega arith; nested = w .nested }
+    pick (no x) (no u) (yes v) m n f k = absurd (false≢true (sym (close-no-open (kindAt t (linkAt t a)) z) ∙ rw (← v) q))
+    pick (no x) (no u) (no v) m n f k = k (omega arith)

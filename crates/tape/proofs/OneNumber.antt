@@ -22,11 +22,11 @@ use Rattle.tape.proofs.Machine.{read-step, step-odd}
 use Rattle.tape.proofs.Accept.{refused, Rooted, reads-nested, nested-reads}
 
 -- a refusal that comes from the first part, or else from the rest
-which : (x y : Option Refusal) (r : Refusal) → orElse x y ≡ some r → (x ≡ some r) ⊎ ((x ≡ none) × (y ≡ some r))
+pub which : (x y : Option Refusal) (r : Refusal) → orElse x y ≡ some r → (x ≡ some r) ⊎ ((x ≡ none) × (y ≡ some r))
 which none y r e = inr (refl, e)
 which (some q) y r e = inl e
 
-neither : (x y : Option Refusal) → orElse x y ≡ none → (x ≡ none) × (y ≡ none)
+pub neither : (x y : Option Refusal) → orElse x y ≡ none → (x ≡ none) × (y ≡ none)
 neither none y e = (refl, e)
 neither (some q) y e = refused q e
 
@@ -35,17 +35,17 @@ either-false true b e = absurd (false≢true (sym e))
 either-false false b e = (refl, e)
 
 -- a refusal by one test
-only : (b : Bool) (number place : ℕ) (r : Refusal) → onlyIf b (refuse number place) ≡ some r → (b ≡ true) × (r .number ≡ number) × (r .place ≡ place)
+pub only : (b : Bool) (number place : ℕ) (r : Refusal) → onlyIf b (refuse number place) ≡ some r → (b ≡ true) × (r .number ≡ number) × (r .place ≡ place)
 only true number place r e = let z : record { number = number; place = place } ≡ r = cc in (refl, ap (λ (q : Refusal). q .number) (sym z), ap (λ (q : Refusal). q .place) (sym z))
 only false number place r e = refused r (sym e)
 
-only-not : (b : Bool) (number place : ℕ) → onlyIf b (refuse number place) ≡ none → b ≡ false
+pub only-not : (b : Bool) (number place : ℕ) → onlyIf b (refuse number place) ≡ none → b ≡ false
 only-not true number place e = refused _ e
 only-not false number place e = refl
 
 -- the first bad node
 module _ (number : ℕ) (bad : ℕ → Bool) where
-  first-of : (n a : ℕ) (r : Refusal) → firstBad number bad a n ≡ some r → (r .number ≡ number) × First bad a (a + n) (r .place)
+  pub first-of : (n a : ℕ) (r : Refusal) → firstBad number bad a n ≡ some r → (r .number ≡ number) × First bad a (a + n) (r .place)
   unfolding firstBad
   first-of zero a r e = refused r (sym e)
   first-of (suc n) a r e = go (bad a) refl (which (onlyIf (bad a) (refuse number a)) (firstBad number bad (suc a) n) r e) (first-of n (suc a) r)
@@ -70,7 +70,7 @@ module _ (number : ℕ) (bad : ℕ → Bool) where
               pick (yes z) = rw z here
               pick (no z) = good i (omega arith) l
 
-  none-of : (n a : ℕ) → firstBad number bad a n ≡ none → AllGood bad a (a + n)
+  pub none-of : (n a : ℕ) → firstBad number bad a n ≡ none → AllGood bad a (a + n)
   unfolding firstBad
   none-of zero a e i g l = absurd (omega arith)
   none-of (suc n) a e i g l =
@@ -81,12 +81,12 @@ module _ (number : ℕ) (bad : ℕ → Bool) where
       pick (yes z) here good = rw z here
       pick (no z) here good = good i (omega arith) (omega arith)
 
-  all-none : (n a : ℕ) → AllGood bad a (a + n) → firstBad number bad a n ≡ none
+  pub all-none : (n a : ℕ) → AllGood bad a (a + n) → firstBad number bad a n ≡ none
   unfolding firstBad
   all-none zero a h = refl
   all-none (suc n) a h = rw (h a (omega arith) (omega arith)) (all-none n (suc a) (λ i g l. h i (omega arith) (omega arith)))
 
-  first-is : (n a place : ℕ) → First bad a (a + n) place → firstBad number bad a n ≡ refuse number place
+  pub first-is : (n a place : ℕ) → First bad a (a + n) place → firstBad number bad a n ≡ refuse number place
   unfolding firstBad
   first-is zero a place f = let g = f .from in let l = f .below in absurd (omega arith)
   first-is (suc n) a place f = pick (ℕ-discrete a place) (first-is n (suc a) place)
@@ -154,7 +154,7 @@ module _ (s t : List ℕ) where
   abbrev part7 : Option Refusal
   part7 = read t (n - 1) 1 []
 
-  some-nodes : badLength t ≡ false → 1 ≤ n
+  pub some-nodes : badLength t ≡ false → 1 ≤ n
   some-nodes e =
       let a = either-false (eqb (length t) 0) _ e in
       let b = either-false (not (eqb (length t % 16) 0)) _ (a .1) in
@@ -335,7 +335,7 @@ module _ (s t : List ℕ) where
       back h = rw (plain4 (h .0), plain5 (h .0), plain6 (h .0), h .1) (read-stops t n 8 place refl (h .2))
 
   -- the root's link, in words
-  rooted : badLength t ≡ false → goodRoot t ≡ true → Rooted t n
+  pub rooted : badLength t ≡ false → goodRoot t ≡ true → Rooted t n
   rooted l e = go (eqb (linkAt t 0) n) (eqb (linkAt t 0 + 1) n) (isClose (kindAt t (linkAt t 0))) (isNone (firstBad 7 (opensTo t (linkAt t 0)) 1 (n - 1))) refl refl refl refl e
     where
       apart : isNone (firstBad 7 (opensTo t (linkAt t 0)) 1 (n - 1)) ≡ true → (i : ℕ) → 1 ≤ i → i < n → isOpen (kindAt t i) ≡ true → linkAt t i ≡ linkAt t 0 → ⊥

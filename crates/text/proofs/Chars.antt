@@ -44,7 +44,11 @@ chars-at s i w h e =
     let some : 0 < length (drop i s) = rw length-drop (omega arith) in
     chars-cons (drop i s) w some e ∙ ap (λ (l : List ℕ). decode (drop i s) ∷ chars l) (drop-drop w i s)
 
--- the test of the character at a place, by the steps that the code takes
+-- a test of the character at a place, by the steps that the code takes
+pub tested-by : (p : ℕ → Bool) (s : List ℕ) (i : ℕ) (d : Decoded) (x v : Bool) → d ≡ decode (drop i s) → x ≡ p (d .cp) → x ≡ v → p (decode (drop i s) .cp) ≡ v
+tested-by p s i d x v e f h = ap (λ (z : Decoded). p (z .cp)) (sym e) ∙ sym f ∙ h
+
+-- whether it is blank
 pub tested : (s : List ℕ) (i : ℕ) (t : Bool) (d : Decoded) (x y v : Bool) → d ≡ decode (drop i s) → x ≡ blank (d .cp) → y ≡ same t x → y ≡ v → blankIs t (decode (drop i s) .cp) ≡ v
 tested s i t d x y v e f g h = ap (λ (z : Decoded). same t (blank (z .cp))) (sym e) ∙ ap (same t) (sym f) ∙ sym g ∙ h
 

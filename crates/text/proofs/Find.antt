@@ -58,7 +58,7 @@ high-code row l (List·Memᴰ·tail (List·Memᴰ·tail (List·Memᴰ·tail (Lis
 high-code row l (List·Memᴰ·tail (List·Memᴰ·tail (List·Memᴰ·tail (List·Memᴰ·tail (List·Memᴰ·tail (List·Memᴰ·tail (List·Memᴰ·tail (List·Memᴰ·tail (List·Memᴰ·head e))))))))) b h = let f = two-bytes (span 0xF4 0xF4) (span 0x80 0x8F) (span 0x80 0xBF ∷ span 0x80 0xBF ∷ []) row l e b in rw e (omega arith)
 
 -- the code point that starts at a byte above ASCII lies above it too
-high-decode : (b : ℕ) (s : List ℕ) → 0x80 ≤ b → 0x80 ≤ decode (b ∷ s) .cp
+pub high-decode : (b : ℕ) (s : List ℕ) → 0x80 ≤ b → 0x80 ≤ decode (b ∷ s) .cp
 unfolding decode decoded
 high-decode b s h = go (widthOf (b ∷ s)) refl
   where
@@ -102,7 +102,7 @@ high-bytes b s (suc k) h l = go (widthOf (b ∷ s)) refl (rw (decode-is b s) at 
         begun-high (f .row) b s k (f .is-row) (f .begins-so) (omega (arith, f .long))
 
 -- an ASCII byte is a character of its own
-low-decode : (b : ℕ) (s : List ℕ) → b < 0x80 → decode (b ∷ s) ≡ record { cp = b; width = 1 }
+pub low-decode : (b : ℕ) (s : List ℕ) → b < 0x80 → decode (b ∷ s) ≡ record { cp = b; width = 1 }
 low-decode b s h = sym (decode-1 (b ∷ s) 0 (omega arith) (ascii-one (b ∷ s) 0 (omega arith) h))
 
 module _ (p : ℕ → Bool) (flat : (c d : ℕ) → 0x80 ≤ c → 0x80 ≤ d → p c ≡ p d) where

@@ -13,3 +13,4 @@ pub mod Exact
 pub mod Boundary
 pub mod Cuts
 pub mod Find
+pub mod Hits

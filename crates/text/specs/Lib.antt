@@ -5,3 +5,4 @@ pub mod Characters
 pub mod Words
 pub mod Number
 pub mod Scans
+pub mod Literal

@@ -2,6 +2,7 @@
 use Prim.Native.Nat.{ℕ, zero, suc, _+_, _-_}
 use mathlib.Core.Bool.{Bool, true, false, not}
 use mathlib.Core.List.{List, [], _∷_}
+use lib.Dec.{eqb}
 use lib.ListN.{length, drop}
 use Rattle.text.specs.Pick.{Part, end}
 use Rattle.text.specs.declared.Decoded.{Decoded}
@@ -29,6 +30,10 @@ kept (c ∷ cs) = keptBy (blank (c .cp)) (c .width) (kept cs)
 -- the Rust's `trim`
 unfoldable pub trim : List ℕ → Part
 trim s = record { start = find solid s; len = kept (chars (drop (find solid s) s)) }
+
+-- the Rust's `trim().is_empty()`
+unfoldable pub blankText : List ℕ → Bool
+blankText s = eqb (trim s .len) 0
 
 -- the first word from a place on; at the end, and empty, where there is none
 unfoldable pub wordFrom : ℕ → List ℕ → Part

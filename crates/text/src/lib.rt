@@ -9,7 +9,7 @@ ghost use Rattle.text.specs.Pick.{span, pickNat, within, same, cut};
 ghost use Rattle.text.specs.Utf8.{begins, widthOf, firstIllFormed, placeOf, replacement, decode};
 ghost use Rattle.text.specs.Blank.{blank};
 ghost use Rattle.text.specs.Characters.{chars, before, find, findByte, starts};
-ghost use Rattle.text.specs.Words.{trimStart, trim, kept, firstWord, secondWord};
+ghost use Rattle.text.specs.Words.{blankText, trimStart, trim, kept, firstWord, secondWord};
 ghost use Rattle.text.specs.Number.{digit, digits, parsed, numberOf};
 ghost use Rattle.text.specs.Scans.{Ascii, Ended, Led, Passed, secondLow, secondHigh, blankIs};
 
@@ -323,7 +323,7 @@ fn agree(a: bool, b: bool) -> bool
 }
 
 // The place of the first character, from a place on, that is blank (t is true) or isn't (t is false), or the length.
-fn find_from(s: &[u8], from: usize, t: bool) -> usize
+pub fn find_from(s: &[u8], from: usize, t: bool) -> usize
     requires { ⌜ from ≤ length (now s) ⌝ }
     ensures { λ r. ⌜ Ended (now (s .entry)) from (find (blankIs t) (drop from (now (s .entry)))) r ⌝ }
 {
@@ -423,6 +423,13 @@ pub fn trim(s: &[u8]) -> &[u8]
     let n = kept_len(&s[a..]);
     let e = a + n;
     &s[a..e]
+}
+
+// Whether nothing is left of the text when it is trimmed.
+pub fn is_blank_text(s: &[u8]) -> bool
+    ensures { λ r. ⌜ r ≡ blankText (now (s .entry)) ⌝ }
+{
+    find_from(s, 0, false) == s.len()
 }
 
 // The first of `str::split_whitespace`; empty where there is none.

@@ -102,6 +102,32 @@ fn every_order() -> u64 {
     pairs
 }
 
+/// The position after another, where the published sum stays in 32 bits.
+fn next(of: (u32, u8)) -> (u32, u8) {
+    let theirs = parts::next_expected(of);
+    let whole = (u64::from(theirs.0), theirs.1);
+    same("next_expected", &of, library::next_expected(of), whole);
+    theirs
+}
+
+/// After each number close to 0 and to the last, with each letter's byte that has another after it.
+fn every_next() -> u64 {
+    let mut positions = 0;
+    for number in NUMBERS.into_iter().chain([u32::MAX]) {
+        for letter in 0..u8::MAX {
+            if (number, letter) == (u32::MAX, 0) {
+                // Document 01's whole numbers: here the published sum leaves 32 bits.
+                let ours = library::next_expected((number, letter));
+                same("next_expected", &(number, letter), ours, (1 << 32, 0));
+            } else {
+                next((number, letter));
+            }
+            positions += 1;
+        }
+    }
+    positions
+}
+
 fn main() {
     let (mut labels, mut seed) = (1_000_000, 1);
     if let Err(why) = numbers(&mut [("--labels", &mut labels), ("--seed", &mut seed)]) {
@@ -109,6 +135,7 @@ fn main() {
         exit(1);
     }
     let pairs = every_order();
+    let positions = every_next();
     let mut rng = Rng::new(seed);
     let (mut read, mut numbered) = (0u64, 0u64);
     let mut expected = (1, 0);
@@ -151,10 +178,10 @@ fn main() {
         );
         let last = end.unwrap_or(start);
         if last.0 < u32::MAX - 1 {
-            expected = parts::next_expected(last);
+            expected = next(last);
         }
     }
     println!(
-        "numbers: no difference on {pairs} pairs of positions and {labels} labels from seed {seed}, {read} of them read and put in order, and on as many names of cells, {numbered} of them with columns"
+        "numbers: no difference on {pairs} pairs of positions, {positions} positions and the next ones, and {labels} labels from seed {seed}, {read} of them read and put in order, and on as many names of cells, {numbered} of them with columns"
     );
 }

@@ -1,15 +1,17 @@
-//! Compares the library's table, tape check and cursor with the published functions and with the
-//! plain refusals. Exit status 1 at the first difference.
+//! Compares the library's table, tape check, cursor, labels, rows, attributes and attached numbers
+//! with the published functions and with the plain refusals. Exit status 1 at the first difference.
 
+use std::fmt::Debug;
 use std::process::exit;
 
 use oracle::arguments::numbers;
 use oracle::differ::same;
-use oracle::document::{Document, entries};
+use oracle::document::{Document, entries, kind};
 use oracle::exhaustive::every_tape;
 use oracle::generate::generate;
 use oracle::refusals::refusal;
 use oracle::rng::Rng;
+use oracle::samples::Sketch;
 use oracle::{library, parts};
 
 /// What names are made of: pieces of real ones, digits, hyphens and strangers.
@@ -23,6 +25,19 @@ const PIECES: [&str; 40] = [
 const CODES: [&str; 24] = [
     "GEN", "REV", "XXG", "FRT", "INT", "BAK", "OTH", "CNC", "GLO", "TDX", "NDX", "gen", "Gen",
     "GE", "GENE", "", "1SA", "1sa", "6EZ", "LAO", "LAA", "XXH", "PS2", "ΓEN",
+];
+
+/// Markers with a default attribute, without one, and near misses.
+const OWNERS: [&str; 16] = [
+    "\\w", "\\w ", "\\+w", "\\w1", "\\rb", "\\xt", "\\jmp", "\\ref", "\\periph", "\\qt-s",
+    "\\qt1-s", "\\ts-s", "\\add", "\\fig", "\\wé", "\\",
+];
+
+/// What the texts of attributes are made of.
+const ATTRIBUTES: [&str; 34] = [
+    "\"", "\"", "\"", "\\\"", "\\\"", "\\", "\\\\", "=", "=", "=\"", "=\"", "=\"\"", "=\"a\"",
+    "=\"é\" ", "=a ", "a", "b", "lemma", "x-é", "é", "\u{65e5}", " ", " ", "\t", "\n", "\u{b}",
+    "\u{85}", "\u{a0}", "\u{2003}", "\u{3000}", "\u{200b}", "|", "|", "",
 ];
 
 fn longest(document: &Document) -> Option<(u32, u64)> {
@@ -108,6 +123,182 @@ fn cursor(document: &Document, rng: &mut Rng) {
     }
 }
 
+/// What the documents had of each kind.
+#[derive(Default)]
+struct Counts {
+    accepted: u64,
+    nodes: u64,
+    labels: u64,
+    glued: u64,
+    number_9: u64,
+    rows: u64,
+    rows_with_cells: u64,
+    rows_with_findings: u64,
+    rows_past_32_bits: u64,
+    lists: u64,
+    lists_with_attributes: u64,
+    attribute_findings: u64,
+    anchors: u64,
+    attached: u64,
+}
+
+/// Number 9 where numbers 1 to 8 pass, and, where it passes too, the labels of chapters and verses.
+fn labels(document: &Document, counts: &mut Counts) {
+    let refused = longest(document);
+    let theirs = refused.map(|(number, place)| {
+        assert_eq!(number, 9, "numbers 1 to 8 pass this document");
+        place as usize
+    });
+    same(
+        "label_check",
+        document,
+        library::label_check(document),
+        theirs,
+    );
+    if theirs.is_some() {
+        counts.number_9 += 1;
+        return;
+    }
+    for (i, (label, glued)) in parts::labels(document) {
+        counts.glued += u64::from(glued);
+        counts.labels += 1;
+        let ours = library::number_label(document, i);
+        same("number_label", &(document, i), ours, (label, glued));
+    }
+}
+
+/// A finding without its node, which the published code doesn't say.
+fn told([severity, code, start, len, _, form, first, second]: [u64; 8]) -> parts::Told {
+    [severity, code, start, len, form, first, second]
+}
+
+/// What is found of the cells of each open node.
+fn rows(document: &Document, rng: &mut Rng, counts: &mut Counts) {
+    let (s, t) = (&document.source, &document.tape);
+    let n = document.node_count();
+    for row in parts::rows(document) {
+        let i = row.node;
+        let Some(theirs) = row.findings else {
+            counts.rows_past_32_bits += 1;
+            continue;
+        };
+        // Each call checks the tape anew, so of a long one some nodes without cells have to do.
+        if row.cells == 0 && !rng.one_in(1 + n / 64) {
+            continue;
+        }
+        counts.rows += 1;
+        counts.rows_with_cells += u64::from(row.cells != 0);
+        counts.rows_with_findings += u64::from(!theirs.is_empty());
+        let ours = library::table_row(s, t, i);
+        for finding in ours.iter().flatten() {
+            let node = document.node(finding[4] as usize);
+            let span = (u64::from(node.start), u64::from(node.len));
+            same("node of a cell", &(s, t, i), (finding[2], finding[3]), span);
+        }
+        let ours = ours.map(|list| list.into_iter().map(told).collect());
+        same("validate_table_row", &(s, t, i), ours, Some(theirs));
+    }
+    let other = rng.below(n + 2);
+    if other >= n || document.node(other).kind != kind::MARKER_OPEN {
+        same(
+            "row of no node",
+            &(s, t, other),
+            library::table_row(s, t, other),
+            None,
+        );
+    }
+}
+
+/// What is found of the attributes of an open node, and of which of them.
+fn attribute_list(input: &dyn Debug, document: &Document, theirs: parts::Attributes) {
+    let ours = library::attributes(&document.source, &document.tape, theirs.node);
+    for finding in ours.iter().flatten() {
+        let place = finding[4] as usize;
+        let among = theirs.children.contains(&place);
+        same("child of a finding", &(input, place), among, true);
+        let node = document.node(place);
+        let span = (u64::from(node.start), u64::from(node.len));
+        same("span of a child", input, (finding[2], finding[3]), span);
+    }
+    let ours = ours.map(|list| list.into_iter().map(told).collect());
+    same("validate_attributes", input, ours, Some(theirs.findings));
+}
+
+/// What is found of the attributes of each open node.
+fn attributes(document: &Document, rng: &mut Rng, counts: &mut Counts) {
+    let (s, t) = (&document.source, &document.tape);
+    let n = document.node_count();
+    for list in parts::attributes(document) {
+        // As with the rows.
+        if list.children.is_empty() && !rng.one_in(1 + n / 64) {
+            continue;
+        }
+        counts.lists += 1;
+        counts.lists_with_attributes += u64::from(!list.children.is_empty());
+        counts.attribute_findings += list.findings.len() as u64;
+        attribute_list(&(s, t, list.node), document, list);
+    }
+    let other = rng.below(n + 2);
+    if other >= n || document.node(other).kind != kind::MARKER_OPEN {
+        same(
+            "attributes of no node",
+            &(s, t, other),
+            library::attributes(s, t, other),
+            None,
+        );
+    }
+}
+
+/// An attribute's text: a bar, most of the time, and pieces.
+fn attribute(rng: &mut Rng) -> String {
+    let bar = if rng.one_in(8) { "" } else { "|" };
+    let pieces = (0..rng.below(14)).map(|_| rng.pick(&ATTRIBUTES));
+    std::iter::once(bar).chain(pieces).collect()
+}
+
+/// One attribute of one marker. The number of its findings.
+fn single_attribute(rng: &mut Rng) -> u64 {
+    let (owner, text) = (rng.pick(&OWNERS), attribute(rng));
+    let document = Sketch::default()
+        .open(0, owner)
+        .leaf(kind::ATTRIBUTE, 0, &text, 0)
+        .close(kind::MARKER_CLOSE, "\\w*")
+        .under(&[]);
+    let mut findings = 0;
+    for list in parts::attributes(&document) {
+        findings += list.findings.len() as u64;
+        attribute_list(&(owner, &text), &document, list);
+    }
+    findings
+}
+
+/// The numbers attached to each chapter and verse.
+fn attached(document: &Document, rng: &mut Rng, counts: &mut Counts) {
+    let (s, t) = (&document.source, &document.tape);
+    let n = document.node_count();
+    let anchors = parts::anchors(document);
+    let pair = (rng.below(n + 2), rng.below(n + 2));
+    if !anchors.iter().any(|it| (it.parent, it.node) == pair) {
+        let ours = library::attached_numbers(s, t, pair);
+        same("numbers attached to no child", &(s, t, pair), ours, None);
+    }
+    for anchor in anchors {
+        counts.attached += anchor.starts.len() as u64;
+        // As with the rows.
+        if anchor.starts.is_empty() && !rng.one_in(1 + n / 64) {
+            continue;
+        }
+        counts.anchors += 1;
+        let pair = (anchor.parent, anchor.node);
+        let ours = library::attached_numbers(s, t, pair);
+        same("attached_numbers", &(s, t, pair), ours, Some(anchor.starts));
+        for (at, theirs) in anchor.after {
+            let ours = library::is_attached(s, t, pair, at);
+            same("is_attached", &(s, t, pair, at), ours, theirs);
+        }
+    }
+}
+
 fn name(rng: &mut Rng) -> String {
     (0..rng.below(4)).map(|_| rng.pick(&PIECES)).collect()
 }
@@ -170,8 +361,12 @@ fn every_code() {
 }
 
 fn main() {
-    let (mut documents, mut seed) = (100_000, 1);
-    if let Err(why) = numbers(&mut [("--documents", &mut documents), ("--seed", &mut seed)]) {
+    let (mut documents, mut texts, mut seed) = (100_000, 1_000_000, 1);
+    if let Err(why) = numbers(&mut [
+        ("--documents", &mut documents),
+        ("--texts", &mut texts),
+        ("--seed", &mut seed),
+    ]) {
         eprintln!("{why}");
         exit(1);
     }
@@ -182,19 +377,40 @@ fn main() {
         tapes += 1;
     });
     let mut rng = Rng::new(seed);
-    let (mut accepted, mut nodes) = (0u64, 0u64);
+    let mut counts = Counts::default();
     for seed in (0..documents).map(|more| seed.wrapping_add(more)) {
         let document = generate(seed);
         table(&document, &mut rng);
         let good = tape(&document);
         if good && !matches!(longest(&document), Some((1, _))) {
             cursor(&document, &mut rng);
-            accepted += 1;
-            nodes += document.node_count() as u64;
+            labels(&document, &mut counts);
+            rows(&document, &mut rng, &mut counts);
+            attributes(&document, &mut rng, &mut counts);
+            attached(&document, &mut rng, &mut counts);
+            counts.accepted += 1;
+            counts.nodes += document.node_count() as u64;
         }
         names(&mut rng);
     }
+    let text_findings: u64 = (0..texts).map(|_| single_attribute(&mut rng)).sum();
+    let Counts {
+        accepted,
+        nodes,
+        labels,
+        glued,
+        number_9,
+        rows,
+        rows_with_cells,
+        rows_with_findings,
+        rows_past_32_bits,
+        lists,
+        lists_with_attributes,
+        attribute_findings,
+        anchors,
+        attached,
+    } = counts;
     println!(
-        "parts: no difference on {tapes} small tapes, {documents} documents from seed {seed}, {accepted} of them with a good table and tape, and their {nodes} nodes"
+        "parts: no difference on {tapes} small tapes, {documents} documents from seed {seed}, {accepted} of them with a good table and tape, {number_9} of these with number 9, and their {nodes} nodes; {labels} labels, {glued} of them glued; {rows} rows, {rows_with_cells} of them with cells, {rows_with_findings} with findings, and {rows_past_32_bits} not compared whose sums leave 32 bits; {lists} lists of attributes, {lists_with_attributes} of them with attributes, with {attribute_findings} findings; {anchors} chapters and verses with {attached} attached numbers; {texts} texts of single attributes with {text_findings} findings"
     );
 }

@@ -6,9 +6,8 @@ use denote.Ref.{now}
 use lib.ListN.{length, drop}
 use mathlib.Core.Path.{_≡_, refl, sym, ap, _∙_}
 use native.Mathlib.Omega.{arith}
-use Rattle.cursor.proofs.Named.{tested}
 use Rattle.cursor.specs.Names.{endsName}
-use Rattle.text.proofs.Chars.{past, stops, ends, in-text}
+use Rattle.text.proofs.Chars.{tested-by, past, stops, ends, in-text}
 use Rattle.text.specs.Characters.{find}
 use Rattle.text.specs.declared.Decoded.{Decoded}
 use Rattle.cursor.proofs.name_end.Statement.{statement}
@@ -35,7 +34,7 @@ returns c =
     let l = c .before .before .before .before .loop in
     let d = c .before .before .decode-at in
     let x = c .before .ends-name in
-    let y = tested s (l .i) (d .result) (x .result) _ (d .ensures) (x .ensures) (c .if1 .taken) in
+    let y = tested-by endsName s (l .i) (d .result) (x .result) _ (d .ensures) (x .ensures) (c .if1 .taken) in
     record { is = sym (l .inv .1 ∙ stops endsName s (l .i) (omega arith) y); inside = omega arith }
 
 add-i : tie.Need-add-i Inv-loop μ-loop
@@ -57,7 +56,7 @@ loop-again c =
     let d = c .before .before .before .decode-at in
     let x = c .before .before .ends-name in
     let w = ap (λ (d : Decoded). d .width) (d .ensures) in
-    let y = tested s (l .i) (d .result) (x .result) _ (d .ensures) (x .ensures) (c .before .if1 .left) in
+    let y = tested-by endsName s (l .i) (d .result) (x .result) _ (d .ensures) (x .ensures) (c .before .if1 .left) in
     (omega (arith, in-text s (l .i) (omega arith), w), l .inv .1 ∙ past endsName s (l .i) (d .result .width) (omega arith) w y)
 
 returns-2 : tie.Need-returns-2 Inv-loop μ-loop

@@ -1,0 +1,3 @@
+pub mod Grow
+pub mod Sorts
+pub mod Steps

@@ -1,0 +1,119 @@
+-- Names of numbers, the places that they claim, and the start offsets found so far.
+-- Assumes nothing.
+use Prim.Native.Nat.{ℕ, _<_}
+use mathlib.Core.Path.{_≡_, refl, sym, _∙_}
+use mathlib.Core.Bool.{Bool, true, false, not}
+use mathlib.Core.List.{List, [], _∷_, _++_}
+use native.Mathlib.Omega.{arith}
+use lib.Dec.{eqb}
+use lib.ListN.{length, getD}
+use borrow.Author.Tests.{eq-eqb, ne-eqb}
+use Rattle.text.specs.Pick.{both, either, cut}
+use Rattle.text.specs.Words.{blankText}
+use Rattle.tape.specs.Nodes.{nodeAt, kindAt, span}
+use Rattle.table.specs.Bytes.{equal}
+use Rattle.table.proofs.Words.{equal-apart}
+use Rattle.cursor.specs.Names.{nameOf}
+use Rattle.attachment.specs.Attached.{letter, isAlternate, isPublished, claims, isBlank, among, startsOf}
+use Rattle.attachment.specs.Inner.{claimsAt, takenAlternate, takenPublished}
+use Rattle.attachment.specs.declared.Attached.{Attached}
+use Rattle.attachment.specs.declared.Attached.the-variants as attached
+
+pub letter-chapter : (kind : ℕ) → kind ≡ 3 → 0x63 ≡ letter kind
+letter-chapter kind e = rw (eq-eqb kind 3 e)
+
+pub letter-verse : (kind : ℕ) → (kind ≡ 3 → ⊥) → 0x76 ≡ letter kind
+letter-verse kind n = rw (ne-eqb kind 3 n)
+
+both-true : (v : Bool) → v ≡ both v true
+both-true true = refl
+both-true false = refl
+
+-- a name of two bytes
+pub pair-length : (s : List ℕ) (a b : ℕ) → (length s ≡ 2 → ⊥) → false ≡ equal s (a ∷ b ∷ [])
+pair-length s a b h = sym (equal-apart s (a ∷ b ∷ []) h)
+
+pub pair-first : (s : List ℕ) (a b : ℕ) → length s ≡ 2 → getD s 0 0 ≡ a → eqb (getD s 1 0) b ≡ equal s (a ∷ b ∷ [])
+unfolding equal
+pair-first (x ∷ y ∷ []) a b h e = rw (eq-eqb x a e) (both-true (eqb y b))
+pair-first [] a b h e = absurd (omega arith)
+pair-first (x ∷ []) a b h e = absurd (omega arith)
+pair-first (x ∷ y ∷ z ∷ s) a b h e = absurd (omega arith)
+
+pub pair-other : (s : List ℕ) (a b : ℕ) → length s ≡ 2 → (getD s 0 0 ≡ a → ⊥) → false ≡ equal s (a ∷ b ∷ [])
+unfolding equal
+pair-other (x ∷ s) a b h n = rw (ne-eqb x a n)
+pair-other [] a b h n = absurd (omega arith)
+
+module _ (kind l : ℕ) (name : List ℕ) (x : Bool) (letter-is : l ≡ letter kind) where
+  pub alternate-by : x ≡ equal name (l ∷ 0x61 ∷ []) → x ≡ isAlternate kind name
+  unfolding isAlternate
+  alternate-by e = e ∙ rw letter-is
+
+  pub published-by : x ≡ equal name (l ∷ 0x70 ∷ []) → x ≡ isPublished kind name
+  unfolding isPublished
+  published-by e = e ∙ rw letter-is
+
+-- the place that a name claims, by the tests of the two sorts
+module _ (kind : ℕ) (alt pubn : Bool) (name : List ℕ) (x y : Bool) (named : x ≡ isAlternate kind name) (free : y ≡ both x (not alt)) where
+  pub claims-alternate : y ≡ true → true ≡ claims kind alt pubn name
+  claims-alternate h = rw (← named, ← free, h)
+
+  pub claims-published : (u v : Bool) → y ≡ false → u ≡ isPublished kind name → v ≡ both u (not pubn) → v ≡ claims kind alt pubn name
+  claims-published u v h e f = rw (← named, ← free, h) (f ∙ rw e)
+
+-- tests of a node, by its kind and its text
+module _ (s t : List ℕ) (i k : ℕ) (kind-is : k ≡ kindAt t i) where
+  pub claims-other : (kind : ℕ) (alt pubn : Bool) → (k ≡ 1 → ⊥) → false ≡ claimsAt kind alt pubn (nodeAt s t i)
+  claims-other kind alt pubn n = rw (← kind-is, ne-eqb k 1 n)
+
+  pub claims-by : (kind : ℕ) (alt pubn : Bool) (name : List ℕ) (x : Bool) → k ≡ 1 → name ≡ nameOf (cut (span t i) s) → x ≡ claims kind alt pubn name → x ≡ claimsAt kind alt pubn (nodeAt s t i)
+  claims-by kind alt pubn name x e f g = g ∙ rw (← kind-is, eq-eqb k 1 e, f)
+
+  pub blank-other : (k ≡ 5 → ⊥) → false ≡ isBlank (nodeAt s t i)
+  blank-other n = rw (← kind-is, ne-eqb k 5 n)
+
+  pub blank-by : (u : List ℕ) (x : Bool) → k ≡ 5 → u ≡ cut (span t i) s → x ≡ blankText u → x ≡ isBlank (nodeAt s t i)
+  blank-by u x e f g = g ∙ rw (← kind-is, eq-eqb k 5 e, f)
+
+module _ (s t : List ℕ) (i kind : ℕ) (taken x : Bool) (name : List ℕ) (is-free : taken ≡ false) (named : name ≡ nameOf (cut (span t i) s)) where
+  pub alternate-then : x ≡ isAlternate kind name → x ≡ takenAlternate kind taken (nodeAt s t i)
+  alternate-then e = e ∙ rw (is-free, named)
+
+  pub published-then : x ≡ isPublished kind name → x ≡ takenPublished kind taken (nodeAt s t i)
+  published-then e = e ∙ rw (is-free, named)
+
+-- one more start offset
+pub added-first : (a : Attached) (n : ℕ) → a ≡ attached.Nothing → startsOf (attached.One n) ≡ startsOf a ++ (n ∷ [])
+added-first a n e = rw e
+
+pub added-second : (a : Attached) (x n : ℕ) → a ≡ attached.One x → startsOf (attached.Two x n) ≡ startsOf a ++ (n ∷ [])
+added-second a x n e = rw e
+
+pub added-never : (a : Attached) (x y n : ℕ) → a ≡ attached.Two x y → length (startsOf a) < 2 → startsOf (attached.Two x y) ≡ startsOf a ++ (n ∷ [])
+added-never a x y n e h = absurd (no (rw e at h))
+  where
+    no : length (startsOf (attached.Two x y)) < 2 → ⊥
+    no h = omega arith
+
+-- whether an offset is among those found
+either-none : (v : Bool) → v ≡ either v false
+either-none true = refl
+either-none false = refl
+
+module _ (a : Attached) (at : ℕ) where
+  pub among-none : a ≡ attached.Nothing → false ≡ among at (startsOf a)
+  unfolding among
+  among-none e = rw e
+
+  pub among-one : (x : ℕ) → a ≡ attached.One x → eqb x at ≡ among at (startsOf a)
+  unfolding among
+  among-one x e = rw e (either-none (eqb x at))
+
+  pub among-first : (x y : ℕ) → a ≡ attached.Two x y → x ≡ at → true ≡ among at (startsOf a)
+  unfolding among
+  among-first x y e h = rw (e, eq-eqb x at h)
+
+  pub among-second : (x y : ℕ) → a ≡ attached.Two x y → (x ≡ at → ⊥) → eqb y at ≡ among at (startsOf a)
+  unfolding among
+  among-second x y e n = rw (e, ne-eqb x at n) (either-none (eqb y at))

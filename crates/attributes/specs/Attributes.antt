@@ -1,0 +1,155 @@
+-- Document 01, module 5: "As `validate_attributes`; the scan ends at an unterminated quote or at a key without `=`, and goes on after an unquoted value."
+use Prim.Native.Nat.{ℕ}
+use mathlib.Core.Bool.{Bool, true, false}
+use mathlib.Core.List.{List, [], _∷_, _++_}
+use lib.Dec.{eqb, ltb}
+use lib.ListN.{length, drop}
+use Rattle.text.specs.Pick.{either, pickNat, cut}
+use Rattle.text.specs.Blank.{blank}
+use Rattle.text.specs.declared.Decoded.{Decoded}
+use Rattle.text.specs.Characters.{chars, findByte}
+use Rattle.text.specs.Words.{trim}
+use Rattle.tape.specs.Nodes.{Node}
+use Rattle.tape.specs.Forest.{Forest, end, leaf, node}
+use Rattle.table.specs.declared.DefaultAttribute.{DefaultAttribute}
+use Rattle.table.specs.declared.DefaultAttribute.the-variants.{Lemma, Gloss, Href, Loc, LinkHref, Id, Who, NoDefault}
+use Rattle.table.specs.Names.{defaultOf}
+use Rattle.cursor.specs.Names.{pastOne}
+use Rattle.findings.specs.Finding.{Finding, Kind}
+
+abbrev pub kind : ℕ → ℕ → ℕ → Kind
+kind severity code form = record { severity = severity; code = code; form = form }
+
+-- "InvalidAttributes: 0 empty list, 1 key without a value, 2 empty value (the info), 3 unterminated"
+abbrev pub emptyList : Kind
+emptyList = kind 0 17 0
+
+abbrev pub keyAlone : Kind
+keyAlone = kind 0 17 1
+
+abbrev pub emptyValue : Kind
+emptyValue = kind 2 17 2
+
+abbrev pub unterminated : Kind
+unterminated = kind 0 17 3
+
+-- UnquotedAttributeValue and DefaultAttributeNotDefined
+abbrev pub unquotedValue : Kind
+unquotedValue = kind 0 22 0
+
+abbrev pub noDefault : Kind
+noDefault = kind 0 32 0
+
+-- where the scan stands: before a key; in one; after its `=`; after the opening quote; in a quoted value; there, after a backslash; in a value without quotes
+pub data Mode : Type 0 where
+  between : Mode
+  key : Mode
+  value : Mode
+  opened : Mode
+  quoted : Mode
+  escaping : Mode
+  unquoted : Mode
+
+-- what a character does: the scan goes on, goes on with a finding, or ends with one
+pub data Step : Type 0 where
+  go : Mode → Step
+  tell : Kind → Mode → Step
+  stop : Kind → Step
+
+abbrev pub pickStep : Bool → Step → Step → Step
+pickStep true a b = a
+pickStep false a b = b
+
+-- 0x3D is `=`, 0x22 is `"`, 0x5C is `\`. A quote after a backslash is part of the value
+abbrev pub inQuotes : ℕ → Step
+inQuotes c = pickStep (eqb c 0x5C) (go escaping) (go quoted)
+
+unfoldable pub step : Mode → ℕ → Step
+step between c = pickStep (blank c) (go between) (pickStep (eqb c 0x3D) (go value) (go key))
+step key c = pickStep (eqb c 0x3D) (go value) (pickStep (blank c) (stop keyAlone) (go key))
+step value c = pickStep (eqb c 0x22) (go opened) (pickStep (blank c) (tell unquotedValue between) (tell unquotedValue unquoted))
+step opened c = pickStep (eqb c 0x22) (tell emptyValue between) (inQuotes c)
+step quoted c = pickStep (eqb c 0x22) (go between) (inQuotes c)
+step escaping c = inQuotes c
+step unquoted c = pickStep (blank c) (go between) (go unquoted)
+
+-- the end of the text
+abbrev pub ended : Mode → List Kind
+ended between = []
+ended key = keyAlone ∷ []
+ended value = unquotedValue ∷ []
+ended opened = unterminated ∷ []
+ended quoted = unterminated ∷ []
+ended escaping = unterminated ∷ []
+ended unquoted = []
+
+abbrev pub resume : Step → (Mode → List Kind) → List Kind
+resume (go m) rest = rest m
+resume (tell k m) rest = k ∷ rest m
+resume (stop k) rest = k ∷ []
+
+-- the findings of a list of attributes, character by character
+unfoldable pub scan : Mode → List Decoded → List Kind
+scan m [] = ended m
+scan m (c ∷ cs) = resume (step m (c .cp)) (λ n. scan n cs)
+
+-- what stands after one `|`
+abbrev pub afterBar : List ℕ → List ℕ
+afterBar text = drop (pastOne 0x7C text 0) text
+
+abbrev pub body : List ℕ → List ℕ
+body text = cut (trim (afterBar text)) (afterBar text)
+
+abbrev pub pickKinds : Bool → List Kind → List Kind → List Kind
+pickKinds true a b = a
+pickKinds false a b = b
+
+-- the marker has an attribute that a bare value sets
+abbrev pub hasDefault : DefaultAttribute → Bool
+hasDefault NoDefault = false
+hasDefault Lemma = true
+hasDefault Gloss = true
+hasDefault Href = true
+hasDefault Loc = true
+hasDefault LinkHref = true
+hasDefault Id = true
+hasDefault Who = true
+
+abbrev pub holdsEquals : List ℕ → Bool
+holdsEquals s = ltb (findByte (eqb 0x3D) s) (length s)
+
+-- what is found of the text of one Attribute of a marker with this name as written, in order
+unfoldable pub attributeKinds : List ℕ → List ℕ → List Kind
+attributeKinds marker text =
+    pickKinds (eqb (length (body text)) 0) (emptyList ∷ [])
+    (pickKinds (holdsEquals (body text)) (scan between (chars (body text)))
+    (pickKinds (hasDefault (defaultOf marker)) [] (noDefault ∷ [])))
+
+-- "DefaultAttributeNotDefined its owner's node; else 0"
+unfoldable pub findingsAt : ℕ → ℕ → ℕ → ℕ → List Kind → List Finding
+findingsAt start len number owner [] = []
+findingsAt start len number owner (k ∷ ks) =
+    record {
+      severity = k .severity;
+      code = k .code;
+      start = start;
+      len = len;
+      node = number;
+      form = k .form;
+      first = pickNat (eqb (k .code) 32) owner 0;
+      second = 0;
+    }
+    ∷ findingsAt start len number owner ks
+
+abbrev pub attributeFindings : ℕ → List ℕ → Node → List Finding
+attributeFindings owner marker x = findingsAt (x .start) (x .len) (x .number) owner (attributeKinds marker (x .text))
+
+abbrev pub pickFindings : Bool → List Finding → List Finding → List Finding
+pickFindings true a b = a
+pickFindings false a b = b
+
+-- of all Attributes among the children of a node
+unfoldable pub attributesFindings : ℕ → List ℕ → Forest → List Finding
+attributesFindings owner marker end = []
+attributesFindings owner marker (leaf x r) = pickFindings (eqb (x .kind) 6) (attributeFindings owner marker x) [] ++ attributesFindings owner marker r
+attributesFindings owner marker (node x c r) = attributesFindings owner marker r

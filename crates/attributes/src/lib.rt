@@ -1,0 +1,235 @@
+// Attributes: the checks of what stands after a marker's `|`.
+use findings::Counts;
+use findings::DEFAULT_ATTRIBUTE_NOT_DEFINED;
+use findings::Finding;
+use findings::INVALID_ATTRIBUTES;
+use findings::Severity;
+use findings::UNQUOTED_ATTRIBUTE_VALUE;
+use table::DefaultAttribute;
+ghost use mathlib.Core.Path.{_≡_};
+ghost use mathlib.Core.Bool.{false};
+ghost use Prim.Native.Nat.{_<_, _≤_};
+ghost use lib.ListN.{length, drop};
+ghost use Rattle.text.specs.Pick.{pickNat};
+ghost use Rattle.text.specs.Scans.{Ended};
+ghost use Rattle.text.specs.Characters.{chars, find};
+ghost use Rattle.tape.specs.Nodes.{nodeAt};
+ghost use Rattle.tape.specs.Forest.{forest};
+ghost use Rattle.cursor.specs.Inner.{Run, Spanned};
+ghost use Rattle.findings.specs.Finding.{findingOf, severityOf};
+ghost use Rattle.findings.specs.Written.{Wrote, Room};
+ghost use Rattle.attributes.specs.Attributes.{hasDefault, kind, scan, between, afterBar, attributeKinds, findingsAt, attributesFindings};
+ghost use Rattle.attributes.specs.Inner.{leads, endsKey, escapes, closing, told, ofNode};
+
+// The Attribute node that is looked at, and the node that owns it.
+pub struct Where {
+    pub start: u64,
+    pub len: u64,
+    pub node: u64,
+    pub owner: u64,
+}
+
+fn has_default(d: DefaultAttribute) -> bool
+    ensures { λ r. ⌜ r ≡ hasDefault d ⌝ }
+{
+    match d {
+        DefaultAttribute::NoDefault => false,
+        _ => true,
+    }
+}
+
+fn byte_is(s: &[u8], i: usize, b: u8) -> bool
+    ensures { λ r. ⌜ r ≡ leads b (drop i (now (s .entry))) ⌝ }
+{
+    if s.len() <= i {
+        return false;
+    }
+    s[i] == b
+}
+
+fn after_bar(s: &[u8]) -> &[u8]
+    ensures { λ r. ⌜ now r ≡ afterBar (now (s .entry)) ⌝ }
+{
+    if byte_is(s, 0, b'|') {
+        return &s[1..];
+    }
+    s
+}
+
+fn ends_key(cp: u32) -> bool
+    ensures { λ r. ⌜ r ≡ endsKey cp ⌝ }
+{
+    if cp == 0x3D { true } else { text::is_blank(cp) }
+}
+
+// The place of the first `=` or blank from a place on, or the length.
+fn key_end(s: &[u8], from: usize) -> usize
+    requires { ⌜ from ≤ length (now s) ⌝ }
+    ensures { λ r. ⌜ Ended (now (s .entry)) from (find endsKey (drop from (now (s .entry)))) r ⌝ }
+{
+    let mut i = from;
+    while i < s.len() {
+        let d = text::decode_at(s, i);
+        if ends_key(d.cp) {
+            return i;
+        }
+        i += d.width;
+    }
+    i
+}
+
+// How many bytes the search for the closing quote passes at a place: a backslash takes the quote after it along.
+fn passed(s: &[u8], k: usize) -> usize
+    requires { ⌜ k < length (now s) ⌝ }
+    ensures { λ r. ⌜ r ≡ pickNat (escapes (drop k (now (s .entry)))) 2 1 ⌝ }
+{
+    if !byte_is(s, k, 0x5C) {
+        return 1;
+    }
+    if byte_is(s, k + 1, b'"') { 2 } else { 1 }
+}
+
+// The place of the quote that closes a value, from a place in it on, or the length.
+fn closing_quote(s: &[u8], from: usize) -> usize
+    requires { ⌜ from ≤ length (now s) ⌝ }
+    ensures { λ r. ⌜ Ended (now (s .entry)) from (closing false (drop from (now (s .entry)))) r ⌝ }
+{
+    let mut i = from;
+    let k = loop {
+        if s.len() <= i {
+            break i;
+        }
+        if s[i] == b'"' {
+            break i;
+        }
+        i += passed(s, i);
+    };
+    k
+}
+
+fn finding(w: Where, severity: Severity, code: u64, form: u64, first: u64) -> Finding
+    ensures { λ r. ⌜ findingOf r ≡ told w (kind (severityOf severity) code form) first ⌝ }
+{
+    Finding {
+        severity: severity,
+        code: code,
+        start: w.start,
+        len: w.len,
+        node: w.node,
+        form: form,
+        first: first,
+        second: 0,
+    }
+}
+
+// The findings of a list of attributes.
+fn scan_list(body: &[u8], w: Where, list: &mut [u64], counts: Counts) -> Counts
+    requires { ⌜ Room counts (findingsAt (w .start) (w .len) (w .node) (w .owner) (scan between (chars (now body)))) ⌝ }
+    ensures { λ r. ⌜ Wrote (findingsAt (w .start) (w .len) (w .node) (w .owner) (scan between (chars (now (body .entry))))) (now (list .entry)) counts (now (list .exit)) r ⌝ }
+{
+    let mut c = counts;
+    let mut i = text::find_from(body, 0, false);
+    'scan: while i < body.len() {
+        let key = key_end(body, i);
+        if !byte_is(body, key, b'=') {
+            let alone = finding(w, Severity::Error, INVALID_ATTRIBUTES, 1, 0);
+            c = findings::push(list, c, alone);
+            break 'scan;
+        }
+        if !byte_is(body, key + 1, b'"') {
+            let unquoted = finding(w, Severity::Error, UNQUOTED_ATTRIBUTE_VALUE, 0, 0);
+            c = findings::push(list, c, unquoted);
+            i = text::find_from(body, text::find_from(body, key + 1, true), false);
+            continue 'scan;
+        }
+        let close = closing_quote(body, key + 2);
+        if close == body.len() {
+            let unterminated = finding(w, Severity::Error, INVALID_ATTRIBUTES, 3, 0);
+            c = findings::push(list, c, unterminated);
+            break 'scan;
+        }
+        let empty = finding(w, Severity::Info, INVALID_ATTRIBUTES, 2, 0);
+        c = findings::push_if(list, c, close == key + 2, empty);
+        i = text::find_from(body, close + 1, false);
+    }
+    c
+}
+
+// The findings of one Attribute's text, of a marker with the name.
+pub fn validate_attribute(
+    text: &[u8],
+    marker: &[u8],
+    w: Where,
+    list: &mut [u64],
+    c: Counts,
+) -> Counts
+    requires { ⌜ Room c (findingsAt (w .start) (w .len) (w .node) (w .owner) (attributeKinds (now marker) (now text))) ⌝ }
+    ensures { λ r. ⌜ Wrote (findingsAt (w .start) (w .len) (w .node) (w .owner) (attributeKinds (now (marker .entry)) (now (text .entry)))) (now (list .entry)) c (now (list .exit)) r ⌝ }
+{
+    let body = text::trim(after_bar(text));
+    if body.len() == 0 {
+        let none = finding(w, Severity::Error, INVALID_ATTRIBUTES, 0, 0);
+        return findings::push(list, c, none);
+    }
+    if text::find_byte(body, b'=') < body.len() {
+        return scan_list(body, w, list, c);
+    }
+    let known = has_default(table::default_attribute(marker));
+    let bare = finding(
+        w,
+        Severity::Error,
+        DEFAULT_ATTRIBUTE_NOT_DEFINED,
+        0,
+        w.owner,
+    );
+    findings::push_if(list, c, !known, bare)
+}
+
+// The findings of a node that is an Attribute; none of another.
+fn attribute_at(
+    source: &[u8],
+    tape: &[u8],
+    i: usize,
+    owner: usize,
+    marker: &[u8],
+    list: &mut [u64],
+    c: Counts,
+) -> Counts
+    requires { ⌜ (Spanned (now source) (now tape) i) × Room c (ofNode owner (now marker) (nodeAt (now source) (now tape) i)) ⌝ }
+    ensures { λ r. ⌜ Wrote (ofNode owner (now (marker .entry)) (nodeAt (now (source .entry)) (now (tape .entry)) i)) (now (list .entry)) c (now (list .exit)) r ⌝ }
+{
+    if tape::kind_at(tape, i) != 6 {
+        return c;
+    }
+    let span = cursor::span(tape, i);
+    let w = Where {
+        start: span.start as u64,
+        len: span.len as u64,
+        node: i as u64,
+        owner: owner as u64,
+    };
+    validate_attribute(cursor::text(source, tape, i), marker, w, list, c)
+}
+
+// The findings of all Attributes among the children of a marker: the nodes from one up to another.
+pub fn validate_attributes(
+    source: &[u8],
+    tape: &[u8],
+    from: usize,
+    to: usize,
+    owner: usize,
+    marker: &[u8],
+    list: &mut [u64],
+    c: Counts,
+) -> Counts
+    requires { ⌜ (Run (now source) (now tape) from to) × Room c (attributesFindings owner (now marker) (forest (now source) (now tape) from to)) ⌝ }
+    ensures { λ r. ⌜ Wrote (attributesFindings owner (now (marker .entry)) (forest (now (source .entry)) (now (tape .entry)) from to)) (now (list .entry)) c (now (list .exit)) r ⌝ }
+{
+    let mut r = c;
+    let mut i = from;
+    while i < to {
+        r = attribute_at(source, tape, i, owner, marker, list, r);
+        i = cursor::past_node(tape, i);
+    }
+    r
+}

@@ -1,0 +1,62 @@
+-- Document 01, "A finding": "Written is the smaller of total and the list's length divided by 8, rounded down; words beyond are untouched".
+use Prim.Native.Nat.{ℕ, zero, suc, _+_, _*_, _/_, _<_, _≤_}
+use mathlib.Core.Path.{_≡_}
+use mathlib.Core.Bool.{Bool, true, false}
+use mathlib.Core.List.{List, [], _∷_, _++_}
+use lib.Dec.{ltb}
+use lib.ListN.{length}
+use lib.Seq.{sets}
+use Rattle.findings.specs.Finding.{Finding, wordsOf}
+use Rattle.findings.specs.declared.Counts.{Counts}
+
+abbrev pub total : Counts → ℕ
+total c = c .errors + c .warnings + c .infos
+
+-- one more of the severity
+abbrev pub bySeverity : ℕ → Counts → Counts
+bySeverity zero c = record { errors = c .errors + 1; warnings = c .warnings; infos = c .infos }
+bySeverity (suc zero) c = record { errors = c .errors; warnings = c .warnings + 1; infos = c .infos }
+bySeverity (suc (suc n)) c = record { errors = c .errors; warnings = c .warnings; infos = c .infos + 1 }
+
+unfoldable pub counted : Counts → List Finding → Counts
+counted c [] = c
+counted c (f ∷ fs) = counted (bySeverity (f .severity) c) fs
+
+-- how many findings the list holds
+abbrev pub room : List ℕ → ℕ
+room l = length l / 8
+
+abbrev pub pickWords : Bool → List ℕ → List ℕ → List ℕ
+pickWords true a b = a
+pickWords false a b = b
+
+-- the finding as number k, from 0, if it has room
+unfoldable pub put : List ℕ → ℕ → Finding → List ℕ
+put l k f = pickWords (ltb k (room l)) (sets l (8 * k) (wordsOf f)) l
+
+-- the findings from number k on, those that have room
+unfoldable pub overlay : List ℕ → ℕ → List Finding → List ℕ
+overlay l k [] = l
+overlay l k (f ∷ fs) = overlay (put l k f) (k + 1) fs
+
+-- the words of all of them, in order
+unfoldable pub encode : List Finding → List ℕ
+encode [] = []
+encode (f ∷ fs) = wordsOf f ++ encode fs
+
+-- one finding, or none
+abbrev pub only : Bool → Finding → List Finding
+only true f = f ∷ []
+only false f = []
+
+-- the findings were written behind those that the counts count, and counted: the list and the counts before, and after
+pub record Wrote (fs : List Finding) (l : List ℕ) (c : Counts) (l′ : List ℕ) (c′ : Counts) : Type 0 where
+  pub words : l′ ≡ overlay l (total c) fs
+  pub counts : c′ ≡ counted c fs
+
+-- no count of them leaves 64 bits
+abbrev pub limit : ℕ
+limit = 4611686018427387904
+
+abbrev pub Room : Counts → List Finding → Type 0
+Room c fs = total c + length fs ≤ limit

@@ -1,0 +1,91 @@
+-- Document 01, "Trial items": "Items 1 to 12 are collected in one table about the definitions and settled by one proof".
+use Prim.Native.Nat.{ℕ}
+use mathlib.Core.Bool.{Bool, true, false}
+use mathlib.Core.List.{List, [], _∷_}
+use mathlib.Core.Option.{Option, some, none}
+use Rattle.text.specs.Literal.{ascii}
+use Rattle.numbers.specs.Verse.{Position, versePart, verseEnd, next, inSequence}
+use Rattle.rows.specs.Cells.{Range, cellColumns}
+use Rattle.findings.specs.Finding.{Kind}
+use Rattle.attributes.specs.Attributes.{kind, attributeKinds}
+
+-- what an item can give
+pub data Outcome : Type 0 where
+  passes : Outcome
+  finding : Outcome
+  unread : Outcome
+  position : ℕ → Option ℕ → Outcome
+  columns : ℕ → ℕ → Outcome
+  noColumns : Outcome
+  kinds : List Kind → Outcome
+
+abbrev pub at : ℕ → Option ℕ → Position
+at n letter = record { number = n; letter = letter }
+
+abbrev pub inOrder : Bool → Outcome
+inOrder true = passes
+inOrder false = finding
+
+abbrev pub orderBy : Position → Option Position → Outcome
+orderBy expected none = unread
+orderBy expected (some p) = inOrder (inSequence expected p)
+
+-- a label where a position is expected
+abbrev pub order : Position → List ℕ → Outcome
+order expected label = orderBy expected (versePart label)
+
+abbrev pub positionOf : Position → Outcome
+positionOf p = position (p .number) (p .letter)
+
+-- "The end is read after the first `-`, else the start serves."
+abbrev pub followingBy : Option Position → Option Position → Outcome
+followingBy none e = unread
+followingBy (some p) none = positionOf (next p)
+followingBy (some p) (some e) = positionOf (next e)
+
+-- the position expected after a label
+abbrev pub following : List ℕ → Outcome
+following label = followingBy (versePart label) (verseEnd label)
+
+abbrev pub columnsBy : Option Range → Outcome
+columnsBy none = noColumns
+columnsBy (some r) = columns (r .start) (r .end)
+
+abbrev pub cells : List ℕ → Outcome
+cells name = columnsBy (cellColumns name)
+
+-- the findings of an Attribute's text under `\w`
+abbrev pub attributes : List ℕ → Outcome
+attributes text = kinds (attributeKinds (ascii "w") text)
+
+pub record Item : Type 0 where
+  pub number : ℕ
+  pub gives : Outcome
+  pub wanted : Outcome
+
+abbrev pub item : ℕ → Outcome → Outcome → Item
+item n g w = record { number = n; gives = g; wanted = w }
+
+unfoldable pub items : List Item
+items =
+    item 1 (order (at 10 none) (ascii "9a")) passes
+    ∷ item 2 (order (at 10 none) (ascii "9")) finding
+    ∷ item 3 (order (at 9 (some 0x62)) (ascii "10")) passes
+    ∷ item 4 (order (at 9 (some 0x62)) (ascii "9")) finding
+    ∷ item 5 (order (at 10 none) (ascii "10a")) passes
+    ∷ item 6 (following (ascii "3-5")) (position 6 none)
+    ∷ item 7 (following (ascii "3-")) (position 4 none)
+    ∷ item 8 (following (ascii "9z")) (position 9 (some 123))
+    ∷ item 9 (cells (ascii "tc1-2")) (columns 1 2)
+    ∷ item 10 (cells (ascii "tc+1")) (columns 1 1)
+    ∷ item 11 (attributes (ascii "=\"x\"")) (kinds [])
+    ∷ item 12 (attributes (ascii "lemma=\"\"")) (kinds (kind 2 17 2 ∷ []))
+    ∷ []
+
+unfoldable pub given : List Item → List Outcome
+given [] = []
+given (i ∷ is) = i .gives ∷ given is
+
+unfoldable pub wantedOf : List Item → List Outcome
+wantedOf [] = []
+wantedOf (i ∷ is) = i .wanted ∷ wantedOf is
