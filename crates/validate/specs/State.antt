@@ -1,0 +1,64 @@
+-- What the walk knows: "The running record (flags, expected chapter and verse, list lengths)", what lies around a run of siblings, and the anchor of the run.
+use Prim.Native.Nat.{ℕ}
+use mathlib.Core.Bool.{Bool, true, false}
+use mathlib.Core.List.{List, [], _∷_}
+use mathlib.Core.Option.{Option, some, none}
+use Rattle.tape.specs.Nodes.{Node}
+use Rattle.tape.specs.Forest.{Forest, end, leaf, node, followed}
+use Rattle.findings.specs.Finding.{Finding}
+use Rattle.numbers.specs.Verse.{Position}
+
+-- the running record. The open starts are the milestone starts that wait for their end, the latest first
+pub record State : Type 0 where
+  pub hasId : Bool
+  pub hasChapter : Bool
+  pub hasVerse : Bool
+  pub frontMatter : Bool
+  pub outsideWarned : Bool
+  pub chapter : ℕ
+  pub verse : Position
+  pub seen : List ℕ
+  pub openStarts : List Node
+  pub verses : ℕ
+
+abbrev pub firstVerse : Position
+firstVerse = record { number = 1; letter = none }
+
+abbrev pub initial : State
+initial =
+    record {
+      hasId = false;
+      hasChapter = false;
+      hasVerse = false;
+      frontMatter = false;
+      outsideWarned = false;
+      chapter = 1;
+      verse = firstVerse;
+      seen = [];
+      openStarts = [];
+      verses = 0;
+    }
+
+-- whether a run of siblings stands in a body paragraph, in a note, in a character marker
+pub record Around : Type 0 where
+  pub body : Bool
+  pub note : Bool
+  pub char : Bool
+
+abbrev pub outside : Around
+outside = record { body = false; note = false; char = false }
+
+-- "The latest chapter/verse among these siblings": its kind, and the siblings that were passed since
+pub record Anchor : Type 0 where
+  pub kind : ℕ
+  pub passed : Forest
+
+-- one sibling more is passed
+abbrev pub past : Option Anchor → Forest → Option Anchor
+past none f = none
+past (some a) f = some (record { kind = a .kind; passed = followed (a .passed) f })
+
+-- findings, and the record after them
+pub record Told : Type 0 where
+  pub findings : List Finding
+  pub state : State
