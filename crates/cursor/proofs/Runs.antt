@@ -94,6 +94,42 @@ module _ (s t : List ℕ) (a b : ℕ) (run : Run s t a b) (more : a < b) where
       inside (one k z r) l h = absurd (false≢true (sym k ∙ h))
       inside (inner k z c r) l h = forest-node s t k z c r
 
+-- the first node of a run by itself
+first-nested : {t : List ℕ} {d a b : ℕ} → Nested t d a b → a < b → Nested t d a (nextAt t a)
+first-nested (done e) l = absurd (omega arith)
+first-nested (one h z r) l = rw h (one h z (done refl))
+first-nested (inner h z c r) l = rw h (inner h z c (done refl))
+
+module _ (s t : List ℕ) (d a b : ℕ) (ok : Accepted s t) (nested : Nested t d a b) (from : 1 ≤ a) (inside : b ≤ count t) (more : a < b) where
+  run-of : Run s t a b
+  run-of = record { accepted = ok; depth = d; nested = nested; from = from; inside = inside }
+
+  past-here : pastNode t a ≡ nextAt t a
+  past-here = past-next t a (kind-some s t a ok from (omega arith))
+
+  pub one-nested : Nested t d a (pastNode t a)
+  one-nested = rw past-here (first-nested nested more)
+
+  pub rest-nested : Nested t d (pastNode t a) b
+  rest-nested = rw past-here (next-nested t nested more)
+
+  -- its forest, as a leaf and as an open node
+  pub one-leaf : isOpen (kindAt t a) ≡ false → forest s t a (pastNode t a) ≡ leaf (nodeAt s t a) end
+  one-leaf h =
+      let run = run-of in
+      let later = past-later s t a b run more in
+      let within = past-inside s t a b run more in
+      let first : Run s t a (pastNode t a) = record { accepted = ok; depth = d; nested = one-nested; from = from; inside = omega arith } in
+      forest-at-leaf s t a (pastNode t a) first later h ∙ rw (forest-done s t (pastNode t a) (pastNode t a) (omega arith))
+
+  pub one-open : isOpen (kindAt t a) ≡ true → forest s t a (pastNode t a) ≡ node (nodeAt s t a) (forest s t (a + 1) (linkAt t a)) end
+  one-open h =
+      let run = run-of in
+      let later = past-later s t a b run more in
+      let within = past-inside s t a b run more in
+      let first : Run s t a (pastNode t a) = record { accepted = ok; depth = d; nested = one-nested; from = from; inside = omega arith } in
+      forest-at-open s t a (pastNode t a) first later h ∙ rw (forest-done s t (pastNode t a) (pastNode t a) (omega arith))
+
 -- where the root's children end
 root-end : (s t : List ℕ) → Accepted s t → (linkAt t 0 ≤ count t) × ((i : ℕ) → i < count t → isOpen (kindAt t i) ≡ true → i < linkAt t 0)
 root-end s t h = go (rooted s t (h .sized) (h .root) .place)

@@ -4,3 +4,4 @@ pub mod Longer
 pub mod Demand3
 pub mod Counted
 pub mod Worked
+pub mod Few

@@ -1,0 +1,999 @@
+use Prim.Native.Nat.{_+_, _-_, _*_}
+use mathlib.Core.Path.{_≡_, refl, sym, ap, _∙_}
+use native.Mathlib.Omega.{arith}
+use lib.ListN.{length}
+use denote.Ref.{now}
+use Rattle.running.specs.Running.{aroundOf}
+use Rattle.checker.specs.Walking.{walkAt}
+use Rattle.table.specs.Entries.{entryOfInfo}
+use Rattle.checker.proofs.Going.{Going, going-start, going-end, going-below, going-spanned, going-later, going-run, leaf-room, leaf-seen, leaf-verses, going-leaf, going-skip, visit-room, visit-able, going-open}
+use Rattle.checker.proofs.Visiting.{visit-with, visit-run, visit-below as visit-inside, visit-low, visit-spanned, own-room, visit-deep, milestone-opens, milestone-room, step-opens, step-room, children-ready, children-room, visited}
+use Rattle.checker.proofs.Entries.{no-open, is-open, entry-none, entry-some, entry-inside}
+use borrow.Author.Needs.{needs}
+use Prim.Native.Nat.{ℕ, _<_}
+use borrow.Fn.Kinds.{In}
+use borrow.Fn.PlainCycle.{Measures, is, falls, and}
+use Rattle.checker.proofs.visit.Reads as visit
+use Rattle.checker.proofs.visit.Kinds as visit-kinds
+use Rattle.checker.proofs.+visit+walk.Lts-visit as visit-lts
+use Rattle.checker.proofs.walk.Reads as walk
+use Rattle.checker.proofs.walk.Kinds as walk-kinds
+use Rattle.checker.proofs.+visit+walk.Lts-walk as walk-lts
+use Rattle.milestones.proofs.after_milestone.Reads as after-milestone-reads
+use Rattle.checker.proofs.anchored.Reads as anchored-reads
+use Rattle.checker.proofs.leaf.Reads as leaf-reads
+use Rattle.milestones.proofs.milestone_findings.Reads as milestone-findings-reads
+use Rattle.checker.proofs.numbers_after.Reads as numbers-after-reads
+use Rattle.opens.proofs.visit_marker.Reads as visit-marker-reads
+use Rattle.cursor.proofs.marker_info.Reads as marker-info-reads
+use Rattle.cursor.proofs.past_node.Reads as past-node-reads
+use Rattle.running.proofs.inside.Reads as inside-reads
+use Rattle.running.proofs.with_anchor.Reads as with-anchor-reads
+use Rattle.running.proofs.with_counts.Reads as with-counts-reads
+use Rattle.tape.proofs.kind_at.Reads as kind-at-reads
+use Rattle.tape.proofs.link_at.Reads as link-at-reads
+use Rattle.checker.proofs.+visit+walk.{statement}
+use Rattle.checker.proofs.+visit+walk.Tie.{close}
+
+abbrev μ-visit : Measures 7 visit-kinds.ps ℕ
+μ-visit κs a = 2 * a .1 .1 .1 .1 .1 .1 .1 .0
+
+abbrev μ-walk : Measures 7 walk-kinds.ps ℕ
+μ-walk κs a = 2 * a .1 .1 .1 .1 .1 .1 .1 .0 + 1
+
+abbrev visit-at : ℕ → In 7 visit-kinds.ps
+visit-at t = and 7 visit-kinds.ps (is 7 visit-kinds.ps μ-visit t) visit.Pre
+
+abbrev visit-below : ℕ → In 7 visit-kinds.ps
+visit-below t = and 7 visit-kinds.ps (falls 7 visit-kinds.ps _<_ μ-visit t) visit.Pre
+
+abbrev walk-at : ℕ → In 7 walk-kinds.ps
+walk-at t = and 7 walk-kinds.ps (is 7 walk-kinds.ps μ-walk t) walk.Pre
+
+abbrev walk-below : ℕ → In 7 walk-kinds.ps
+walk-below t = and 7 walk-kinds.ps (falls 7 walk-kinds.ps _<_ μ-walk t) walk.Pre
+
+-- src/lib.rt:162:9
+visit-visit-marker-requires : (t : ℕ) → visit-lts.Need-visit-marker-requires (
+  visit-marker-reads.Asked,
+  visit-marker-reads.Learnt,
+  milestone-findings-reads.Asked,
+  milestone-findings-reads.Learnt,
+  with-counts-reads.Asked,
+  with-counts-reads.Learnt,
+  after-milestone-reads.Asked,
+  after-milestone-reads.Learnt,
+  link-at-reads.Asked,
+  link-at-reads.Learnt,
+  inside-reads.Asked,
+  inside-reads.Learnt,
+  with-anchor-reads.Asked,
+  with-anchor-reads.Learnt,
+  walk-below t,
+  walk.Post,
+) (visit-at t) visit.Post
+visit-visit-marker-requires t c κs =
+    let p = c .before .before .before .before .before .before .before .before .pre .1 in
+    let a = c .before .before .before .before .before .before .before .before .args in
+    let v = visit-with (aroundOf (a .around)) (entryOfInfo (a .m)) (now (a .list)) (p .0) (p .1) (p .3) in
+    (p .2, visit-run v, p .1 .more, p .1 .opened, p .1 .attached, own-room v)
+
+-- src/lib.rt:163:9
+visit-milestone-findings-requires : (t : ℕ) → visit-lts.Need-milestone-findings-requires (
+  visit-marker-reads.Asked,
+  visit-marker-reads.Learnt,
+  milestone-findings-reads.Asked,
+  milestone-findings-reads.Learnt,
+  with-counts-reads.Asked,
+  with-counts-reads.Learnt,
+  after-milestone-reads.Asked,
+  after-milestone-reads.Learnt,
+  link-at-reads.Asked,
+  link-at-reads.Learnt,
+  inside-reads.Asked,
+  inside-reads.Learnt,
+  with-anchor-reads.Asked,
+  with-anchor-reads.Learnt,
+  walk-below t,
+  walk.Post,
+) (visit-at t) visit.Post
+visit-milestone-findings-requires t c κs =
+    let p = c .before .before .before .before .before .before .before .before .before .before .before .before .before .pre .1 in
+    let a = c .before .before .before .before .before .before .before .before .before .before .before .before .before .args in
+    let v = visit-with (aroundOf (a .around)) (entryOfInfo (a .m)) (now (a .list)) (p .0) (p .1) (p .3) in
+    let m1 = c .before .before .before .before .visit-marker in
+    let l1 = m1 .last .1 .1 .1 .1 .1 .1 .1 .1 .1 .0 in
+    (visit-spanned v, milestone-opens v l1 (m1 .result) (m1 .ensures), milestone-room v l1 (m1 .result) (m1 .ensures))
+
+-- src/lib.rt:164:57
+visit-with-counts-requires : (t : ℕ) → visit-lts.Need-with-counts-requires (
+  visit-marker-reads.Asked,
+  visit-marker-reads.Learnt,
+  milestone-findings-reads.Asked,
+  milestone-findings-reads.Learnt,
+  with-counts-reads.Asked,
+  with-counts-reads.Learnt,
+  after-milestone-reads.Asked,
+  after-milestone-reads.Learnt,
+  link-at-reads.Asked,
+  link-at-reads.Learnt,
+  inside-reads.Asked,
+  inside-reads.Learnt,
+  with-anchor-reads.Asked,
+  with-anchor-reads.Learnt,
+  walk-below t,
+  walk.Post,
+) (visit-at t) visit.Post
+visit-with-counts-requires t c κs = search needs
+
+-- src/lib.rt:164:9
+visit-after-milestone-requires : (t : ℕ) → visit-lts.Need-after-milestone-requires (
+  visit-marker-reads.Asked,
+  visit-marker-reads.Learnt,
+  milestone-findings-reads.Asked,
+  milestone-findings-reads.Learnt,
+  with-counts-reads.Asked,
+  with-counts-reads.Learnt,
+  after-milestone-reads.Asked,
+  after-milestone-reads.Learnt,
+  link-at-reads.Asked,
+  link-at-reads.Learnt,
+  inside-reads.Asked,
+  inside-reads.Learnt,
+  with-anchor-reads.Asked,
+  with-anchor-reads.Learnt,
+  walk-below t,
+  walk.Post,
+) (visit-at t) visit.Post
+visit-after-milestone-requires t c κs =
+    let p = c .before .before .before .before .before .before .before .before .before .before .before .before .before .before .before .before .before .before .pre .1 in
+    let a = c .before .before .before .before .before .before .before .before .before .before .before .before .before .before .before .before .before .before .args in
+    let v = visit-with (aroundOf (a .around)) (entryOfInfo (a .m)) (now (a .list)) (p .0) (p .1) (p .3) in
+    let m1 = c .before .before .before .before .before .before .before .before .before .visit-marker in
+    let l1 = m1 .last .1 .1 .1 .1 .1 .1 .1 .1 .1 .0 in
+    let mf = c .before .before .before .before .milestone-findings in
+    let l2 = mf .last .1 .1 .1 .1 .1 .1 .0 in
+    let wc = c .with-counts in
+    rw (wc .ensures) (visit-spanned v, step-opens v l1 (m1 .result) (m1 .ensures) l2 (mf .result) (mf .ensures), step-room v l1 (m1 .result) (m1 .ensures) l2 (mf .result) (mf .ensures))
+
+-- src/lib.rt:171:9
+visit-add-walk : (t : ℕ) → visit-lts.Need-add-walk (
+  visit-marker-reads.Asked,
+  visit-marker-reads.Learnt,
+  milestone-findings-reads.Asked,
+  milestone-findings-reads.Learnt,
+  with-counts-reads.Asked,
+  with-counts-reads.Learnt,
+  after-milestone-reads.Asked,
+  after-milestone-reads.Learnt,
+  link-at-reads.Asked,
+  link-at-reads.Learnt,
+  inside-reads.Asked,
+  inside-reads.Learnt,
+  with-anchor-reads.Asked,
+  with-anchor-reads.Learnt,
+  walk-below t,
+  walk.Post,
+) (visit-at t) visit.Post
+visit-add-walk t c =
+    let p = c .before .before .before .before .before .before .before .before .before .before .before .before .before .before .before .before .before .before .before .before .before .pre .1 in
+    let a = c .before .before .before .before .before .before .before .before .before .before .before .before .before .before .before .before .before .before .before .before .before .args in
+    let v = visit-with (aroundOf (a .around)) (entryOfInfo (a .m)) (now (a .list)) (p .0) (p .1) (p .3) in
+    let m = visit-low v in
+    omega arith
+
+-- src/lib.rt:172:9
+visit-link-at-requires : (t : ℕ) → visit-lts.Need-link-at-requires (
+  visit-marker-reads.Asked,
+  visit-marker-reads.Learnt,
+  milestone-findings-reads.Asked,
+  milestone-findings-reads.Learnt,
+  with-counts-reads.Asked,
+  with-counts-reads.Learnt,
+  after-milestone-reads.Asked,
+  after-milestone-reads.Learnt,
+  link-at-reads.Asked,
+  link-at-reads.Learnt,
+  inside-reads.Asked,
+  inside-reads.Learnt,
+  with-anchor-reads.Asked,
+  with-anchor-reads.Learnt,
+  walk-below t,
+  walk.Post,
+) (visit-at t) visit.Post
+visit-link-at-requires t c κs =
+    let p = c .before .before .before .before .before .before .before .before .before .before .before .before .before .before .before .before .before .before .before .before .before .pre .1 in
+    let a = c .before .before .before .before .before .before .before .before .before .before .before .before .before .before .before .before .before .before .before .before .before .args in
+    let v = visit-with (aroundOf (a .around)) (entryOfInfo (a .m)) (now (a .list)) (p .0) (p .1) (p .3) in
+    visit-inside v
+
+-- src/lib.rt:172:9
+visit-cast-walk : (t : ℕ) → visit-lts.Need-cast-walk (
+  visit-marker-reads.Asked,
+  visit-marker-reads.Learnt,
+  milestone-findings-reads.Asked,
+  milestone-findings-reads.Learnt,
+  with-counts-reads.Asked,
+  with-counts-reads.Learnt,
+  after-milestone-reads.Asked,
+  after-milestone-reads.Learnt,
+  link-at-reads.Asked,
+  link-at-reads.Learnt,
+  inside-reads.Asked,
+  inside-reads.Learnt,
+  with-anchor-reads.Asked,
+  with-anchor-reads.Learnt,
+  walk-below t,
+  walk.Post,
+) (visit-at t) visit.Post
+visit-cast-walk t c = search needs
+
+-- src/lib.rt:173:9
+visit-sub-walk : (t : ℕ) → visit-lts.Need-sub-walk (
+  visit-marker-reads.Asked,
+  visit-marker-reads.Learnt,
+  milestone-findings-reads.Asked,
+  milestone-findings-reads.Learnt,
+  with-counts-reads.Asked,
+  with-counts-reads.Learnt,
+  after-milestone-reads.Asked,
+  after-milestone-reads.Learnt,
+  link-at-reads.Asked,
+  link-at-reads.Learnt,
+  inside-reads.Asked,
+  inside-reads.Learnt,
+  with-anchor-reads.Asked,
+  with-anchor-reads.Learnt,
+  walk-below t,
+  walk.Post,
+) (visit-at t) visit.Post
+visit-sub-walk t c =
+    let p = c .before .before .before .before .before .before .before .before .before .before .before .before .before .before .before .before .before .before .before .before .before .before .pre .1 in
+    let a = c .before .before .before .before .before .before .before .before .before .before .before .before .before .before .before .before .before .before .before .before .before .before .args in
+    let v = visit-with (aroundOf (a .around)) (entryOfInfo (a .m)) (now (a .list)) (p .0) (p .1) (p .3) in
+    visit-deep v
+
+-- src/lib.rt:174:9
+visit-inside-requires : (t : ℕ) → visit-lts.Need-inside-requires (
+  visit-marker-reads.Asked,
+  visit-marker-reads.Learnt,
+  milestone-findings-reads.Asked,
+  milestone-findings-reads.Learnt,
+  with-counts-reads.Asked,
+  with-counts-reads.Learnt,
+  after-milestone-reads.Asked,
+  after-milestone-reads.Learnt,
+  link-at-reads.Asked,
+  link-at-reads.Learnt,
+  inside-reads.Asked,
+  inside-reads.Learnt,
+  with-anchor-reads.Asked,
+  with-anchor-reads.Learnt,
+  walk-below t,
+  walk.Post,
+) (visit-at t) visit.Post
+visit-inside-requires t c κs = search needs
+
+-- src/lib.rt:175:9
+visit-with-anchor-requires : (t : ℕ) → visit-lts.Need-with-anchor-requires (
+  visit-marker-reads.Asked,
+  visit-marker-reads.Learnt,
+  milestone-findings-reads.Asked,
+  milestone-findings-reads.Learnt,
+  with-counts-reads.Asked,
+  with-counts-reads.Learnt,
+  after-milestone-reads.Asked,
+  after-milestone-reads.Learnt,
+  link-at-reads.Asked,
+  link-at-reads.Learnt,
+  inside-reads.Asked,
+  inside-reads.Learnt,
+  with-anchor-reads.Asked,
+  with-anchor-reads.Learnt,
+  walk-below t,
+  walk.Post,
+) (visit-at t) visit.Post
+visit-with-anchor-requires t c κs = search needs
+
+-- src/lib.rt:165:9
+visit-walk-requires : (t : ℕ) → visit-lts.Need-walk-requires (
+  visit-marker-reads.Asked,
+  visit-marker-reads.Learnt,
+  milestone-findings-reads.Asked,
+  milestone-findings-reads.Learnt,
+  with-counts-reads.Asked,
+  with-counts-reads.Learnt,
+  after-milestone-reads.Asked,
+  after-milestone-reads.Learnt,
+  link-at-reads.Asked,
+  link-at-reads.Learnt,
+  inside-reads.Asked,
+  inside-reads.Learnt,
+  with-anchor-reads.Asked,
+  with-anchor-reads.Learnt,
+  walk-below t,
+  walk.Post,
+) (visit-at t) visit.Post
+visit-walk-requires t c κs =
+    let p = c .before .before .before .before .before .before .before .before .before .before .before .before .before .before .before .before .before .before .before .before .before .before .before .before .before .before .before .pre .1 in
+    let a = c .before .before .before .before .before .before .before .before .before .before .before .before .before .before .before .before .before .before .before .before .before .before .before .before .before .before .before .args in
+    let v = visit-with (aroundOf (a .around)) (entryOfInfo (a .m)) (now (a .list)) (p .0) (p .1) (p .3) in
+    let m1 = c .before .before .before .before .before .before .before .before .before .before .before .before .before .before .before .before .before .before .visit-marker in
+    let l1 = m1 .last .1 .1 .1 .1 .1 .1 .1 .1 .1 .0 in
+    let mf = c .before .before .before .before .before .before .before .before .before .before .before .before .before .milestone-findings in
+    let l2 = mf .last .1 .1 .1 .1 .1 .1 .0 in
+    let wc = c .before .before .before .before .before .before .before .before .before .with-counts in
+    let am = c .before .before .before .before .before .before .before .before .after-milestone in
+    let o2 = am .last .1 .1 .1 .1 .0 in
+    let st = rw (wc .ensures) at (am .ensures) in
+    let lk = c .before .before .before .before .before .link-at in
+    let ins = c .before .before .before .before .inside in
+    let wa = c .before .before .before .with-anchor in
+    let d = visit-deep v in
+    (omega (arith, c .before .before .before .before .before .before .before .before .before .before .before .before .before .before .before .before .before .before .before .before .before .before .before .before .before .before .before .pre .0), rw (lk .ensures, wa .ensures) (children-ready v l1 (m1 .result) (m1 .ensures) l2 (mf .result) (mf .ensures) o2 (am .result) (am .kept .1 .1 .1 .1 .0) st, children-room v l1 (m1 .result) (m1 .ensures) l2 (mf .result) (mf .ensures) o2 (am .result) (am .kept .1 .1 .1 .1 .0) st (aroundOf (ins .result)) (ins .ensures)))
+
+-- src/lib.rt:180:5
+visit-with-anchor-requires-2 : (t : ℕ) → visit-lts.Need-with-anchor-requires-2 (
+  visit-marker-reads.Asked,
+  visit-marker-reads.Learnt,
+  milestone-findings-reads.Asked,
+  milestone-findings-reads.Learnt,
+  with-counts-reads.Asked,
+  with-counts-reads.Learnt,
+  after-milestone-reads.Asked,
+  after-milestone-reads.Learnt,
+  link-at-reads.Asked,
+  link-at-reads.Learnt,
+  inside-reads.Asked,
+  inside-reads.Learnt,
+  with-anchor-reads.Asked,
+  with-anchor-reads.Learnt,
+  walk-below t,
+  walk.Post,
+) (visit-at t) visit.Post
+visit-with-anchor-requires-2 t c κs = search needs
+
+-- src/lib.rt:141:1
+visit-same-length : (t : ℕ) → visit-lts.Need-same-length (
+  visit-marker-reads.Asked,
+  visit-marker-reads.Learnt,
+  milestone-findings-reads.Asked,
+  milestone-findings-reads.Learnt,
+  with-counts-reads.Asked,
+  with-counts-reads.Learnt,
+  after-milestone-reads.Asked,
+  after-milestone-reads.Learnt,
+  link-at-reads.Asked,
+  link-at-reads.Learnt,
+  inside-reads.Asked,
+  inside-reads.Learnt,
+  with-anchor-reads.Asked,
+  with-anchor-reads.Learnt,
+  walk-below t,
+  walk.Post,
+) (visit-at t) visit.Post
+visit-same-length t c = c .before .before .before .before .before .before .before .walk .kept .1 .1 .1 .1 .1 .1 .1 .1 .1 .1 .0
+
+-- src/lib.rt:141:1
+visit-same-length-2 : (t : ℕ) → visit-lts.Need-same-length-2 (
+  visit-marker-reads.Asked,
+  visit-marker-reads.Learnt,
+  milestone-findings-reads.Asked,
+  milestone-findings-reads.Learnt,
+  with-counts-reads.Asked,
+  with-counts-reads.Learnt,
+  after-milestone-reads.Asked,
+  after-milestone-reads.Learnt,
+  link-at-reads.Asked,
+  link-at-reads.Learnt,
+  inside-reads.Asked,
+  inside-reads.Learnt,
+  with-anchor-reads.Asked,
+  with-anchor-reads.Learnt,
+  walk-below t,
+  walk.Post,
+) (visit-at t) visit.Post
+visit-same-length-2 t c = c .before .before .before .before .before .before .before .walk .kept .1 .1 .1 .1 .1 .1 .1 .1 .1 .1 .1 .0 ∙ c .before .before .before .before .before .before .before .before .before .before .before .before .before .before .before .before .after-milestone .kept .1 .1 .1 .1 .0
+
+-- src/lib.rt:141:1
+visit-same-length-3 : (t : ℕ) → visit-lts.Need-same-length-3 (
+  visit-marker-reads.Asked,
+  visit-marker-reads.Learnt,
+  milestone-findings-reads.Asked,
+  milestone-findings-reads.Learnt,
+  with-counts-reads.Asked,
+  with-counts-reads.Learnt,
+  after-milestone-reads.Asked,
+  after-milestone-reads.Learnt,
+  link-at-reads.Asked,
+  link-at-reads.Learnt,
+  inside-reads.Asked,
+  inside-reads.Learnt,
+  with-anchor-reads.Asked,
+  with-anchor-reads.Learnt,
+  walk-below t,
+  walk.Post,
+) (visit-at t) visit.Post
+visit-same-length-3 t c = c .before .before .before .before .before .before .before .walk .kept .1 .1 .1 .1 .1 .1 .1 .1 .1 .1 .1 .1 .0 ∙ c .before .before .before .before .before .before .before .before .before .before .before .before .before .before .before .before .before .before .before .before .before .milestone-findings .kept .1 .1 .1 .1 .1 .1 .0 ∙ c .before .before .before .before .before .before .before .before .before .before .before .before .before .before .before .before .before .before .before .before .before .before .before .before .before .before .visit-marker .kept .1 .1 .1 .1 .1 .1 .1 .1 .1 .0
+
+-- src/lib.rt:141:1
+visit-returns : (t : ℕ) → visit-lts.Need-returns (
+  visit-marker-reads.Asked,
+  visit-marker-reads.Learnt,
+  milestone-findings-reads.Asked,
+  milestone-findings-reads.Learnt,
+  with-counts-reads.Asked,
+  with-counts-reads.Learnt,
+  after-milestone-reads.Asked,
+  after-milestone-reads.Learnt,
+  link-at-reads.Asked,
+  link-at-reads.Learnt,
+  inside-reads.Asked,
+  inside-reads.Learnt,
+  with-anchor-reads.Asked,
+  with-anchor-reads.Learnt,
+  walk-below t,
+  walk.Post,
+) (visit-at t) visit.Post
+visit-returns t c =
+    let p = c .before .before .before .before .before .before .before .before .before .before .before .before .before .before .before .before .before .before .before .before .before .before .before .before .before .before .before .before .before .before .before .before .before .before .before .pre .1 in
+    let a = c .before .before .before .before .before .before .before .before .before .before .before .before .before .before .before .before .before .before .before .before .before .before .before .before .before .before .before .before .before .before .before .before .before .before .before .args in
+    let v = visit-with (aroundOf (a .around)) (entryOfInfo (a .m)) (now (a .list)) (p .0) (p .1) (p .3) in
+    let m1 = c .before .before .before .before .before .before .before .before .before .before .before .before .before .before .before .before .before .before .before .before .before .before .before .before .before .before .visit-marker in
+    let l1 = m1 .last .1 .1 .1 .1 .1 .1 .1 .1 .1 .0 in
+    let mf = c .before .before .before .before .before .before .before .before .before .before .before .before .before .before .before .before .before .before .before .before .before .milestone-findings in
+    let l2 = mf .last .1 .1 .1 .1 .1 .1 .0 in
+    let wc = c .before .before .before .before .before .before .before .before .before .before .before .before .before .before .before .before .before .with-counts in
+    let am = c .before .before .before .before .before .before .before .before .before .before .before .before .before .before .before .before .after-milestone in
+    let o2 = am .last .1 .1 .1 .1 .0 in
+    let st = rw (wc .ensures) at (am .ensures) in
+    let lk = c .before .before .before .before .before .before .before .before .before .before .before .before .before .link-at in
+    let ins = c .before .before .before .before .before .before .before .before .before .before .before .before .inside in
+    let wa = c .before .before .before .before .before .before .before .before .before .before .before .with-anchor in
+    let wk = c .before .before .before .before .before .before .before .walk in
+    rw (c .with-anchor2 .ensures)
+    (visited v l1 (m1 .result) (m1 .ensures) l2 (mf .result) (mf .ensures) o2 (am .result) (am .kept .1 .1 .1 .1 .0) st (aroundOf (ins .result)) (wk .last .1 .1 .1 .1 .1 .1 .1 .1 .1 .1 .0) (wk .last .1 .1 .1 .1 .1 .1 .1 .1 .1 .1 .1 .0) (wk .last .1 .1 .1 .1 .1 .1 .1 .1 .1 .1 .1 .1 .0) (wk .result) (ins .ensures) (rw (lk .ensures, wa .ensures) at (wk .ensures)))
+
+abbrev walk-Inv-loop : walk-lts.InvT-loop
+walk-Inv-loop table words count source tape from to depth around seen₀ opens₀ list₀ r₀ numbers₀ i₀ seen opens list r numbers i =
+    Going table words count source tape depth (aroundOf around) from to (walkAt table source tape (aroundOf around) from to seen₀ opens₀ r₀) list₀ r₀ seen opens list r numbers i × (length seen ≡ length seen₀) × (length opens ≡ length opens₀) × (length list ≡ length list₀)
+
+abbrev walk-μ-loop : walk-lts.MeasureT-loop
+walk-μ-loop table words count source tape from to depth around seen₀ opens₀ list₀ r₀ numbers₀ i₀ seen opens list r numbers i = to - i
+
+-- src/lib.rt:202:9
+walk-anchored-requires : (t : ℕ) → walk-lts.Need-anchored-requires (
+  anchored-reads.Asked,
+  anchored-reads.Learnt,
+  past-node-reads.Asked,
+  past-node-reads.Learnt,
+  kind-at-reads.Asked,
+  kind-at-reads.Learnt,
+  leaf-reads.Asked,
+  leaf-reads.Learnt,
+  numbers-after-reads.Asked,
+  numbers-after-reads.Learnt,
+  marker-info-reads.Asked,
+  marker-info-reads.Learnt,
+  visit-below t,
+  visit.Post,
+) (walk-at t) walk.Post walk-Inv-loop walk-μ-loop
+walk-anchored-requires t c κs =
+    let p = c .before .before .before .before .before .before .before .pre .1 in
+    (p .0 .accepted, p .0 .nested, p .0 .within, p .0 .anchored)
+
+-- src/lib.rt:204:5
+walk-loop-holds : (t : ℕ) → walk-lts.Need-loop-holds (
+  anchored-reads.Asked,
+  anchored-reads.Learnt,
+  past-node-reads.Asked,
+  past-node-reads.Learnt,
+  kind-at-reads.Asked,
+  kind-at-reads.Learnt,
+  leaf-reads.Asked,
+  leaf-reads.Learnt,
+  numbers-after-reads.Asked,
+  numbers-after-reads.Learnt,
+  marker-info-reads.Asked,
+  marker-info-reads.Learnt,
+  visit-below t,
+  visit.Post,
+) (walk-at t) walk.Post walk-Inv-loop walk-μ-loop
+walk-loop-holds t c =
+    let p = c .before .before .before .before .before .before .before .before .pre .1 in
+    let a = c .before .before .before .before .before .before .before .before .args in
+    (going-start (now (a .table)) (now (a .words)) (a .count) (now (a .source)) (now (a .tape)) (a .depth) (aroundOf (a .around)) (a .from) (a .to) (now (a .seen)) (now (a .opens)) (now (a .list)) (a .rec) (c .anchored .result) (p .0) (p .1) (c .anchored .ensures), refl, refl, refl)
+
+-- src/lib.rt:206:9
+walk-past-node-requires : (t : ℕ) → walk-lts.Need-past-node-requires (
+  anchored-reads.Asked,
+  anchored-reads.Learnt,
+  past-node-reads.Asked,
+  past-node-reads.Learnt,
+  kind-at-reads.Asked,
+  kind-at-reads.Learnt,
+  leaf-reads.Asked,
+  leaf-reads.Learnt,
+  numbers-after-reads.Asked,
+  numbers-after-reads.Learnt,
+  marker-info-reads.Asked,
+  marker-info-reads.Learnt,
+  visit-below t,
+  visit.Post,
+) (walk-at t) walk.Post walk-Inv-loop walk-μ-loop
+walk-past-node-requires t c κs =
+    let g = c .before .loop .inv .0 in
+    let more = c .loop-test .taken in
+    going-below g more
+
+-- src/lib.rt:207:12
+walk-kind-at-requires : (t : ℕ) → walk-lts.Need-kind-at-requires (
+  anchored-reads.Asked,
+  anchored-reads.Learnt,
+  past-node-reads.Asked,
+  past-node-reads.Learnt,
+  kind-at-reads.Asked,
+  kind-at-reads.Learnt,
+  leaf-reads.Asked,
+  leaf-reads.Learnt,
+  numbers-after-reads.Asked,
+  numbers-after-reads.Learnt,
+  marker-info-reads.Asked,
+  marker-info-reads.Learnt,
+  visit-below t,
+  visit.Post,
+) (walk-at t) walk.Post walk-Inv-loop walk-μ-loop
+walk-kind-at-requires t c κs =
+    let g = c .before .before .loop .inv .0 in
+    let more = c .before .loop-test .taken in
+    going-below g more
+
+-- src/lib.rt:208:13
+walk-leaf-requires : (t : ℕ) → walk-lts.Need-leaf-requires (
+  anchored-reads.Asked,
+  anchored-reads.Learnt,
+  past-node-reads.Asked,
+  past-node-reads.Learnt,
+  kind-at-reads.Asked,
+  kind-at-reads.Learnt,
+  leaf-reads.Asked,
+  leaf-reads.Learnt,
+  numbers-after-reads.Asked,
+  numbers-after-reads.Learnt,
+  marker-info-reads.Asked,
+  marker-info-reads.Learnt,
+  visit-below t,
+  visit.Post,
+) (walk-at t) walk.Post walk-Inv-loop walk-μ-loop
+walk-leaf-requires t c κs =
+    let g = c .before .before .before .before .before .before .loop .inv .0 in
+    let more = c .before .before .before .before .before .loop-test .taken in
+    let a = c .before .before .before .before .before .before .before .before .before .before .before .before .before .before .before .args in
+    let kd = c .before .before .before .kind-at in
+    let kind = no-open (now (a .source)) (now (a .tape)) (c .before .before .before .before .before .before .loop .i) (kd .result) (kd .ensures) (c .before .before .if1 .taken) in
+    (g .ready .indexed, going-spanned g more, g .ready .sane, leaf-seen g more kind, leaf-verses g more kind, leaf-room g more kind)
+
+-- src/lib.rt:209:13
+walk-numbers-after-requires : (t : ℕ) → walk-lts.Need-numbers-after-requires (
+  anchored-reads.Asked,
+  anchored-reads.Learnt,
+  past-node-reads.Asked,
+  past-node-reads.Learnt,
+  kind-at-reads.Asked,
+  kind-at-reads.Learnt,
+  leaf-reads.Asked,
+  leaf-reads.Learnt,
+  numbers-after-reads.Asked,
+  numbers-after-reads.Learnt,
+  marker-info-reads.Asked,
+  marker-info-reads.Learnt,
+  visit-below t,
+  visit.Post,
+) (walk-at t) walk.Post walk-Inv-loop walk-μ-loop
+walk-numbers-after-requires t c κs =
+    let g = c .before .before .before .before .before .before .before .before .before .before .before .loop .inv .0 in
+    let more = c .before .before .before .before .before .before .before .before .before .before .loop-test .taken in
+    let pn = c .before .before .before .before .before .before .before .before .before .past-node in
+    (going-below g more, rw (pn .ensures) (going-run g more))
+
+-- src/lib.rt:204:5
+walk-loop-less : (t : ℕ) → walk-lts.Need-loop-less (
+  anchored-reads.Asked,
+  anchored-reads.Learnt,
+  past-node-reads.Asked,
+  past-node-reads.Learnt,
+  kind-at-reads.Asked,
+  kind-at-reads.Learnt,
+  leaf-reads.Asked,
+  leaf-reads.Learnt,
+  numbers-after-reads.Asked,
+  numbers-after-reads.Learnt,
+  marker-info-reads.Asked,
+  marker-info-reads.Learnt,
+  visit-below t,
+  visit.Post,
+) (walk-at t) walk.Post walk-Inv-loop walk-μ-loop
+walk-loop-less t c =
+    let g = c .before .before .before .before .before .before .before .before .before .before .before .before .loop .inv .0 in
+    let more = c .before .before .before .before .before .before .before .before .before .before .before .loop-test .taken in
+    let pn = c .before .before .before .before .before .before .before .before .before .before .past-node in
+    let l = going-later g more in
+    omega (arith, l .0, l .1, pn .ensures)
+
+-- src/lib.rt:204:5
+walk-loop-again : (t : ℕ) → walk-lts.Need-loop-again (
+  anchored-reads.Asked,
+  anchored-reads.Learnt,
+  past-node-reads.Asked,
+  past-node-reads.Learnt,
+  kind-at-reads.Asked,
+  kind-at-reads.Learnt,
+  leaf-reads.Asked,
+  leaf-reads.Learnt,
+  numbers-after-reads.Asked,
+  numbers-after-reads.Learnt,
+  marker-info-reads.Asked,
+  marker-info-reads.Learnt,
+  visit-below t,
+  visit.Post,
+) (walk-at t) walk.Post walk-Inv-loop walk-μ-loop
+walk-loop-again t c =
+    let inv = c .before .before .before .before .before .before .before .before .before .before .before .before .loop .inv in
+    let g = c .before .before .before .before .before .before .before .before .before .before .before .before .loop .inv .0 in
+    let more = c .before .before .before .before .before .before .before .before .before .before .before .loop-test .taken in
+    let pn = c .before .before .before .before .before .before .before .before .before .before .past-node in
+    let a = c .before .before .before .before .before .before .before .before .before .before .before .before .before .before .before .before .before .before .before .before .before .args in
+    let kd = c .before .before .before .before .before .before .before .before .before .kind-at in
+    let kind = no-open (now (a .source)) (now (a .tape)) (c .before .before .before .before .before .before .before .before .before .before .before .before .loop .i) (kd .result) (kd .ensures) (c .before .before .before .before .before .before .before .before .if1 .taken) in
+    let lf = c .before .before .before .before .before .leaf in
+    let na = c .numbers-after in
+    (rw (pn .ensures) (going-leaf g more kind (lf .last .1 .1 .1 .1 .1 .1 .1 .1 .0) (lf .last .1 .1 .1 .1 .1 .1 .1 .1 .1 .0) (lf .result) (na .result) (lf .kept .1 .1 .1 .1 .1 .1 .1 .1 .0) (lf .ensures) (rw (pn .ensures) at (na .ensures))), lf .kept .1 .1 .1 .1 .1 .1 .1 .1 .0 ∙ inv .1, inv .2, lf .kept .1 .1 .1 .1 .1 .1 .1 .1 .1 .0 ∙ inv .3)
+
+-- src/lib.rt:212:30
+walk-marker-info-requires : (t : ℕ) → walk-lts.Need-marker-info-requires (
+  anchored-reads.Asked,
+  anchored-reads.Learnt,
+  past-node-reads.Asked,
+  past-node-reads.Learnt,
+  kind-at-reads.Asked,
+  kind-at-reads.Learnt,
+  leaf-reads.Asked,
+  leaf-reads.Learnt,
+  numbers-after-reads.Asked,
+  numbers-after-reads.Learnt,
+  marker-info-reads.Asked,
+  marker-info-reads.Learnt,
+  visit-below t,
+  visit.Post,
+) (walk-at t) walk.Post walk-Inv-loop walk-μ-loop
+walk-marker-info-requires t c κs =
+    let g = c .before .before .before .before .loop .inv .0 in
+    let more = c .before .before .before .loop-test .taken in
+    (g .ready .indexed, going-below g more)
+
+-- src/lib.rt:212:25
+walk-enum-known-m : (t : ℕ) → walk-lts.Need-enum-known-m (
+  anchored-reads.Asked,
+  anchored-reads.Learnt,
+  past-node-reads.Asked,
+  past-node-reads.Learnt,
+  kind-at-reads.Asked,
+  kind-at-reads.Learnt,
+  leaf-reads.Asked,
+  leaf-reads.Learnt,
+  numbers-after-reads.Asked,
+  numbers-after-reads.Learnt,
+  marker-info-reads.Asked,
+  marker-info-reads.Learnt,
+  visit-below t,
+  visit.Post,
+) (walk-at t) walk.Post walk-Inv-loop walk-μ-loop
+walk-enum-known-m t c = search needs
+
+-- src/lib.rt:213:13
+walk-enum-told : (t : ℕ) → walk-lts.Need-enum-told (
+  anchored-reads.Asked,
+  anchored-reads.Learnt,
+  past-node-reads.Asked,
+  past-node-reads.Learnt,
+  kind-at-reads.Asked,
+  kind-at-reads.Learnt,
+  leaf-reads.Asked,
+  leaf-reads.Learnt,
+  numbers-after-reads.Asked,
+  numbers-after-reads.Learnt,
+  marker-info-reads.Asked,
+  marker-info-reads.Learnt,
+  visit-below t,
+  visit.Post,
+) (walk-at t) walk.Post walk-Inv-loop walk-μ-loop
+walk-enum-told t c = search needs
+
+-- src/lib.rt:204:5
+walk-loop-less-2 : (t : ℕ) → walk-lts.Need-loop-less-2 (
+  anchored-reads.Asked,
+  anchored-reads.Learnt,
+  past-node-reads.Asked,
+  past-node-reads.Learnt,
+  kind-at-reads.Asked,
+  kind-at-reads.Learnt,
+  leaf-reads.Asked,
+  leaf-reads.Learnt,
+  numbers-after-reads.Asked,
+  numbers-after-reads.Learnt,
+  marker-info-reads.Asked,
+  marker-info-reads.Learnt,
+  visit-below t,
+  visit.Post,
+) (walk-at t) walk.Post walk-Inv-loop walk-μ-loop
+walk-loop-less-2 t c =
+    let g = c .before .before .before .before .before .before .before .loop .inv .0 in
+    let more = c .before .before .before .before .before .before .loop-test .taken in
+    let pn = c .before .before .before .before .before .past-node in
+    let l = going-later g more in
+    omega (arith, l .0, l .1, pn .ensures)
+
+-- src/lib.rt:204:5
+walk-loop-again-2 : (t : ℕ) → walk-lts.Need-loop-again-2 (
+  anchored-reads.Asked,
+  anchored-reads.Learnt,
+  past-node-reads.Asked,
+  past-node-reads.Learnt,
+  kind-at-reads.Asked,
+  kind-at-reads.Learnt,
+  leaf-reads.Asked,
+  leaf-reads.Learnt,
+  numbers-after-reads.Asked,
+  numbers-after-reads.Learnt,
+  marker-info-reads.Asked,
+  marker-info-reads.Learnt,
+  visit-below t,
+  visit.Post,
+) (walk-at t) walk.Post walk-Inv-loop walk-μ-loop
+walk-loop-again-2 t c =
+    let inv = c .before .before .before .before .before .before .before .loop .inv in
+    let g = c .before .before .before .before .before .before .before .loop .inv .0 in
+    let more = c .before .before .before .before .before .before .loop-test .taken in
+    let pn = c .before .before .before .before .before .past-node in
+    let a = c .before .before .before .before .before .before .before .before .before .before .before .before .before .before .before .before .args in
+    let kd = c .before .before .before .before .kind-at in
+    let kind = is-open (now (a .source)) (now (a .tape)) (c .before .before .before .before .before .before .before .loop .i) (kd .result) (kd .ensures) (c .before .before .before .if1 .left) in
+    let mi = c .before .before .marker-info in
+    (rw (pn .ensures) (going-skip g more kind (entry-none (now (a .table)) (now (a .source)) (now (a .tape)) (c .before .before .before .before .before .before .before .loop .i) (mi .result) (mi .ensures) (c .enum-told .given .1))), inv .1, inv .2, inv .3)
+
+-- src/lib.rt:215:9
+walk-visit-requires : (t : ℕ) → walk-lts.Need-visit-requires (
+  anchored-reads.Asked,
+  anchored-reads.Learnt,
+  past-node-reads.Asked,
+  past-node-reads.Learnt,
+  kind-at-reads.Asked,
+  kind-at-reads.Learnt,
+  leaf-reads.Asked,
+  leaf-reads.Learnt,
+  numbers-after-reads.Asked,
+  numbers-after-reads.Learnt,
+  marker-info-reads.Asked,
+  marker-info-reads.Learnt,
+  visit-below t,
+  visit.Post,
+) (walk-at t) walk.Post walk-Inv-loop walk-μ-loop
+walk-visit-requires t c κs =
+    let g = c .before .before .before .before .before .before .before .before .before .before .before .loop .inv .0 in
+    let more = c .before .before .before .before .before .before .before .before .before .before .loop-test .taken in
+    let a = c .before .before .before .before .before .before .before .before .before .before .before .before .before .before .before .before .before .before .before .before .args in
+    let kd = c .before .before .before .before .before .before .before .before .kind-at in
+    let kind = is-open (now (a .source)) (now (a .tape)) (c .before .before .before .before .before .before .before .before .before .before .before .loop .i) (kd .result) (kd .ensures) (c .before .before .before .before .before .before .before .if1 .left) in
+    let mi = c .before .before .before .before .before .before .marker-info in
+    let m = c .before .before .before .before .m .given in
+    let known = entry-some (now (a .table)) (now (a .source)) (now (a .tape)) (c .before .before .before .before .before .before .before .before .before .before .before .loop .i) (mi .result) (mi .ensures) (m .0 .0) (m .1) in
+    (omega (arith, c .before .before .before .before .before .before .before .before .before .before .before .before .before .before .before .before .before .before .before .before .pre .0), (g .ready, visit-able g more kind (entryOfInfo (m .0 .0)) known, entry-inside (now (a .table)) (now (a .words)) (a .count) (now (a .source)) (now (a .tape)) (c .before .before .before .before .before .before .before .before .before .before .before .loop .i) (m .0 .0) (g .ready .indexed) known, visit-room g more kind (entryOfInfo (m .0 .0)) known))
+
+-- src/lib.rt:204:5
+walk-loop-less-3 : (t : ℕ) → walk-lts.Need-loop-less-3 (
+  anchored-reads.Asked,
+  anchored-reads.Learnt,
+  past-node-reads.Asked,
+  past-node-reads.Learnt,
+  kind-at-reads.Asked,
+  kind-at-reads.Learnt,
+  leaf-reads.Asked,
+  leaf-reads.Learnt,
+  numbers-after-reads.Asked,
+  numbers-after-reads.Learnt,
+  marker-info-reads.Asked,
+  marker-info-reads.Learnt,
+  visit-below t,
+  visit.Post,
+) (walk-at t) walk.Post walk-Inv-loop walk-μ-loop
+walk-loop-less-3 t c =
+    let g = c .before .before .before .before .before .before .before .before .before .before .before .before .before .before .before .before .before .before .loop .inv .0 in
+    let more = c .before .before .before .before .before .before .before .before .before .before .before .before .before .before .before .before .before .loop-test .taken in
+    let pn = c .before .before .before .before .before .before .before .before .before .before .before .before .before .before .before .before .past-node in
+    let l = going-later g more in
+    omega (arith, l .0, l .1, pn .ensures)
+
+-- src/lib.rt:204:5
+walk-loop-again-3 : (t : ℕ) → walk-lts.Need-loop-again-3 (
+  anchored-reads.Asked,
+  anchored-reads.Learnt,
+  past-node-reads.Asked,
+  past-node-reads.Learnt,
+  kind-at-reads.Asked,
+  kind-at-reads.Learnt,
+  leaf-reads.Asked,
+  leaf-reads.Learnt,
+  numbers-after-reads.Asked,
+  numbers-after-reads.Learnt,
+  marker-info-reads.Asked,
+  marker-info-reads.Learnt,
+  visit-below t,
+  visit.Post,
+) (walk-at t) walk.Post walk-Inv-loop walk-μ-loop
+walk-loop-again-3 t c =
+    let inv = c .before .before .before .before .before .before .before .before .before .before .before .before .before .before .before .before .before .before .loop .inv in
+    let g = c .before .before .before .before .before .before .before .before .before .before .before .before .before .before .before .before .before .before .loop .inv .0 in
+    let more = c .before .before .before .before .before .before .before .before .before .before .before .before .before .before .before .before .before .loop-test .taken in
+    let pn = c .before .before .before .before .before .before .before .before .before .before .before .before .before .before .before .before .past-node in
+    let a = c .before .before .before .before .before .before .before .before .before .before .before .before .before .before .before .before .before .before .before .before .before .before .before .before .before .before .before .args in
+    let kd = c .before .before .before .before .before .before .before .before .before .before .before .before .before .before .before .kind-at in
+    let kind = is-open (now (a .source)) (now (a .tape)) (c .before .before .before .before .before .before .before .before .before .before .before .before .before .before .before .before .before .before .loop .i) (kd .result) (kd .ensures) (c .before .before .before .before .before .before .before .before .before .before .before .before .before .before .if1 .left) in
+    let mi = c .before .before .before .before .before .before .before .before .before .before .before .before .before .marker-info in
+    let m = c .before .before .before .before .before .before .before .before .before .before .before .m .given in
+    let known = entry-some (now (a .table)) (now (a .source)) (now (a .tape)) (c .before .before .before .before .before .before .before .before .before .before .before .before .before .before .before .before .before .before .loop .i) (mi .result) (mi .ensures) (m .0 .0) (m .1) in
+    let vs = c .before .before .before .before .before .before .visit in
+    (rw (pn .ensures) (going-open g more kind (entryOfInfo (m .0 .0)) known (vs .last .1 .1 .1 .1 .1 .1 .1 .1 .1 .1 .1 .1 .0) (vs .last .1 .1 .1 .1 .1 .1 .1 .1 .1 .1 .1 .1 .1 .0) (vs .last .1 .1 .1 .1 .1 .1 .1 .1 .1 .1 .1 .1 .1 .1 .0) (vs .result) (vs .kept .1 .1 .1 .1 .1 .1 .1 .1 .1 .1 .1 .1 .0) (vs .kept .1 .1 .1 .1 .1 .1 .1 .1 .1 .1 .1 .1 .1 .0) (vs .ensures)), vs .kept .1 .1 .1 .1 .1 .1 .1 .1 .1 .1 .1 .1 .0 ∙ inv .1, vs .kept .1 .1 .1 .1 .1 .1 .1 .1 .1 .1 .1 .1 .1 .0 ∙ inv .2, vs .kept .1 .1 .1 .1 .1 .1 .1 .1 .1 .1 .1 .1 .1 .1 .0 ∙ inv .3)
+
+-- src/lib.rt:183:1
+walk-same-length : (t : ℕ) → walk-lts.Need-same-length (
+  anchored-reads.Asked,
+  anchored-reads.Learnt,
+  past-node-reads.Asked,
+  past-node-reads.Learnt,
+  kind-at-reads.Asked,
+  kind-at-reads.Learnt,
+  leaf-reads.Asked,
+  leaf-reads.Learnt,
+  numbers-after-reads.Asked,
+  numbers-after-reads.Learnt,
+  marker-info-reads.Asked,
+  marker-info-reads.Learnt,
+  visit-below t,
+  visit.Post,
+) (walk-at t) walk.Post walk-Inv-loop walk-μ-loop
+walk-same-length t c = c .before .loop .inv .1
+
+-- src/lib.rt:183:1
+walk-same-length-2 : (t : ℕ) → walk-lts.Need-same-length-2 (
+  anchored-reads.Asked,
+  anchored-reads.Learnt,
+  past-node-reads.Asked,
+  past-node-reads.Learnt,
+  kind-at-reads.Asked,
+  kind-at-reads.Learnt,
+  leaf-reads.Asked,
+  leaf-reads.Learnt,
+  numbers-after-reads.Asked,
+  numbers-after-reads.Learnt,
+  marker-info-reads.Asked,
+  marker-info-reads.Learnt,
+  visit-below t,
+  visit.Post,
+) (walk-at t) walk.Post walk-Inv-loop walk-μ-loop
+walk-same-length-2 t c = c .before .loop .inv .2
+
+-- src/lib.rt:183:1
+walk-same-length-3 : (t : ℕ) → walk-lts.Need-same-length-3 (
+  anchored-reads.Asked,
+  anchored-reads.Learnt,
+  past-node-reads.Asked,
+  past-node-reads.Learnt,
+  kind-at-reads.Asked,
+  kind-at-reads.Learnt,
+  leaf-reads.Asked,
+  leaf-reads.Learnt,
+  numbers-after-reads.Asked,
+  numbers-after-reads.Learnt,
+  marker-info-reads.Asked,
+  marker-info-reads.Learnt,
+  visit-below t,
+  visit.Post,
+) (walk-at t) walk.Post walk-Inv-loop walk-μ-loop
+walk-same-length-3 t c = c .before .loop .inv .3
+
+-- src/lib.rt:183:1
+walk-returns : (t : ℕ) → walk-lts.Need-returns (
+  anchored-reads.Asked,
+  anchored-reads.Learnt,
+  past-node-reads.Asked,
+  past-node-reads.Learnt,
+  kind-at-reads.Asked,
+  kind-at-reads.Learnt,
+  leaf-reads.Asked,
+  leaf-reads.Learnt,
+  numbers-after-reads.Asked,
+  numbers-after-reads.Learnt,
+  marker-info-reads.Asked,
+  marker-info-reads.Learnt,
+  visit-below t,
+  visit.Post,
+) (walk-at t) walk.Post walk-Inv-loop walk-μ-loop
+walk-returns t c = going-end (c .before .loop .inv .0) (c .loop-test .left)
+
+pub +visit+walk-spec : {M : Type 1} → statement M
++visit+walk-spec = close μ-visit μ-walk (λ t. visit-lts.spec (
+  visit-marker-reads.Asked,
+  visit-marker-reads.Learnt,
+  milestone-findings-reads.Asked,
+  milestone-findings-reads.Learnt,
+  with-counts-reads.Asked,
+  with-counts-reads.Learnt,
+  after-milestone-reads.Asked,
+  after-milestone-reads.Learnt,
+  link-at-reads.Asked,
+  link-at-reads.Learnt,
+  inside-reads.Asked,
+  inside-reads.Learnt,
+  with-anchor-reads.Asked,
+  with-anchor-reads.Learnt,
+  walk-below t,
+  walk.Post,
+)
+    (visit-at t)
+    visit.Post
+    (visit-visit-marker-requires t)
+    (visit-milestone-findings-requires t)
+    (visit-with-counts-requires t)
+    (visit-after-milestone-requires t)
+    (visit-add-walk t)
+    (visit-link-at-requires t)
+    (visit-cast-walk t)
+    (visit-sub-walk t)
+    (visit-inside-requires t)
+    (visit-with-anchor-requires t)
+    (visit-walk-requires t)
+    (visit-with-anchor-requires-2 t)
+    (visit-same-length t)
+    (visit-same-length-2 t)
+    (visit-same-length-3 t)
+    (visit-returns t))
+    λ t. walk-lts.spec (
+      anchored-reads.Asked,
+      anchored-reads.Learnt,
+      past-node-reads.Asked,
+      past-node-reads.Learnt,
+      kind-at-reads.Asked,
+      kind-at-reads.Learnt,
+      leaf-reads.Asked,
+      leaf-reads.Learnt,
+      numbers-after-reads.Asked,
+      numbers-after-reads.Learnt,
+      marker-info-reads.Asked,
+      marker-info-reads.Learnt,
+      visit-below t,
+      visit.Post,
+    )
+    (walk-at t)
+    walk.Post
+    walk-Inv-loop
+    walk-μ-loop
+    (walk-anchored-requires t)
+    (walk-loop-holds t)
+    (walk-past-node-requires t)
+    (walk-kind-at-requires t)
+    (walk-leaf-requires t)
+    (walk-numbers-after-requires t)
+    (walk-loop-less t)
+    (walk-loop-again t)
+    (walk-marker-info-requires t)
+    (walk-enum-known-m t)
+    (walk-enum-told t)
+    (walk-loop-less-2 t)
+    (walk-loop-again-2 t)
+    (walk-visit-requires t)
+    (walk-loop-less-3 t)
+    (walk-loop-again-3 t)
+    (walk-same-length t)
+    (walk-same-length-2 t)
+    (walk-same-length-3 t)
+    (walk-returns t)

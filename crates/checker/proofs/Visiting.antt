@@ -1,0 +1,221 @@
+-- The visit of a marker, call by call.
+-- Assumes nothing.
+use Prim.Native.Nat.{ℕ, zero, suc, _+_, _-_, _*_, _%_, _<_, _≤_}
+use native.Mathlib.Omega.{arith}
+use mathlib.Core.Path.{_≡_, refl, sym, ap, ap₂, subst, _∙_}
+use mathlib.Core.Bool.{Bool, true, false, not, false≢true}
+use lib.Dec.{eqb, ltb}
+use borrow.Author.Tests.{ltb-false}
+use Rattle.text.specs.Pick.{either}
+use mathlib.Core.List.{List, [], _∷_, _++_}
+use mathlib.Core.Option.{Option, some, none}
+use lib.ListN.{length}
+use Rattle.tape.specs.Nodes.{Node, count, nodeAt, kindAt, linkAt, isOpen}
+use Rattle.tape.specs.Forest.{Forest, end, forest, Nested, Accepted}
+use Rattle.tape.proofs.Nest.{nested-le, nested-open}
+use Rattle.table.specs.Entries.{Entry, Indexed}
+use Rattle.cursor.specs.Inner.{Run, Spanned}
+use Rattle.cursor.specs.Steps.{pastNode}
+use Rattle.cursor.proofs.Around.{spanned}
+use Rattle.cursor.proofs.Runs.{past-open, open-later}
+use Rattle.findings.specs.Finding.{Finding}
+use Rattle.findings.specs.declared.Counts.{Counts}
+use Rattle.findings.specs.Written.{Wrote, Room}
+use Rattle.findings.proofs.Overlay.{Left, left-start, left-wrote, left-room, room-first, wrote-append}
+use Rattle.attachment.specs.Attached.{startsOf}
+use Rattle.attachment.specs.declared.Attached.{Attached}
+use Rattle.validate.specs.State.{State, Anchor, Told}
+use Rattle.validate.specs.State as state
+use Rattle.validate.specs.Checks.{given, afterId}
+use Rattle.validate.specs.Milestones.{milestoneChecks, afterMilestone}
+use Rattle.validate.specs.Walk.{walk, openTold, inside}
+use Rattle.validate.specs.Walk as def
+use Rattle.running.specs.Running.{stateOf, countsOf, anchorOf, withCounts, withAnchor, Sane, Opens}
+use Rattle.running.specs.declared.Record.{Record}
+use Rattle.opens.specs.Own.{isId, childrenAt, ownAt, Marked}
+use Rattle.milestones.specs.Steps.{Stepped}
+use Rattle.checker.specs.Walking.{Anchored, nowhere, walkAt, Ready, Went, Walked, toldAt, below, visitFindings, visitState, Visited, Visitable}
+
+-- an accepted tape has at most 65,535 nodes
+last-false : (a b c : Bool) → either a (either b c) ≡ false → c ≡ false
+last-false true b c e = absurd (false≢true (sym e))
+last-false false true c e = absurd (false≢true (sym e))
+last-false false false c e = e
+
+pub count-low : (s t : List ℕ) → Accepted s t → count t ≤ 65535
+count-low s t ok = ltb-false 65535 (count t) (last-false (eqb (length t) 0) (not (eqb (length t % 16) 0)) (ltb 65535 (count t)) (ok .sized))
+
+-- what a visit begins with
+pub record Visit (table words : List ℕ) (entries : ℕ) (s t : List ℕ) (depth : ℕ) (o : state.Around) (i to : ℕ) (e : Entry) (numbers : Attached) (seen opens l : List ℕ) (r : Record) : Type 0 where
+  pub ready : Ready table words entries s t depth i to seen opens r
+  pub able : Visitable s t i to numbers r
+  pub room : Room (countsOf r) (visitFindings table s t o e i to seen opens r)
+
+module _ {table words : List ℕ} {entries : ℕ} {s t : List ℕ} {depth : ℕ} {o : state.Around} {i to : ℕ} {e : Entry} {numbers : Attached} {seen opens l : List ℕ} {r : Record} (v : Visit table words entries s t depth o i to e numbers seen opens l r) where
+  abbrev x : Node
+  x = nodeAt s t i
+
+  abbrev c : Forest
+  c = childrenAt s t i
+
+  -- the record after `id`
+  abbrev st₁ : State
+  st₁ = afterId (isId table e) (stateOf s t seen opens r) c
+
+  abbrev own : List Finding
+  own = ownAt table s t o (anchorOf s t (r .anchor) i) e i to r
+
+  abbrev milestone : List Finding
+  milestone = given (milestoneChecks e st₁ x)
+
+  abbrev children : List Finding
+  children = below table s t o e i (toldAt table s t o e i to seen opens r) .findings
+
+  -- the parts of what is said
+  told-findings : toldAt table s t o e i to seen opens r .findings ≡ own ++ milestone
+  unfolding openTold afterId
+  told-findings = refl
+
+  told-state : toldAt table s t o e i to seen opens r .state ≡ afterMilestone e st₁ x
+  unfolding openTold
+  told-state = refl
+
+  parts : visitFindings table s t o e i to seen opens r ≡ (own ++ milestone) ++ children
+  parts = ap (_++ children) told-findings
+
+  pub visit-run : Run s t i to
+  visit-run = record { accepted = v .ready .accepted; depth = depth; nested = v .ready .nested; from = v .ready .start; inside = v .ready .within }
+
+  pub visit-below : i < count t
+  visit-below = let m = v .able .more in let w = v .ready .within in omega arith
+
+  pub visit-low : i < 65535
+  visit-low = let b = visit-below in let k = count-low s t (v .ready .accepted) in omega arith
+
+  pub visit-spanned : Spanned s t i
+  visit-spanned = spanned s t i (v .ready .accepted) (v .ready .start) visit-below
+
+  whole : Left ((own ++ milestone) ++ children) l (countsOf r) ((own ++ milestone) ++ children) l (countsOf r)
+  whole = left-start _ l (countsOf r)
+
+  roomy : Room (countsOf r) ((own ++ milestone) ++ children)
+  roomy = rw parts at (v .room)
+
+  pub own-room : Room (countsOf r) own
+  own-room = room-first (countsOf r) own milestone (room-first (countsOf r) (own ++ milestone) children roomy)
+
+  pub visit-deep : 1 ≤ depth
+  visit-deep = nested-open (v .ready .nested) (v .able .more) (v .able .opened) .deeper
+
+  link-later : (i < linkAt t i) × (linkAt t i < to)
+  link-later = open-later s t i to visit-run (v .able .more) (v .able .opened)
+
+  -- after the checks of the marker
+  module _ (l₁ : List ℕ) (r₁ : Record) (marked : Marked table s t o (anchorOf s t (r .anchor) i) e i to l r l₁ r₁) where
+    same-open : r₁ .«open» ≡ r .«open»
+    same-open = marked .same .opens
+
+    milestone-same : given (milestoneChecks e (stateOf s t [] opens r₁) x) ≡ milestone
+    unfolding afterId
+    milestone-same = rw same-open
+
+    pub milestone-opens : Opens s t opens (r₁ .«open»)
+    milestone-opens = rw same-open (v .ready .starts)
+
+    after-own : Left (own ++ milestone) l (countsOf r) milestone l₁ (countsOf r₁)
+    after-own = left-wrote {gs = own} (left-start (own ++ milestone) l (countsOf r)) (marked .wrote)
+
+    pub milestone-room : Room (countsOf r₁) (given (milestoneChecks e (stateOf s t [] opens r₁) x))
+    milestone-room = rw milestone-same (left-room after-own (room-first (countsOf r) (own ++ milestone) children roomy))
+
+    -- after the milestone's finding
+    module _ (l₂ : List ℕ) (k : Counts) (told : Wrote (given (milestoneChecks e (stateOf s t [] opens r₁) x)) l₁ (countsOf r₁) l₂ k) where
+      pub step-opens : Opens s t opens (withCounts r₁ k .«open»)
+      step-opens = milestone-opens
+
+      pub step-room : 2 * (withCounts r₁ k .«open» + 1) ≤ length opens
+      step-room =
+          let a = v .ready .open-room in
+          let b = v .able .more in
+          rw same-open (omega arith)
+
+      both-wrote : Wrote (own ++ milestone) l (countsOf r) l₂ k
+      both-wrote = wrote-append (marked .wrote) (rw milestone-same at told)
+
+      -- after its step
+      module _ (opens₂ : List ℕ) (r₂ : Record) (lo : length opens₂ ≡ length opens) (stepped : Stepped e s t i opens (withCounts r₁ k) opens₂ r₂) where
+        counts-now : countsOf r₂ ≡ k
+        counts-now = stepped .counts
+
+        state-now : stateOf s t seen opens₂ (withAnchor r₂ 0) ≡ toldAt table s t o e i to seen opens r .state
+        state-now = stepped .state seen ∙ ap (λ (z : State). afterMilestone e z x) (marked .state seen opens) ∙ sym told-state
+
+        seen-now : r₂ .seen ≡ r .seen
+        seen-now = stepped .seen ∙ marked .same .seen
+
+        verses-now : r₂ .verses ≡ r .verses
+        verses-now = stepped .verses ∙ marked .same .verses
+
+        pub children-ready : Ready table words entries s t (depth - 1) (i + 1) (linkAt t i) seen opens₂ (withAnchor r₂ 0)
+        children-ready =
+            let inner = nested-open (v .ready .nested) (v .able .more) (v .able .opened) in
+            let ll = link-later in
+            let a = v .ready .seen-room in
+            let b = v .ready .open-room in
+            let d = v .ready .verses-room in
+            let f = stepped .few in
+            let w = v .ready .within in
+            let g = v .ready .start in
+            let so = same-open in
+            record {
+              indexed = v .ready .indexed;
+              accepted = v .ready .accepted;
+              nested = inner .children;
+              start = omega arith;
+              within = omega (arith, ll .1);
+              starts = stepped .opens;
+              sane = rw (stepped .verse, marked .verse) (v .ready .sane);
+              seen-room = rw seen-now (omega (arith, ll .0, ll .1));
+              open-room = rw lo (omega (arith, ll .0, ll .1));
+              verses-room = rw verses-now (omega (arith, ll .0, ll .1));
+              anchored = nowhere;
+            }
+
+        walk-same : (o′ : state.Around) → o′ ≡ inside o e → walkAt table s t o′ (i + 1) (linkAt t i) seen opens₂ (withAnchor r₂ 0) ≡ below table s t o e i (toldAt table s t o e i to seen opens r)
+        walk-same o′ h = ap₂ (λ (z : state.Around) (y : State). walk table z none (forest s t (i + 1) (linkAt t i)) y) h state-now
+
+        pub children-room : (o′ : state.Around) → o′ ≡ inside o e → Room (countsOf (withAnchor r₂ 0)) (walkAt table s t o′ (i + 1) (linkAt t i) seen opens₂ (withAnchor r₂ 0) .findings)
+        children-room o′ h =
+            subst (λ (z : Counts). Room z (walkAt table s t o′ (i + 1) (linkAt t i) seen opens₂ (withAnchor r₂ 0) .findings)) (sym counts-now)
+            (subst (λ (w : def.Walked). Room k (w .findings)) (sym (walk-same o′ h)) (left-room (left-wrote {gs = own ++ milestone} {fs = children} whole both-wrote) roomy))
+
+        pub visited : (o′ : state.Around) (seen′ opens′ l′ : List ℕ) (r₃ : Record) → o′ ≡ inside o e → Walked s t (walkAt table s t o′ (i + 1) (linkAt t i) seen opens₂ (withAnchor r₂ 0)) (depth - 1) (i + 1) (linkAt t i) l₂ (withAnchor r₂ 0) seen′ opens′ l′ r₃ → Visited table s t o e i to seen opens l r seen′ opens′ l′ (withAnchor r₃ (r .anchor))
+        visited o′ seen′ opens′ l′ r₃ h walked =
+            let w = walked .went in
+            let same = walk-same o′ h in
+            let ll = link-later in
+            let p = past-open s t i to visit-run (v .able .more) (v .able .opened) in
+            let sn = seen-now in
+            let vn = verses-now in
+            let f = stepped .few in
+            let so = same-open in
+            let sf = w .seen-few in
+            let of = w .open-few in
+            let vf = w .verses-few in
+            let wrote : Wrote children l₂ k l′ (countsOf r₃) = subst (λ (z : Counts). Wrote children l₂ z l′ (countsOf r₃)) counts-now (subst (λ (y : def.Walked). Wrote (y .findings) l₂ (countsOf r₂) l′ (countsOf r₃)) same (w .wrote)) in
+            record {
+              went =
+                  record {
+                    wrote = rw parts (wrote-append both-wrote wrote);
+                    state = rw same at (w .state);
+                    starts = w .starts;
+                    sane = w .sane;
+                    seen-few = omega (arith, ll .0);
+                    open-few = omega (arith, ll .0);
+                    verses-few = omega (arith, ll .0);
+                  };
+              anchor = refl;
+            }
+
+pub visit-with : {table words : List ℕ} {entries : ℕ} {s t : List ℕ} {depth i to : ℕ} {numbers : Attached} {seen opens : List ℕ} {r : Record} (o : state.Around) (e : Entry) (l : List ℕ) → Ready table words entries s t depth i to seen opens r → Visitable s t i to numbers r → Room (countsOf r) (visitFindings table s t o e i to seen opens r) → Visit table words entries s t depth o i to e numbers seen opens l r
+visit-with o e l ready able room = record { ready = ready; able = able; room = room }

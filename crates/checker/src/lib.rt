@@ -1,0 +1,211 @@
+// The walk over a document: a run of siblings, and the visit of one node, each one level deeper.
+use attachment::Attached;
+use running::Around;
+use running::Record;
+use table::Info;
+use table::MarkerInfo;
+ghost use mathlib.Core.Path.{_≡_};
+ghost use mathlib.Core.List.{[]};
+ghost use Prim.Native.Nat.{_+_, _<_, _≤_};
+ghost use lib.ListN.{length};
+ghost use Rattle.tape.specs.Nodes.{nodeAt};
+ghost use Rattle.tape.specs.Nodes.{count as nodes};
+ghost use Rattle.tape.specs.Forest.{forest, Nested, Accepted};
+ghost use Rattle.table.specs.Entries.{Indexed, entryOfInfo};
+ghost use Rattle.cursor.specs.Inner.{Run, Spanned};
+ghost use Rattle.findings.specs.Written.{Room};
+ghost use Rattle.attachment.specs.Attached.{startsOf};
+ghost use Rattle.validate.specs.Checks.{leafTold};
+ghost use Rattle.running.specs.Running.{stateOf, aroundOf, anchorOf, startsFor, countsOf, Sane};
+ghost use Rattle.checker.specs.Walking.{Ready, Walked, Visited, Visitable, Anchored, walkAt, visitFindings, LeafPassed, numbersAfter};
+
+// The numbers attached to an anchor, among the siblings up to `to`; none without an anchor.
+fn anchored(
+    source: &[u8],
+    tape: &[u8],
+    depth: usize,
+    anchor: usize,
+    from: usize,
+    to: usize,
+) -> Attached
+    requires { ⌜ (Accepted (now source) (now tape)) × (Nested (now tape) depth from to) × (to ≤ nodes (now tape)) × (Anchored (now tape) depth anchor from) ⌝ }
+    ensures { λ r. ⌜ startsOf r ≡ startsFor (anchorOf (now (source .entry)) (now (tape .entry)) anchor from) (forest (now (source .entry)) (now (tape .entry)) from to) ⌝ }
+{
+    if anchor == 0 {
+        return Attached::Nothing;
+    }
+    attachment::attached_numbers(
+        source,
+        tape,
+        tape::kind_at(tape, anchor),
+        cursor::past_node(tape, anchor),
+        to,
+    )
+}
+
+// The numbers attached after a leaf, to those that follow it: of a new anchor, or as they were.
+fn numbers_after(
+    source: &[u8],
+    tape: &[u8],
+    i: usize,
+    next: usize,
+    to: usize,
+    numbers: Attached,
+) -> Attached
+    requires { ⌜ (i < nodes (now tape)) × (Run (now source) (now tape) next to) ⌝ }
+    ensures { λ r. ⌜ startsOf r ≡ numbersAfter (now (source .entry)) (now (tape .entry)) i next to (startsOf numbers) ⌝ }
+{
+    let kind = tape::kind_at(tape, i);
+    if kind == 3 {
+        return attachment::attached_numbers(source, tape, kind, next, to);
+    }
+    if kind == 4 {
+        return attachment::attached_numbers(source, tape, kind, next, to);
+    }
+    numbers
+}
+
+// The record after a leaf: a Chapter or a Verse is the new anchor.
+fn leaf(
+    table: &[u8],
+    words: &[u64],
+    count: usize,
+    source: &[u8],
+    tape: &[u8],
+    i: usize,
+    around: Around,
+    rec: Record,
+    seen: &mut [u32],
+    list: &mut [u64],
+) -> Record
+    requires { ⌜ (Indexed (now table) (now words) count) × (Spanned (now source) (now tape) i) × Sane rec × (rec .seen < length (now seen)) × (rec .verses < 4611686018427387904) × Room (countsOf rec) (leafTold (now table) (aroundOf around) (stateOf (now source) (now tape) (now seen) [] rec) (nodeAt (now source) (now tape) i) .findings) ⌝ }
+    ensures { λ r. ⌜ LeafPassed (now (table .entry)) (now (source .entry)) (now (tape .entry)) (aroundOf around) i (now (seen .entry)) (now (list .entry)) rec (now (seen .exit)) (now (list .exit)) r ⌝ }
+{
+    let r = leaves::visit_leaf(
+        table,
+        words,
+        count,
+        source,
+        tape,
+        i,
+        around,
+        rec,
+        seen,
+        list,
+    );
+    let kind = tape::kind_at(tape, i);
+    if kind == 3 {
+        return running::with_anchor(r, i);
+    }
+    if kind == 4 {
+        return running::with_anchor(r, i);
+    }
+    r
+}
+
+fn visit(
+    table: &[u8],
+    words: &[u64],
+    count: usize,
+    source: &[u8],
+    tape: &[u8],
+    i: usize,
+    to: usize,
+    depth: usize,
+    m: MarkerInfo,
+    around: Around,
+    numbers: Attached,
+    rec: Record,
+    seen: &mut [u32],
+    opens: &mut [u64],
+    list: &mut [u64],
+) -> Record
+    requires { ⌜ (Ready (now table) (now words) count (now source) (now tape) depth i to (now seen) (now opens) rec) × (Visitable (now source) (now tape) i to numbers rec) × (m .«name_start» + m .«name_len» ≤ length (now table)) × Room (countsOf rec) (visitFindings (now table) (now source) (now tape) (aroundOf around) (entryOfInfo m) i to (now seen) (now opens) rec) ⌝ }
+    ensures { λ r. ⌜ Visited (now (table .entry)) (now (source .entry)) (now (tape .entry)) (aroundOf around) (entryOfInfo m) i to (now (seen .entry)) (now (opens .entry)) (now (list .entry)) rec (now (seen .exit)) (now (opens .exit)) (now (list .exit)) r ⌝ }
+{
+    let anchor = rec.anchor;
+    let r1 = opens::visit_marker(table, m, source, tape, i, to, around, numbers, rec, list);
+    let c = milestones::milestone_findings(m, source, tape, i, opens, r1, list);
+    let r2 = milestones::after_milestone(m, source, tape, i, opens, running::with_counts(r1, c));
+    let r3 = walk(
+        table,
+        words,
+        count,
+        source,
+        tape,
+        i + 1,
+        tape::link_at(tape, i) as usize,
+        depth - 1,
+        running::inside(around, m),
+        running::with_anchor(r2, 0),
+        seen,
+        opens,
+        list,
+    );
+    running::with_anchor(r3, anchor)
+}
+
+// The findings of the nodes from one up to another, the record after them with its lists, and the last anchor.
+pub fn walk(
+    table: &[u8],
+    words: &[u64],
+    count: usize,
+    source: &[u8],
+    tape: &[u8],
+    from: usize,
+    to: usize,
+    depth: usize,
+    around: Around,
+    rec: Record,
+    seen: &mut [u32],
+    opens: &mut [u64],
+    list: &mut [u64],
+) -> Record
+    requires { ⌜ (Ready (now table) (now words) count (now source) (now tape) depth from to (now seen) (now opens) rec) × Room (countsOf rec) (walkAt (now table) (now source) (now tape) (aroundOf around) from to (now seen) (now opens) rec .findings) ⌝ }
+    ensures { λ r. ⌜ Walked (now (source .entry)) (now (tape .entry)) (walkAt (now (table .entry)) (now (source .entry)) (now (tape .entry)) (aroundOf around) from to (now (seen .entry)) (now (opens .entry)) rec) depth from to (now (list .entry)) rec (now (seen .exit)) (now (opens .exit)) (now (list .exit)) r ⌝ }
+{
+    let mut r = rec;
+    let mut numbers = anchored(source, tape, depth, rec.anchor, from, to);
+    let mut i = from;
+    while i < to {
+        let here = i;
+        i = cursor::past_node(tape, here);
+        if tape::kind_at(tape, here) != 1 {
+            r = leaf(
+                table,
+                words,
+                count,
+                source,
+                tape,
+                here,
+                around,
+                r,
+                seen,
+                list,
+            );
+            numbers = numbers_after(source, tape, here, i, to, numbers);
+            continue;
+        }
+        let Info::Known(m) = cursor::marker_info(table, words, count, tape, here) else {
+            continue;
+        };
+        r = visit(
+            table,
+            words,
+            count,
+            source,
+            tape,
+            here,
+            to,
+            depth,
+            m,
+            around,
+            numbers,
+            r,
+            seen,
+            opens,
+            list,
+        );
+    }
+    r
+}

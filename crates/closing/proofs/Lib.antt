@@ -1,0 +1,4 @@
+pub mod Zeroed
+pub mod Solid
+pub mod Starts
+pub mod Lacking

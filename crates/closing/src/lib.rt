@@ -1,0 +1,146 @@
+// Before the walk and after it: text before `\id`, the closing findings, and the working lists cleared.
+use findings::Counts;
+use findings::Finding;
+use findings::MILESTONE_MISMATCH;
+use findings::MISSING_CHAPTER_MARKER;
+use findings::MISSING_ID_MARKER;
+use findings::Severity;
+use findings::TEXT_BEFORE_ID;
+use running::Record;
+ghost use mathlib.Core.Path.{_≡_};
+ghost use mathlib.Core.Bool.{not};
+ghost use Prim.Native.Nat.{_≤_};
+ghost use lib.Dec.{eqb};
+ghost use lib.ListN.{length};
+ghost use Rattle.text.specs.Pick.{both, either};
+ghost use Rattle.text.specs.Words.{blankText};
+ghost use Rattle.tape.specs.Nodes.{nodeAt, kindAt};
+ghost use Rattle.tape.specs.Forest.{forest};
+ghost use Rattle.cursor.specs.Inner.{Run, Spanned};
+ghost use Rattle.findings.specs.Finding.{findingOf};
+ghost use Rattle.findings.specs.Written.{Wrote, Room};
+ghost use Rattle.validate.specs.Checks.{given};
+ghost use Rattle.validate.specs.Document.{textBefore, ofDocument};
+ghost use Rattle.validate.specs.Document;
+ghost use Rattle.validate.specs.Outcome.{cleared};
+ghost use Rattle.running.specs.Running.{countsOf, starts, Opens};
+ghost use Rattle.closing.specs.Ends.{missingChecks};
+
+// A finding of no node.
+fn of_document(code: u64) -> Finding
+    ensures { λ r. ⌜ findingOf r ≡ ofDocument code ⌝ }
+{
+    Finding {
+        severity: Severity::Error,
+        code: code,
+        start: 0,
+        len: 0,
+        node: 0,
+        form: 0,
+        first: 0,
+        second: 0,
+    }
+}
+
+fn is_solid_text(source: &[u8], tape: &[u8], i: usize) -> bool
+    requires { ⌜ Spanned (now source) (now tape) i ⌝ }
+    ensures { λ r. ⌜ r ≡ both (eqb (kindAt (now (tape .entry)) i) 5) (not (blankText (nodeAt (now (source .entry)) (now (tape .entry)) i .text))) ⌝ }
+{
+    if tape::kind_at(tape, i) != 5 {
+        return false;
+    }
+    !text::is_blank_text(cursor::text(source, tape, i))
+}
+
+// Text before the `\id` marker: the first child of the root.
+pub fn text_before(source: &[u8], tape: &[u8], to: usize, rec: Record, list: &mut [u64]) -> Counts
+    requires { ⌜ (Run (now source) (now tape) 1 to) × Room (countsOf rec) (textBefore (forest (now source) (now tape) 1 to)) ⌝ }
+    ensures { λ r. ⌜ Wrote (textBefore (forest (now (source .entry)) (now (tape .entry)) 1 to)) (now (list .entry)) (countsOf rec) (now (list .exit)) r ⌝ }
+{
+    let c = running::counts(rec);
+    if to <= 1 {
+        return c;
+    }
+    let there = is_solid_text(source, tape, 1);
+    findings::push_if(
+        list,
+        c,
+        there,
+        running::about(tape, 1, Severity::Warning, TEXT_BEFORE_ID, 0, 0, 0),
+    )
+}
+
+// The open starts that are left, in opening order.
+pub fn unclosed(source: &[u8], tape: &[u8], opens: &[u64], rec: Record, list: &mut [u64]) -> Counts
+    requires { ⌜ (Opens (now source) (now tape) (now opens) (rec .«open»)) × Room (countsOf rec) (Document.unclosed (starts (now source) (now tape) (now opens) (rec .«open»))) ⌝ }
+    ensures { λ r. ⌜ Wrote (Document.unclosed (starts (now (source .entry)) (now (tape .entry)) (now (opens .entry)) (rec .«open»))) (now (list .entry)) (countsOf rec) (now (list .exit)) r ⌝ }
+{
+    let mut c = running::counts(rec);
+    let mut k: usize = 0;
+    while k < rec.open {
+        let node = opens[2 * k] as usize;
+        c = findings::push(
+            list,
+            c,
+            running::about(tape, node, Severity::Error, MILESTONE_MISMATCH, 0, 0, 0),
+        );
+        k += 1;
+    }
+    c
+}
+
+// Numbers without a book, a book without chapters.
+pub fn missing(rec: Record, list: &mut [u64], c: Counts) -> Counts
+    requires { ⌜ Room c (given (missingChecks rec)) ⌝ }
+    ensures { λ r. ⌜ Wrote (given (missingChecks rec)) (now (list .entry)) c (now (list .exit)) r ⌝ }
+{
+    let numbered = or(rec.has_chapter, rec.has_verse);
+    let first = findings::push_if(
+        list,
+        c,
+        and(!rec.has_id, numbered),
+        of_document(MISSING_ID_MARKER),
+    );
+    let book = or(rec.has_id, rec.has_verse);
+    let bare = and(!rec.has_chapter, !rec.front_matter);
+    findings::push_if(
+        list,
+        first,
+        and(book, bare),
+        of_document(MISSING_CHAPTER_MARKER),
+    )
+}
+
+fn or(a: bool, b: bool) -> bool
+    ensures { λ r. ⌜ r ≡ either a b ⌝ }
+{
+    if a { true } else { b }
+}
+
+fn and(a: bool, b: bool) -> bool
+    ensures { λ r. ⌜ r ≡ both a b ⌝ }
+{
+    if a { b } else { false }
+}
+
+pub fn clear_seen(seen: &mut [u32], n: usize)
+    requires { ⌜ n ≤ length (now seen) ⌝ }
+    ensures { λ r. ⌜ now (seen .exit) ≡ cleared n (now (seen .entry)) ⌝ }
+{
+    let mut i: usize = 0;
+    while i < n {
+        seen[i] = 0;
+        i += 1;
+    }
+}
+
+pub fn clear_opens(opens: &mut [u64], n: usize)
+    requires { ⌜ n ≤ length (now opens) ⌝ }
+    ensures { λ r. ⌜ now (opens .exit) ≡ cleared n (now (opens .entry)) ⌝ }
+{
+    let mut i: usize = 0;
+    while i < n {
+        opens[i] = 0;
+        i += 1;
+    }
+}

@@ -1,0 +1,5 @@
+pub mod Givens
+pub mod Seen
+pub mod Positions
+pub mod Passing
+pub mod Told

@@ -1,0 +1,27 @@
+-- What the inner functions promise.
+use Prim.Native.Nat.{ℕ, _+_}
+use mathlib.Core.Path.{_≡_}
+use mathlib.Core.List.{List}
+use mathlib.Core.Option.{Option}
+use Rattle.tape.specs.Nodes.{nodeAt}
+use Rattle.table.specs.Entries.{Entry}
+use Rattle.validate.specs.State as state
+use Rattle.validate.specs.Checks.{afterChapter, afterVerse}
+use Rattle.running.specs.Running.{stateOf, Sane}
+use Rattle.running.specs.declared.Record.{Record}
+
+-- the record after the Chapter of node i, and the chapters seen; neither the source nor the open starts matter
+pub record PassedChapter (t : List ℕ) (i : ℕ) (seen : List ℕ) (r : Record) (seen′ : List ℕ) (q : Record) : Type 0 where
+  pub state : (s opens : List ℕ) → stateOf s t seen′ opens q ≡ afterChapter (stateOf s t seen opens r) (nodeAt s t i)
+  pub sane : Sane q
+  pub one-seen : q .seen ≡ r .seen + 1
+  pub opens : q .«open» ≡ r .«open»
+  pub anchor : q .anchor ≡ r .anchor
+
+-- the record after the Verse of node i, whatever chapters are seen and starts open
+pub record PassedVerse (e : Option Entry) (s t : List ℕ) (o : state.Around) (i : ℕ) (r q : Record) : Type 0 where
+  pub state : (seen opens : List ℕ) → stateOf s t seen opens q ≡ afterVerse e o (stateOf s t seen opens r) (nodeAt s t i)
+  pub sane : Sane q
+  pub same-seen : q .seen ≡ r .seen
+  pub opens : q .«open» ≡ r .«open»
+  pub anchor : q .anchor ≡ r .anchor

@@ -1,0 +1,90 @@
+-- The last two bytes of a name, what stands before them, and what the two say of a milestone.
+-- Assumes nothing.
+use Prim.Native.Nat.{ℕ, _+_, _-_, _<_, _≤_}
+use native.Mathlib.Omega.{arith}
+use mathlib.Core.Path.{_≡_, refl, sym, _∙_}
+use mathlib.Core.Bool.{Bool, true, false}
+use mathlib.Core.List.{List, [], _∷_}
+use lib.Dec.{eqb}
+use lib.ListN.{length, getD, take, drop, length-drop, drop-of-length-le}
+use lib.Seq.{length-take-le}
+use denote.Enum.Declared.{tagOf}
+use types.Run.{OneOf, miss}
+use borrow.Author.Tests.{eq-eqb, ne-eqb}
+use Rattle.text.specs.Pick.{both, either, cut}
+use Rattle.text.proofs.Rows.{place}
+use Rattle.tape.specs.Nodes.{nodeAt, span}
+use Rattle.table.specs.Bytes.{equal}
+use Rattle.table.specs.Entries.{categoryOf, entryOfInfo}
+use Rattle.table.specs.declared.MarkerInfo.{MarkerInfo}
+use Rattle.table.specs.declared.Category.{Category}
+use Rattle.table.specs.declared.Category.the-variants.{Identification, Chapter, Verse, Paragraph, Character, Note, Milestone, Other}
+use Rattle.table.proofs.Category as declared
+use Rattle.table.proofs.Words.{equal-apart}
+use Rattle.cursor.specs.Names.{nameOf}
+use Rattle.validate.specs.Milestones.{endsIn, baseOf}
+use Rattle.milestones.specs.Inner.{baseIn, named, Measured}
+
+both-true : (a : Bool) → both a true ≡ a
+both-true true = refl
+both-true false = refl
+
+pub too-short : (name : List ℕ) (letter : ℕ) → length name < 2 → false ≡ endsIn letter name
+too-short name letter h = sym (equal-apart (drop (length name - 2) name) (0x2D ∷ letter ∷ []) (λ e. omega (arith, e, length-drop (length name - 2) name)))
+
+last-two : (name : List ℕ) → 2 ≤ length name → drop (length name - 2) name ≡ getD name (length name - 2) 0 ∷ getD name (length name - 1) 0 ∷ []
+last-two name h =
+    let e : length name - 2 + 1 ≡ length name - 1 = omega arith in
+    let a : length name - 2 < length name = omega arith in
+    let b : length name - 1 < length name = omega arith in
+    let z : length name ≤ length name - 1 + 1 = omega arith in
+    place name (length name - 2) a ∙ rw e (rw (place name (length name - 1) b) (rw (drop-of-length-le name z)))
+
+module _ (name : List ℕ) (letter : ℕ) (h : 2 ≤ length name) where
+  pub no-hyphen : (getD name (length name - 2) 0 ≡ 0x2D → ⊥) → false ≡ endsIn letter name
+  unfolding equal
+  no-hyphen g = rw (last-two name h, ne-eqb _ _ g)
+
+  pub hyphen : getD name (length name - 2) 0 ≡ 0x2D → eqb (getD name (length name - 1) 0) letter ≡ endsIn letter name
+  unfolding equal
+  hyphen g = rw (last-two name h, eq-eqb _ _ g) (sym (both-true (eqb (getD name (length name - 1) 0) letter)))
+
+pub no-base : (name : List ℕ) → length name < 2 → [] ≡ baseIn name
+no-base name h = let e : length name - 2 ≡ 0 = omega arith in rw e
+
+-- by the table's category, and the two tests of the name
+module _ (m : MarkerInfo) (name : List ℕ) (x : Bool) (is : m .category ≡ Milestone) (x-is : x ≡ endsIn 0x73 name) where
+  pub by-start : x ≡ true → true ≡ named (entryOfInfo m) name
+  by-start h = rw (is, ← x-is, h)
+
+  pub by-end : (y : Bool) → x ≡ false → y ≡ endsIn 0x65 name → y ≡ named (entryOfInfo m) name
+  by-end y h e = rw (is, ← x-is, h) e
+
+-- the arm of all variants but Milestone
+pub no-milestone : (m : MarkerInfo) (name : List ℕ) → OneOf (0 ∷ 1 ∷ 2 ∷ 3 ∷ 4 ∷ 5 ∷ 7 ∷ []) (tagOf declared.the-type (m .category)) → false ≡ named (entryOfInfo m) name
+no-milestone m name h = go (m .category) h
+  where
+    go : (c : Category) → OneOf (0 ∷ 1 ∷ 2 ∷ 3 ∷ 4 ∷ 5 ∷ 7 ∷ []) (tagOf declared.the-type c) → false ≡ both (eqb (categoryOf c) 6) (either (endsIn 0x73 name) (endsIn 0x65 name))
+    go Identification h = refl
+    go Chapter h = refl
+    go Verse h = refl
+    go Paragraph h = refl
+    go Character h = refl
+    go Note h = refl
+    go Milestone h = absurd (miss (0 ∷ 1 ∷ 2 ∷ 3 ∷ 4 ∷ 5 ∷ 7 ∷ []) 6 tt h)
+    go Other h = refl
+
+-- the base of a node whose length is known
+module _ (s t : List ℕ) (node len : ℕ) (m : Measured s t node len) where
+  pub apart : (base : List ℕ) → (len ≡ length base → ⊥) → false ≡ equal (baseOf (nodeAt s t node)) base
+  apart base h = sym (equal-apart (baseOf (nodeAt s t node)) base (λ e. h (m .is ∙ e)))
+
+  module _ (name : List ℕ) (is : name ≡ nameOf (cut (span t node) s)) where
+    own-length : len ≡ length name - 2
+    own-length = m .is ∙ rw (← is) (length-take-le (length name - 2) name (omega arith))
+
+    pub own-inside : len ≤ length name
+    own-inside = omega (arith, own-length)
+
+    pub own-base : (base : List ℕ) (r : Bool) → r ≡ equal (take len name) base → r ≡ equal (baseOf (nodeAt s t node)) base
+    own-base base r e = e ∙ rw (own-length, is)

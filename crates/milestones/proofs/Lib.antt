@@ -1,0 +1,5 @@
+pub mod Endings
+pub mod Search
+pub mod Moves
+pub mod Kept
+pub mod Whole

@@ -1,0 +1,216 @@
+// Milestones: starts and ends by their names, and the open starts, which are lent as two words each: a node's number and the length of its base.
+use findings::Counts;
+use findings::Severity;
+use running::Record;
+use table::Category;
+use table::MarkerInfo;
+ghost use mathlib.Core.Path.{_≡_};
+ghost use mathlib.Core.Bool.{not};
+ghost use mathlib.Core.List.{[]};
+ghost use Prim.Native.Nat.{_+_, _*_, _<_, _≤_};
+ghost use lib.ListN.{length};
+ghost use Rattle.text.specs.Pick.{both};
+ghost use Rattle.tape.specs.Nodes.{nodeAt};
+ghost use Rattle.table.specs.Bytes.{equal};
+ghost use Rattle.table.specs.Entries.{entryOfInfo};
+ghost use Rattle.cursor.specs.Inner.{Spanned};
+ghost use Rattle.findings.specs.Written.{Wrote, Room};
+ghost use Rattle.validate.specs.Checks.{given};
+ghost use Rattle.validate.specs.Milestones.{endsIn, isStart, isMilestone, baseOf, waits, milestoneChecks};
+ghost use Rattle.running.specs.Running.{starts, stateOf, countsOf, Opens};
+ghost use Rattle.milestones.specs.Inner.{baseIn, named, Measured, nearestIn, pushed, removed, withOpens};
+ghost use Rattle.milestones.specs.Steps.{Stepped};
+
+// An entry among the open starts, if there is one.
+enum Found {
+    At(usize),
+    Nothing,
+}
+
+// Whether a name ends in a hyphen and the letter.
+fn ends_in(name: &[u8], letter: u8) -> bool
+    ensures { λ r. ⌜ r ≡ endsIn letter (now (name .entry)) ⌝ }
+{
+    let n = name.len();
+    if n < 2 {
+        return false;
+    }
+    if name[n - 2] != b'-' {
+        return false;
+    }
+    name[n - 1] == letter
+}
+
+// A name without its last two bytes: a part of it.
+fn base(name: &[u8]) -> &[u8]
+    ensures { λ r. ⌜ now r ≡ baseIn (now (name .entry)) ⌝ }
+{
+    let n = name.len();
+    if n < 2 {
+        return &name[..0];
+    }
+    &name[..n - 2]
+}
+
+fn is_milestone(m: MarkerInfo, name: &[u8]) -> bool
+    ensures { λ r. ⌜ r ≡ named (entryOfInfo m) (now (name .entry)) ⌝ }
+{
+    let category = m.category;
+    match category {
+        Category::Milestone => {
+            if ends_in(name, b's') {
+                return true;
+            }
+            ends_in(name, b'e')
+        }
+        _ => false,
+    }
+}
+
+// Whether a node has the base; the length of its own is known, and most differ by it.
+fn has_base(source: &[u8], tape: &[u8], node: usize, len: usize, base: &[u8]) -> bool
+    requires { ⌜ Measured (now source) (now tape) node len ⌝ }
+    ensures { λ r. ⌜ r ≡ equal (baseOf (nodeAt (now (source .entry)) (now (tape .entry)) node)) (now (base .entry)) ⌝ }
+{
+    if len != base.len() {
+        return false;
+    }
+    let name = cursor::marker_name(source, tape, node);
+    let own = &name[..len];
+    table::same(own, base)
+}
+
+// The latest of the first k entries with the base.
+fn nearest(source: &[u8], tape: &[u8], opens: &[u64], k: usize, base: &[u8]) -> Found
+    requires { ⌜ Opens (now source) (now tape) (now opens) k ⌝ }
+    ensures { λ r. ⌜ r ≡ nearestIn (now (source .entry)) (now (tape .entry)) (now (opens .entry)) k (now (base .entry)) ⌝ }
+{
+    let mut j = k;
+    while 0 < j {
+        j -= 1;
+        let node = opens[2 * j] as usize;
+        let len = opens[2 * j + 1] as usize;
+        if has_base(source, tape, node, len, base) {
+            return Found::At(j);
+        }
+    }
+    Found::Nothing
+}
+
+fn push(opens: &mut [u64], k: usize, node: u64, len: u64)
+    requires { ⌜ 2 * (k + 1) ≤ length (now opens) ⌝ }
+    ensures { λ _. ⌜ now (opens .exit) ≡ pushed (now (opens .entry)) k node len ⌝ }
+{
+    opens[2 * k] = node;
+    opens[2 * k + 1] = len;
+}
+
+// The later entries move down by one.
+fn remove(opens: &mut [u64], k: usize, at: usize)
+    requires { ⌜ (at < k) × (2 * k ≤ length (now opens)) ⌝ }
+    ensures { λ _. ⌜ now (opens .exit) ≡ removed (now (opens .entry)) k at ⌝ }
+{
+    let last = 2 * (k - 1);
+    let mut i = 2 * at;
+    while i < last {
+        opens[i] = opens[i + 2];
+        i += 1;
+    }
+}
+
+fn with_open(r: Record, n: usize) -> Record
+    ensures { λ q. ⌜ q ≡ withOpens r n ⌝ }
+{
+    let verse = r.verse;
+    Record {
+        has_id: r.has_id,
+        has_chapter: r.has_chapter,
+        has_verse: r.has_verse,
+        front_matter: r.front_matter,
+        outside_warned: r.outside_warned,
+        chapter: r.chapter,
+        verse: verse,
+        seen: r.seen,
+        open: n,
+        verses: r.verses,
+        anchor: r.anchor,
+        errors: r.errors,
+        warnings: r.warnings,
+        infos: r.infos,
+    }
+}
+
+// An end that none of the first k open starts waits for.
+fn is_alone(m: MarkerInfo, source: &[u8], tape: &[u8], i: usize, opens: &[u64], k: usize) -> bool
+    requires { ⌜ (Spanned (now source) (now tape) i) × Opens (now source) (now tape) (now opens) k ⌝ }
+    ensures { λ r. ⌜ r ≡ both (isMilestone (entryOfInfo m) (nodeAt (now (source .entry)) (now (tape .entry)) i)) (both (not (isStart (nodeAt (now (source .entry)) (now (tape .entry)) i))) (not (waits (nodeAt (now (source .entry)) (now (tape .entry)) i) (starts (now (source .entry)) (now (tape .entry)) (now (opens .entry)) k)))) ⌝ }
+{
+    let name = cursor::marker_name(source, tape, i);
+    if !is_milestone(m, name) {
+        return false;
+    }
+    if ends_in(name, b's') {
+        return false;
+    }
+    match nearest(source, tape, opens, k, base(name)) {
+        Found::At(_) => false,
+        Found::Nothing => true,
+    }
+}
+
+// An end that no open start waits for.
+pub fn milestone_findings(
+    m: MarkerInfo,
+    source: &[u8],
+    tape: &[u8],
+    i: usize,
+    opens: &[u64],
+    rec: Record,
+    list: &mut [u64],
+) -> Counts
+    requires { ⌜ (Spanned (now source) (now tape) i) × (Opens (now source) (now tape) (now opens) (rec .«open»)) × Room (countsOf rec) (given (milestoneChecks (entryOfInfo m) (stateOf (now source) (now tape) [] (now opens) rec) (nodeAt (now source) (now tape) i))) ⌝ }
+    ensures { λ r. ⌜ Wrote (given (milestoneChecks (entryOfInfo m) (stateOf (now (source .entry)) (now (tape .entry)) [] (now (opens .entry)) rec) (nodeAt (now (source .entry)) (now (tape .entry)) i))) (now (list .entry)) (countsOf rec) (now (list .exit)) r ⌝ }
+{
+    let alone = is_alone(m, source, tape, i, opens, rec.open);
+    let f = running::about(
+        tape,
+        i,
+        Severity::Error,
+        findings::MILESTONE_MISMATCH,
+        1,
+        0,
+        0,
+    );
+    findings::push_if(list, running::counts(rec), alone, f)
+}
+
+// A start is one more open start; an end takes the latest of its base.
+pub fn after_milestone(
+    m: MarkerInfo,
+    source: &[u8],
+    tape: &[u8],
+    i: usize,
+    opens: &mut [u64],
+    rec: Record,
+) -> Record
+    requires { ⌜ (Spanned (now source) (now tape) i) × (Opens (now source) (now tape) (now opens) (rec .«open»)) × (2 * (rec .«open» + 1) ≤ length (now opens)) ⌝ }
+    ensures { λ r. ⌜ Stepped (entryOfInfo m) (now (source .entry)) (now (tape .entry)) i (now (opens .entry)) rec (now (opens .exit)) r ⌝ }
+{
+    let name = cursor::marker_name(source, tape, i);
+    if !is_milestone(m, name) {
+        return rec;
+    }
+    let k = rec.open;
+    let key = base(name);
+    if ends_in(name, b's') {
+        push(opens, k, i as u64, key.len() as u64);
+        return with_open(rec, k + 1);
+    }
+    match nearest(source, tape, opens, k, key) {
+        Found::At(at) => {
+            remove(opens, k, at);
+            with_open(rec, k - 1)
+        }
+        Found::Nothing => rec,
+    }
+}
