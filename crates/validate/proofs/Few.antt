@@ -92,7 +92,7 @@ only-few : (b : Bool) (f : Finding) → length (only b f) ≤ 1
 only-few true f = le-refl 1
 only-few false f = omega arith
 
-text-few : (f : Forest) → length (textBefore f) ≤ 1
+pub text-few : (f : Forest) → length (textBefore f) ≤ 1
 unfolding textBefore
 text-few end = omega arith
 text-few (leaf x r) = only-few (both (eqb (x .kind) 5) (not (blankText (x .text)))) (warning x 7 0)

@@ -1,0 +1,4 @@
+pub mod Gates
+pub mod Ending
+pub mod Whole
+pub mod Lists

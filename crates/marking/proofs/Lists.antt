@@ -1,0 +1,101 @@
+-- Demand 3 for the lists that the check writes, where they are long enough; and which number is given.
+-- Assumes nothing.
+use Prim.Native.Nat.{ℕ, zero, suc, _+_, _-_, _*_, _<_, _≤_}
+use native.Mathlib.Omega.{arith}
+use native.Mathlib.Nat.{zero-add}
+use mathlib.Core.Path.{_≡_, refl, sym, ap, _∙_}
+use mathlib.Core.Bool.{Bool, true, false}
+use mathlib.Core.List.{List, [], _∷_, _++_, append-assoc}
+use mathlib.Core.Logic.{_↔_, _⊎_, inl, inr}
+use mathlib.Core.Option.{Option, some, none}
+use lib.ListN.{length, take, drop, length-append}
+use lib.Seq.{take-at}
+use Rattle.tape.specs.Reading.{Refusal, orElse}
+use Rattle.tape.specs.Forest.{top}
+use Rattle.tape.specs.Alike.{BeginAlike}
+use Rattle.tape.proofs.OneNumber.{which}
+use Rattle.findings.specs.Finding.{Finding, wordsOf}
+use Rattle.findings.specs.Written.{overlay, encode}
+use Rattle.findings.proofs.Overlay.{overlay-is}
+use Rattle.validate.specs.Document.{running, closing, walked}
+use Rattle.validate.specs.Outcome.{Lent, of1, of2, of3, ofTape, of9, of10, refusal, listOf, listAfter}
+use Rattle.validate.proofs.Demand3.{longer-keeps-findings}
+
+encode-append : (fs gs : List Finding) → encode (fs ++ gs) ≡ encode fs ++ encode gs
+unfolding encode
+encode-append [] gs = refl
+encode-append (f ∷ fs) gs = ap (wordsOf f ++_) (encode-append fs gs) ∙ sym (append-assoc (wordsOf f) (encode fs) (encode gs))
+
+encode-length : (fs : List Finding) → length (encode fs) ≡ 8 * length fs
+unfolding encode
+encode-length [] = refl
+encode-length (f ∷ fs) = let h = encode-length fs in omega (arith, length-append (wordsOf f) (encode fs))
+
+-- a checked document's list, long enough: the words of its findings, and then what was there
+pub written-words : (l : Lent) → refusal l ≡ none → 8 * length (listOf l) ≤ length (l .list) → listAfter l ≡ encode (listOf l) ++ drop (8 * length (listOf l)) (l .list)
+written-words l e h =
+    let k : 8 * (0 + length (listOf l)) ≤ length (l .list) = omega arith in
+    rw e (overlay-is (l .list) 0 (listOf l) k ∙ rw (zero-add (length (listOf l))))
+
+-- the words of the findings that a list begins with
+begun-words : (l : Lent) (fs gs : List Finding) → refusal l ≡ none → 8 * length (listOf l) ≤ length (l .list) → listOf l ≡ fs ++ gs → take (8 * length fs) (listAfter l) ≡ encode fs
+begun-words l fs gs e h is =
+    rw (written-words l e h, is, encode-append fs gs, append-assoc (encode fs) (encode gs) (drop (8 * length (fs ++ gs)) (l .list)))
+    (take-at (encode fs) (encode gs ++ drop (8 * length (fs ++ gs)) (l .list)) (8 * length fs) (encode-length fs))
+
+-- demand 3: the words of the shorter's findings, closing findings aside, begin both lists
+module _ (l l′ : Lent) (same-table : l .table ≡ l′ .table) (short : refusal l ≡ none) (long : refusal l′ ≡ none) (alike : BeginAlike (l .source) (l .tape) (l′ .source) (l′ .tape)) (room : 8 * length (listOf l) ≤ length (l .list)) (room′ : 8 * length (listOf l′) ≤ length (l′ .list)) where
+  abbrev kept : List Finding
+  kept = running (l .table) (top (l .source) (l .tape))
+
+  pub longer-keeps-words : take (8 * length kept) (listAfter l′) ≡ take (8 * length kept) (listAfter l)
+  longer-keeps-words =
+      let b = longer-keeps-findings l l′ same-table short long alike in
+      let f′ = top (l′ .source) (l′ .tape) in
+      let c′ = closing (walked (l′ .table) f′ .state) in
+      begun-words l′ kept (b .more ++ c′) long room′ (ap (_++ c′) (b .is) ∙ append-assoc kept (b .more) c′)
+      ∙ sym (begun-words l kept (closing (walked (l .table) (top (l .source) (l .tape)) .state)) short room refl)
+
+-- which of the numbers is given: the first whose own part gives it, no earlier one being given
+pub data Given (l : Lent) (r : Refusal) : Type 0 where
+  by1 : of1 l ≡ some r → Given l r
+  by2 : of1 l ≡ none → of2 l ≡ some r → Given l r
+  by3 : of1 l ≡ none → of2 l ≡ none → of3 l ≡ some r → Given l r
+  by4to8 : of1 l ≡ none → of2 l ≡ none → of3 l ≡ none → ofTape l ≡ some r → Given l r
+  by9 : of1 l ≡ none → of2 l ≡ none → of3 l ≡ none → ofTape l ≡ none → of9 l ≡ some r → Given l r
+  by10 : of1 l ≡ none → of2 l ≡ none → of3 l ≡ none → ofTape l ≡ none → of9 l ≡ none → of10 l ≡ some r → Given l r
+
+pub one-number : (l : Lent) (r : Refusal) → (refusal l ≡ some r) ↔ Given l r
+unfolding refusal
+one-number l r = (there, back)
+  where
+    there : refusal l ≡ some r → Given l r
+    there e = one (which (of1 l) (orElse (of2 l) (orElse (of3 l) (orElse (ofTape l) (orElse (of9 l) (of10 l))))) r e)
+      where
+        five : of1 l ≡ none → of2 l ≡ none → of3 l ≡ none → ofTape l ≡ none → (of9 l ≡ some r) ⊎ ((of9 l ≡ none) × (of10 l ≡ some r)) → Given l r
+        five a b c d (inl h) = by9 a b c d h
+        five a b c d (inr h) = by10 a b c d (h .0) (h .1)
+
+        four : of1 l ≡ none → of2 l ≡ none → of3 l ≡ none → (ofTape l ≡ some r) ⊎ ((ofTape l ≡ none) × (orElse (of9 l) (of10 l) ≡ some r)) → Given l r
+        four a b c (inl h) = by4to8 a b c h
+        four a b c (inr h) = five a b c (h .0) (which (of9 l) (of10 l) r (h .1))
+
+        three : of1 l ≡ none → of2 l ≡ none → (of3 l ≡ some r) ⊎ ((of3 l ≡ none) × (orElse (ofTape l) (orElse (of9 l) (of10 l)) ≡ some r)) → Given l r
+        three a b (inl h) = by3 a b h
+        three a b (inr h) = four a b (h .0) (which (ofTape l) (orElse (of9 l) (of10 l)) r (h .1))
+
+        two : of1 l ≡ none → (of2 l ≡ some r) ⊎ ((of2 l ≡ none) × (orElse (of3 l) (orElse (ofTape l) (orElse (of9 l) (of10 l))) ≡ some r)) → Given l r
+        two a (inl h) = by2 a h
+        two a (inr h) = three a (h .0) (which (of3 l) (orElse (ofTape l) (orElse (of9 l) (of10 l))) r (h .1))
+
+        one : (of1 l ≡ some r) ⊎ ((of1 l ≡ none) × (orElse (of2 l) (orElse (of3 l) (orElse (ofTape l) (orElse (of9 l) (of10 l)))) ≡ some r)) → Given l r
+        one (inl h) = by1 h
+        one (inr h) = two (h .0) (which (of2 l) (orElse (of3 l) (orElse (ofTape l) (orElse (of9 l) (of10 l)))) r (h .1))
+
+    back : Given l r → refusal l ≡ some r
+    back (by1 a) = rw a
+    back (by2 a b) = rw (a, b)
+    back (by3 a b c) = rw (a, b, c)
+    back (by4to8 a b c d) = rw (a, b, c, d)
+    back (by9 a b c d e) = rw (a, b, c, d, e)
+    back (by10 a b c d e f) = rw (a, b, c, d, e) f

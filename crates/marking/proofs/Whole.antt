@@ -1,0 +1,84 @@
+-- The entry: what is lent is turned back, or checked.
+-- Assumes nothing.
+use Prim.Native.Nat.{ℕ, zero, suc, _+_, _-_, _*_, _/_, _<_, _≤_}
+use native.Mathlib.Omega.{arith}
+use mathlib.Core.Path.{_≡_, refl, sym, ap, ap₂, _∙_}
+use mathlib.Core.Bool.{Bool, true, false, false≢true}
+use mathlib.Core.List.{List, [], _∷_, _++_}
+use mathlib.Core.Option.{Option, some, none}
+use lib.Dec.{ltb}
+use lib.ListN.{length, take, drop}
+use lib.Seq.{length-take-le}
+use borrow.Author.Tests.{ltb-false}
+use Rattle.text.specs.Pick.{either}
+use Rattle.tape.specs.Nodes.{count}
+use Rattle.tape.specs.Forest.{Accepted, top}
+use Rattle.tape.specs.Reading.{Refusal, refuse, onlyIf, orElse}
+use Rattle.tape.proofs.OneNumber.{accepted, neither, only-not}
+use Rattle.table.specs.Entries.{Indexed}
+use Rattle.findings.specs.Written.{overlay}
+use Rattle.validate.specs.Document.{findings}
+use Rattle.validate.specs.Outcome.{Lent, of1, of2, of3, ofTape, of9, of10, refusal, checkedOf, refused, checked, answer, listAfter, seenAfter, openAfter, zeros, cleared, shortList}
+use Rattle.marking.specs.declared.Answer.{Answer}
+use Rattle.marking.specs.declared.Gate.{Gate}
+use Rattle.marking.specs.declared.Gate.the-variants as gate
+use Rattle.marking.specs.Entry.{answerOf, gateOf, Passed, fromTable, fromTape, Fit, Finished, lent}
+
+or-assoc : (a b c : Option Refusal) → orElse (orElse a b) c ≡ orElse a (orElse b c)
+or-assoc none b c = refl
+or-assoc (some r) b c = refl
+
+module _ (table s t seen opens l : List ℕ) where
+  abbrev it : Lent
+  it = lent table s t seen opens l
+
+  refusal-is : fromTable table s t (length seen) (length opens) ≡ refusal it
+  unfolding refusal
+  refusal-is = ap (orElse (of1 it)) (or-assoc (of2 it) (of3 it) (fromTape table s t (length seen) (length opens)))
+
+  -- turned back
+  module _ (g : Gate) (says : gateOf g ≡ fromTable table s t (length seen) (length opens)) where
+    pub turned-back : (a b : ℕ) → g ≡ gate.Shut a b → (refused (record { number = a; place = b }) ≡ answer it) × ((l ≡ listAfter it) × ((seen ≡ seenAfter it) × (opens ≡ openAfter it)))
+    turned-back a b e =
+        let z : refusal it ≡ refuse a b = sym refusal-is ∙ sym says ∙ ap gateOf e in
+        (rw z, (rw z, (rw z, rw z)))
+
+    -- not turned back
+    module _ (n : ℕ) (e : g ≡ gate.Open n) where
+      nothing : refusal it ≡ none
+      nothing = sym refusal-is ∙ sym says ∙ ap gateOf e
+
+      after1 : orElse (of2 it) (orElse (of3 it) (orElse (ofTape it) (orElse (of9 it) (of10 it)))) ≡ none
+      unfolding refusal
+      after1 = neither (of1 it) (orElse (of2 it) (orElse (of3 it) (orElse (ofTape it) (orElse (of9 it) (of10 it))))) nothing .1
+
+      short : length s ≤ 1048576
+      short = ltb-false 1048576 (length s) (only-not (ltb 1048576 (length s)) 2 0 (neither (of2 it) (orElse (of3 it) (orElse (ofTape it) (orElse (of9 it) (of10 it)))) after1 .0))
+
+      fromTape-none : orElse (ofTape it) (orElse (of9 it) (of10 it)) ≡ none
+      fromTape-none = neither (of3 it) (orElse (ofTape it) (orElse (of9 it) (of10 it))) (neither (of2 it) (orElse (of3 it) (orElse (ofTape it) (orElse (of9 it) (of10 it)))) after1 .1) .1
+
+      ok : Accepted s t
+      ok = accepted s t .0 (neither (ofTape it) (orElse (of9 it) (of10 it)) fromTape-none .0)
+
+      long : shortList it ≡ false
+      long = only-not (shortList it) 10 (count t) (neither (of9 it) (of10 it) (neither (ofTape it) (orElse (of9 it) (of10 it)) fromTape-none .1) .1)
+
+      both-false : (a b : Bool) → either a b ≡ false → (a ≡ false) × (b ≡ false)
+      both-false true b h = absurd (false≢true (sym h))
+      both-false false b h = (refl, h)
+
+      pub seen-long : count t ≤ length seen
+      seen-long = ltb-false (length seen) (count t) (both-false (ltb (length seen) (count t)) (ltb (length opens / 2) (count t)) long .0)
+
+      pub opens-long : 2 * count t ≤ length opens
+      opens-long =
+          let k : count t ≤ length opens / 2 = ltb-false (length opens / 2) (count t) (both-false (ltb (length seen) (count t)) (ltb (length opens / 2) (count t)) long .1) in
+          omega arith
+
+      pub fits : (words : List ℕ) → Passed table words g → Fit table words n s t (take (count t) seen) (take (2 * count t) opens)
+      fits words p = record { indexed = rw e at p; accepted = ok; short = short; seen-room = length-take-le (count t) seen seen-long; open-room = length-take-le (2 * count t) opens opens-long }
+
+      pub went-through : (seen′ opens′ l′ : List ℕ) (r : Answer) → Finished table s t (take (count t) seen) (take (2 * count t) opens) l seen′ opens′ l′ r → (answerOf r ≡ answer it) × ((l′ ≡ listAfter it) × ((seen′ ++ drop (count t) seen ≡ seenAfter it) × (opens′ ++ drop (2 * count t) opens ≡ openAfter it)))
+      unfolding checkedOf
+      went-through seen′ opens′ l′ r f = (f .answers ∙ rw nothing, (f .words ∙ rw nothing, (rw (f .seen-zero, nothing), rw (f .opens-zero, nothing))))

@@ -1,0 +1,303 @@
+// The check of a document: whatever is lent, the answer and every lent list at exit are the definition's.
+use numbers::LabelCheck;
+use numbers::Suffix;
+use numbers::VersePart;
+use running::Around;
+use running::Record;
+use table::Layout;
+use tape::TapeCheck;
+use text::Utf8;
+ghost use mathlib.Core.Path.{_≡_};
+ghost use Prim.Native.Nat.{_≤_};
+ghost use lib.ListN.{length};
+ghost use Rattle.tape.specs.Forest.{Accepted};
+ghost use Rattle.tape.specs.Reading.{tapeRefusal};
+ghost use Rattle.table.specs.Entries.{Indexed};
+ghost use Rattle.findings.specs.Written.{total, limit};
+ghost use Rattle.validate.specs.Outcome.{answer, listAfter, seenAfter, openAfter};
+ghost use Rattle.running.specs.Running.{countsOf};
+ghost use Rattle.marking.specs.Entry.{answerOf, gateOf, sourceRefusal, listsRefusal, fromLabels, fromTape, fromSource, fromTable, Opened, Passed, fresh, Ran, Fit, reported, Finished, lent};
+
+fn initial() -> Record
+    ensures { λ r. ⌜ r ≡ fresh ⌝ }
+{
+    Record {
+        has_id: false,
+        has_chapter: false,
+        has_verse: false,
+        front_matter: false,
+        outside_warned: false,
+        chapter: 1,
+        verse: VersePart {
+            num: 1,
+            suffix: Suffix::None,
+        },
+        seen: 0,
+        open: 0,
+        verses: 0,
+        anchor: 0,
+        errors: 0,
+        warnings: 0,
+        infos: 0,
+    }
+}
+
+// The whole list of an accepted document.
+fn run(
+    table: &[u8],
+    words: &[u64],
+    count: usize,
+    source: &[u8],
+    tape: &[u8],
+    seen: &mut [u32],
+    opens: &mut [u64],
+    list: &mut [u64],
+) -> Record
+    requires { ⌜ Fit (now table) (now words) count (now source) (now tape) (now seen) (now opens) ⌝ }
+    ensures { λ r. ⌜ Ran (now (table .entry)) (now (source .entry)) (now (tape .entry)) (now (list .entry)) (now (list .exit)) r ⌝ }
+{
+    let to = tape::link_at(tape, 0) as usize;
+    let start = initial();
+    let c = closing::text_before(source, tape, to, start, list);
+    let outside = Around {
+        body: false,
+        note: false,
+        char: false,
+    };
+    let r = checker::walk(
+        table,
+        words,
+        count,
+        source,
+        tape,
+        1,
+        to,
+        64,
+        outside,
+        running::with_counts(start, c),
+        seen,
+        opens,
+        list,
+    );
+    let left = closing::unclosed(source, tape, opens, r, list);
+    running::with_counts(r, closing::missing(r, list, left))
+}
+
+pub struct Report {
+    pub total: u64,
+    pub written: u64,
+    pub verses: u64,
+    pub errors: u64,
+    pub warnings: u64,
+    pub infos: u64,
+}
+
+// A checked document, one whose list is cut, or the number that turns it back with its place.
+pub enum Answer {
+    Checked(Report),
+    Cut(Report),
+    Refused(u64, u64),
+}
+
+// Whether one of the numbers turns it back; if none does, how many entries the table has.
+enum Gate {
+    Open(usize),
+    Shut(u64, u64),
+}
+
+// Numbers 2 and 3.
+fn source_gate(source: &[u8]) -> Gate
+    ensures { λ r. ⌜ gateOf r ≡ sourceRefusal (now (source .entry)) ⌝ }
+{
+    if 1048576 < source.len() {
+        return Gate::Shut(2, 0);
+    }
+    match text::utf8_check(source) {
+        Utf8::WellFormed => Gate::Open(0),
+        Utf8::IllFormed(at) => Gate::Shut(3, at as u64),
+    }
+}
+
+// Numbers 4 to 8.
+fn tape_gate(source: &[u8], tape: &[u8]) -> Gate
+    ensures { λ r. ⌜ gateOf r ≡ tapeRefusal (now (source .entry)) (now (tape .entry)) ⌝ }
+{
+    match tape::tape_check(source, tape) {
+        TapeCheck::Good => Gate::Open(0),
+        TapeCheck::Length => Gate::Shut(4, 0),
+        TapeCheck::Kind(i) => Gate::Shut(5, i as u64),
+        TapeCheck::Span(i) => Gate::Shut(6, i as u64),
+        TapeCheck::Links(i) => Gate::Shut(7, i as u64),
+        TapeCheck::Deep(i) => Gate::Shut(8, i as u64),
+    }
+}
+
+// Number 10.
+fn lists_gate(entries: usize, n: usize, seen: usize, opens: usize) -> Gate
+    ensures { λ r. ⌜ (gateOf r ≡ listsRefusal n seen opens) × Opened entries r ⌝ }
+{
+    if seen < n {
+        return Gate::Shut(10, n as u64);
+    }
+    if opens / 2 < n {
+        return Gate::Shut(10, n as u64);
+    }
+    Gate::Open(entries)
+}
+
+// Numbers 9 and 10.
+fn label_gate(
+    table: &[u8],
+    words: &[u64],
+    entries: usize,
+    source: &[u8],
+    tape: &[u8],
+    seen: usize,
+    opens: usize,
+) -> Gate
+    requires { ⌜ (Indexed (now table) (now words) entries) × (Accepted (now source) (now tape)) ⌝ }
+    ensures { λ r. ⌜ (gateOf r ≡ fromLabels (now (table .entry)) (now (source .entry)) (now (tape .entry)) seen opens) × Opened entries r ⌝ }
+{
+    match numbers::label_check(table, words, entries, source, tape) {
+        LabelCheck::Good => lists_gate(entries, tape.len() / 16, seen, opens),
+        LabelCheck::Split(i) => Gate::Shut(9, i as u64),
+    }
+}
+
+// Numbers 4 to 10.
+fn nodes_gate(
+    table: &[u8],
+    words: &[u64],
+    entries: usize,
+    source: &[u8],
+    tape: &[u8],
+    seen: usize,
+    opens: usize,
+) -> Gate
+    requires { ⌜ Indexed (now table) (now words) entries ⌝ }
+    ensures { λ r. ⌜ (gateOf r ≡ fromTape (now (table .entry)) (now (source .entry)) (now (tape .entry)) seen opens) × Opened entries r ⌝ }
+{
+    match tape_gate(source, tape) {
+        Gate::Shut(number, place) => Gate::Shut(number, place),
+        Gate::Open(_) => label_gate(table, words, entries, source, tape, seen, opens),
+    }
+}
+
+// Numbers 2 to 10.
+fn text_gate(
+    table: &[u8],
+    words: &[u64],
+    entries: usize,
+    source: &[u8],
+    tape: &[u8],
+    seen: usize,
+    opens: usize,
+) -> Gate
+    requires { ⌜ Indexed (now table) (now words) entries ⌝ }
+    ensures { λ r. ⌜ (gateOf r ≡ fromSource (now (table .entry)) (now (source .entry)) (now (tape .entry)) seen opens) × Opened entries r ⌝ }
+{
+    match source_gate(source) {
+        Gate::Shut(number, place) => Gate::Shut(number, place),
+        Gate::Open(_) => nodes_gate(table, words, entries, source, tape, seen, opens),
+    }
+}
+
+// Numbers 1 to 10; where none is given, the words are the table's index.
+fn table_gate(
+    table: &[u8],
+    words: &mut [u64],
+    source: &[u8],
+    tape: &[u8],
+    seen: usize,
+    opens: usize,
+) -> Gate
+    requires { ⌜ 512 ≤ length (now words) ⌝ }
+    ensures number { λ r. ⌜ gateOf r ≡ fromTable (now (table .entry)) (now (source .entry)) (now (tape .entry)) seen opens ⌝ }
+    ensures index { λ r. ⌜ Passed (now (table .entry)) (now (words .exit)) r ⌝ }
+{
+    match table::index(table, words) {
+        Layout::Bad(at) => Gate::Shut(1, at as u64),
+        Layout::Good(entries) => text_gate(table, words, entries, source, tape, seen, opens),
+    }
+}
+
+// The answer of a document that was walked.
+fn reported(r: Record, room: usize) -> Answer
+    requires { ⌜ total (countsOf r) ≤ limit ⌝ }
+    ensures { λ q. ⌜ answerOf q ≡ reported r room ⌝ }
+{
+    let total = r.errors + r.warnings + r.infos;
+    let room = room as u64;
+    if room < total {
+        return Answer::Cut(Report {
+            total: total,
+            written: room,
+            verses: r.verses,
+            errors: r.errors,
+            warnings: r.warnings,
+            infos: r.infos,
+        });
+    }
+    Answer::Checked(Report {
+        total: total,
+        written: total,
+        verses: r.verses,
+        errors: r.errors,
+        warnings: r.warnings,
+        infos: r.infos,
+    })
+}
+
+// A document that nothing turns back, with working lists of just as many entries as it has nodes.
+fn checked(
+    table: &[u8],
+    words: &[u64],
+    entries: usize,
+    source: &[u8],
+    tape: &[u8],
+    seen: &mut [u32],
+    opens: &mut [u64],
+    list: &mut [u64],
+) -> Answer
+    requires { ⌜ Fit (now table) (now words) entries (now source) (now tape) (now seen) (now opens) ⌝ }
+    ensures { λ r. ⌜ Finished (now (table .entry)) (now (source .entry)) (now (tape .entry)) (now (seen .entry)) (now (opens .entry)) (now (list .entry)) (now (seen .exit)) (now (opens .exit)) (now (list .exit)) r ⌝ }
+{
+    let r = run(table, words, entries, source, tape, seen, opens, list);
+    let n = tape.len() / 16;
+    closing::clear_seen(seen, n);
+    closing::clear_opens(opens, 2 * n);
+    reported(r, list.len() / 8)
+}
+
+// The check: whatever is lent, the answer and every lent list at exit are the definition's.
+pub fn check(
+    table: &[u8],
+    source: &[u8],
+    tape: &[u8],
+    seen: &mut [u32],
+    opens: &mut [u64],
+    list: &mut [u64],
+) -> Answer
+    ensures answer { λ r. ⌜ answerOf r ≡ answer (lent (now (table .entry)) (now (source .entry)) (now (tape .entry)) (now (seen .entry)) (now (opens .entry)) (now (list .entry))) ⌝ }
+    ensures list { λ r. ⌜ now (list .exit) ≡ listAfter (lent (now (table .entry)) (now (source .entry)) (now (tape .entry)) (now (seen .entry)) (now (opens .entry)) (now (list .entry))) ⌝ }
+    ensures seen { λ r. ⌜ now (seen .exit) ≡ seenAfter (lent (now (table .entry)) (now (source .entry)) (now (tape .entry)) (now (seen .entry)) (now (opens .entry)) (now (list .entry))) ⌝ }
+    ensures opens { λ r. ⌜ now (opens .exit) ≡ openAfter (lent (now (table .entry)) (now (source .entry)) (now (tape .entry)) (now (seen .entry)) (now (opens .entry)) (now (list .entry))) ⌝ }
+{
+    let mut words = [0u64; 512];
+    match table_gate(table, &mut words, source, tape, seen.len(), opens.len()) {
+        Gate::Shut(number, place) => Answer::Refused(number, place),
+        Gate::Open(entries) => {
+            let n = tape.len() / 16;
+            checked(
+                table,
+                &words,
+                entries,
+                source,
+                tape,
+                &mut seen[..n],
+                &mut opens[..2 * n],
+                list,
+            )
+        }
+    }
+}
