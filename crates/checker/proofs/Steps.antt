@@ -18,7 +18,7 @@ use Rattle.cursor.specs.Inner.{Run}
 use Rattle.cursor.specs.Info.{infoAt}
 use Rattle.cursor.specs.Steps.{pastNode, holdsNodes}
 use Rattle.cursor.proofs.Runs.{one-nested, rest-nested, one-leaf, one-open, forest-at-leaf, forest-at-open, past-later, past-inside}
-use Rattle.numbers.specs.Label.{numbered}
+use Rattle.numbers.specs.Label.{pickList, numbered}
 use Rattle.findings.specs.Finding.{Finding}
 use Rattle.attachment.specs.Attached.{starts, attachedNumbers}
 use Rattle.validate.specs.State.{State, Anchor, past, Told}
@@ -28,7 +28,7 @@ use Rattle.validate.specs.Walk.{leafAnchor, pickAnchor, openTold, inside, befor
 use Rattle.validate.specs.Walk as def
 use Rattle.running.specs.Running.{stateOf, anchorOf, startsFor, withAnchor}
 use Rattle.running.specs.declared.Record.{Record}
-use Rattle.checker.specs.Walking.{Anchored, nowhere, behind, anchorAfter, pickList, numbersAfter, LeafPassed}
+use Rattle.checker.specs.Walking.{Anchored, nowhere, behind, anchorAfter, numbersAfter, LeafPassed}
 use Rattle.leaves.specs.Leaves.{LeafVisited}
 
 -- a marker with its entry, its children and what follows it

@@ -3,16 +3,16 @@
 use Prim.Native.Nat.{ℕ, zero, suc, _+_, _-_, _*_, _%_, _<_, _≤_}
 use native.Mathlib.Omega.{arith}
 use mathlib.Core.Path.{_≡_, refl, sym, ap, ap₂, subst, _∙_}
-use mathlib.Core.Bool.{Bool, true, false, not, false≢true}
-use lib.Dec.{eqb, ltb}
+use mathlib.Core.Bool.{not}
+use lib.Dec.{eqb}
 use borrow.Author.Tests.{ltb-false}
-use Rattle.text.specs.Pick.{either}
 use mathlib.Core.List.{List, [], _∷_, _++_}
 use mathlib.Core.Option.{Option, some, none}
 use lib.ListN.{length}
 use Rattle.tape.specs.Nodes.{Node, count, nodeAt, kindAt, linkAt, isOpen}
 use Rattle.tape.specs.Forest.{Forest, end, forest, Nested, Accepted}
 use Rattle.tape.proofs.Nest.{nested-le, nested-open}
+use Rattle.tape.proofs.OneNumber.{either-false}
 use Rattle.table.specs.Entries.{Entry, Indexed}
 use Rattle.cursor.specs.Inner.{Run, Spanned}
 use Rattle.cursor.specs.Steps.{pastNode}
@@ -37,13 +37,10 @@ use Rattle.milestones.specs.Steps.{Stepped}
 use Rattle.checker.specs.Walking.{Anchored, nowhere, walkAt, Ready, Went, Walked, toldAt, below, visitFindings, visitState, Visited, Visitable}
 
 -- an accepted tape has at most 65,535 nodes
-last-false : (a b c : Bool) → either a (either b c) ≡ false → c ≡ false
-last-false true b c e = absurd (false≢true (sym e))
-last-false false true c e = absurd (false≢true (sym e))
-last-false false false c e = e
-
 pub count-low : (s t : List ℕ) → Accepted s t → count t ≤ 65535
-count-low s t ok = ltb-false 65535 (count t) (last-false (eqb (length t) 0) (not (eqb (length t % 16) 0)) (ltb 65535 (count t)) (ok .sized))
+count-low s t ok =
+    let a = either-false (eqb (length t) 0) _ (ok .sized) in
+    ltb-false 65535 (count t) (either-false (not (eqb (length t % 16) 0)) _ (a .1) .1)
 
 -- what a visit begins with
 pub record Visit (table words : List ℕ) (entries : ℕ) (s t : List ℕ) (depth : ℕ) (o : state.Around) (i to : ℕ) (e : Entry) (numbers : Attached) (seen opens l : List ℕ) (r : Record) : Type 0 where

@@ -1,7 +1,7 @@
 -- What the walk and the visit ask for and promise.
 use Prim.Native.Nat.{ℕ, zero, suc, _+_, _-_, _*_, _<_, _≤_}
 use mathlib.Core.Path.{_≡_}
-use mathlib.Core.Bool.{Bool, true, false}
+use mathlib.Core.Bool.{true}
 use mathlib.Core.List.{List, [], _++_}
 use mathlib.Core.Option.{Option, some, none}
 use lib.ListN.{length}
@@ -12,7 +12,7 @@ use Rattle.cursor.specs.Steps.{pastNode}
 use Rattle.findings.specs.Finding.{Finding}
 use Rattle.findings.specs.Written.{Wrote, Room}
 use Rattle.text.specs.Pick.{pickNat}
-use Rattle.numbers.specs.Label.{numbered}
+use Rattle.numbers.specs.Label.{pickList, numbered}
 use Rattle.validate.specs.Checks.{leafTold}
 use Rattle.attachment.specs.Attached.{startsOf, starts, attachedNumbers}
 use Rattle.attachment.specs.declared.Attached.{Attached}
@@ -100,10 +100,6 @@ pub record LeafPassed (table s t : List ℕ) (o : state.Around) (i : ℕ) (seen 
   pub verses-few : q .verses ≤ r .verses + 1
   pub opens : q .«open» ≡ r .«open»
   pub anchor : q .anchor ≡ anchorAfter t i (r .anchor)
-
-abbrev pub pickList : Bool → List ℕ → List ℕ → List ℕ
-pickList true a b = a
-pickList false a b = b
 
 -- the numbers attached after a leaf
 abbrev pub numbersAfter : List ℕ → List ℕ → ℕ → ℕ → ℕ → List ℕ → List ℕ

@@ -1,11 +1,11 @@
 -- The findings of the open starts that are left, one at a time.
 -- Assumes nothing.
-use Prim.Native.Nat.{ℕ, zero, suc, _+_, _*_, _<_, _≤_}
-use mathlib.Core.Path.{_≡_, refl, ap, _∙_}
+use Prim.Native.Nat.{ℕ, _+_, _*_, _<_, _≤_}
+use mathlib.Core.Path.{_≡_, ap, _∙_}
 use mathlib.Core.List.{List, [], _∷_, _++_}
 use native.Mathlib.Omega.{arith}
 use native.Mathlib.Numerals.{add-one}
-use lib.ListN.{length, getD, length-append}
+use lib.ListN.{length, getD}
 use Rattle.tape.specs.Nodes.{nodeAt, count}
 use Rattle.findings.specs.Finding.{Finding}
 use Rattle.findings.specs.declared.Counts.{Counts}
@@ -14,15 +14,11 @@ use Rattle.findings.proofs.Overlay.{wrote-none, wrote-append, counted-total}
 use Rattle.running.specs.Running.{starts, Opens}
 use Rattle.validate.specs.Checks.{about, error}
 use Rattle.validate.specs.Document.{unclosed}
+use Rattle.validate.proofs.Few.{unclosed-length}
+use Rattle.running.proofs.Opened.{starts-length}
 
-unclosed-length : (s t words : List ℕ) (k : ℕ) → length (unclosed (starts s t words k)) ≡ k
-unfolding unclosed starts
-unclosed-length s t words zero = refl
-unclosed-length s t words (suc k) =
-    let x = error (nodeAt s t (getD words (2 * k) 0)) 16 0 in
-    let e = length-append (unclosed (starts s t words k)) (x ∷ []) in
-    let i = unclosed-length s t words k in
-    omega arith
+left-length : (s t words : List ℕ) (k : ℕ) → length (unclosed (starts s t words k)) ≡ k
+left-length s t words k = unclosed-length (starts s t words k) ∙ starts-length s t words k
 
 unclosed-more : (s t words : List ℕ) (k : ℕ) → unclosed (starts s t words (k + 1)) ≡ unclosed (starts s t words k) ++ error (nodeAt s t (getD words (2 * k) 0)) 16 0 ∷ []
 unfolding unclosed starts
@@ -57,8 +53,8 @@ module _ {s t words : List ℕ} {n : ℕ} {l₀ : List ℕ} {c₀ : Counts} {l :
       pub told-room : Room c (f ∷ [])
       told-room =
           let e : total c ≡ total c₀ + length (unclosed (starts s t words k)) = ap total (told .wrote .counts) ∙ counted-total c₀ (unclosed (starts s t words k)) in
-          let i = unclosed-length s t words k in
-          let j = unclosed-length s t words n in
+          let i = left-length s t words k in
+          let j = left-length s t words n in
           let r = told .room in
           omega arith
 

@@ -3,12 +3,13 @@
 use Prim.Native.Nat.{ℕ}
 use mathlib.Core.Path.{_≡_}
 use mathlib.Core.Bool.{Bool}
-use mathlib.Core.List.{List, [], _∷_, _++_, append-nil}
+use mathlib.Core.List.{List, [], _∷_, append-nil}
 use Rattle.findings.specs.Finding.{Finding}
 use Rattle.findings.specs.declared.Counts.{Counts}
 use Rattle.findings.specs.Written.{Wrote, Room, only}
-use Rattle.findings.proofs.Overlay.{Left, left-start, left-wrote, left-end, left-room, room-first}
+use Rattle.findings.proofs.Overlay.{Left, left-start, left-wrote, left-end, left-room}
 use Rattle.validate.specs.Checks.{Check, given}
+use Rattle.validate.proofs.Givens.{given-room, given-wrote, given-end}
 
 -- a finding that the code makes, and what it says
 pub only-room : (c : Counts) (there : Bool) (f g : Finding) → f ≡ g → Room c (only there g) → Room c (only there f)
@@ -28,15 +29,11 @@ due-start ks l c₀ c e r = rw e (record { roomy = r; left = left-start (given k
 module _ {fs₀ : List Finding} {l₀ : List ℕ} {c₀ : Counts} {l : List ℕ} {c : Counts} where
   -- the first of them: its condition and its finding as the code has them
   module _ (k : Check) (ks : List Check) (there : Bool) (f : Finding) (is : there ≡ k .holds) (says : f ≡ k .finding) (d : Due fs₀ l₀ c₀ (k ∷ ks) l c) where
-    here : Left fs₀ l₀ c₀ (only there f ++ given ks) l c
-    unfolding given
-    here = rw (is, says) (d .left)
-
     pub due-room : Room c (only there f)
-    due-room = room-first c (only there f) (given ks) (left-room here (d .roomy))
+    due-room = given-room k ks l c (d .left) there f is says (d .roomy)
 
     pub due-wrote : {l′ : List ℕ} {c′ : Counts} → Wrote (only there f) l c l′ c′ → Due fs₀ l₀ c₀ ks l′ c′
-    due-wrote w = record { roomy = d .roomy; left = left-wrote here w }
+    due-wrote {l′ = l′} {c′ = c′} w = record { roomy = d .roomy; left = given-wrote k ks l c (d .left) there f is says l′ c′ w }
 
   -- all that are left
   module _ {ks : List Check} (d : Due fs₀ l₀ c₀ ks l c) where
@@ -47,5 +44,4 @@ module _ {fs₀ : List Finding} {l₀ : List ℕ} {c₀ : Counts} {l : List ℕ}
     due-all w = left-end (left-wrote {gs = given ks} {fs = []} (rw (append-nil (given ks)) (d .left)) w)
 
   pub due-end : Due fs₀ l₀ c₀ [] l c → Wrote fs₀ l₀ c₀ l c
-  unfolding given
-  due-end d = left-end (d .left)
+  due-end d = given-end l c (d .left)

@@ -30,15 +30,11 @@ use Rattle.validate.proofs.Few.{text-few, walk-few, given-few, unclosed-length}
 use Rattle.validate.proofs.Counted.{Graded, graded}
 use Rattle.running.specs.Running.{latest, starts, stateOf, countsOf, withCounts, Opens}
 use Rattle.running.specs.declared.Record.{Record}
+use Rattle.running.proofs.Opened.{starts-length}
 use Rattle.closing.specs.Ends.{missingChecks}
 use Rattle.checker.specs.Walking.{nowhere, walkAt, Ready, Walked}
 use Rattle.marking.specs.Entry.{none-yet, fresh, Ran, Fit, reported, lent}
 use Rattle.checker.proofs.Visiting.{count-low}
-
-starts-length : (s t words : List ℕ) (k : ℕ) → length (starts s t words k) ≡ k
-unfolding starts
-starts-length s t words zero = refl
-starts-length s t words (suc k) = ap suc (starts-length s t words k)
 
 module _ {table words : List ℕ} {entries : ℕ} {s t seen opens : List ℕ} (fit : Fit table words entries s t seen opens) where
   abbrev to : ℕ

@@ -3,18 +3,17 @@
 use Prim.Native.Nat.{ℕ, zero, suc, _+_, _-_, _*_, _/_, _<_, _≤_}
 use native.Mathlib.Omega.{arith}
 use mathlib.Core.Path.{_≡_, refl, sym, ap, ap₂, _∙_}
-use mathlib.Core.Bool.{Bool, true, false, false≢true}
+use mathlib.Core.Bool.{false}
 use mathlib.Core.List.{List, [], _∷_, _++_}
 use mathlib.Core.Option.{Option, some, none}
 use lib.Dec.{ltb}
 use lib.ListN.{length, take, drop}
 use lib.Seq.{length-take-le}
 use borrow.Author.Tests.{ltb-false}
-use Rattle.text.specs.Pick.{either}
 use Rattle.tape.specs.Nodes.{count}
 use Rattle.tape.specs.Forest.{Accepted, top}
 use Rattle.tape.specs.Reading.{Refusal, refuse, onlyIf, orElse}
-use Rattle.tape.proofs.OneNumber.{accepted, neither, only-not}
+use Rattle.tape.proofs.OneNumber.{accepted, neither, either-false, only-not}
 use Rattle.table.specs.Entries.{Indexed}
 use Rattle.findings.specs.Written.{overlay}
 use Rattle.validate.specs.Document.{findings}
@@ -64,16 +63,12 @@ module _ (table s t seen opens l : List ℕ) where
       long : shortList it ≡ false
       long = only-not (shortList it) 10 (count t) (neither (of9 it) (of10 it) (neither (ofTape it) (orElse (of9 it) (of10 it)) fromTape-none .1) .1)
 
-      both-false : (a b : Bool) → either a b ≡ false → (a ≡ false) × (b ≡ false)
-      both-false true b h = absurd (false≢true (sym h))
-      both-false false b h = (refl, h)
-
       pub seen-long : count t ≤ length seen
-      seen-long = ltb-false (length seen) (count t) (both-false (ltb (length seen) (count t)) (ltb (length opens / 2) (count t)) long .0)
+      seen-long = ltb-false (length seen) (count t) (either-false (ltb (length seen) (count t)) (ltb (length opens / 2) (count t)) long .0)
 
       pub opens-long : 2 * count t ≤ length opens
       opens-long =
-          let k : count t ≤ length opens / 2 = ltb-false (length opens / 2) (count t) (both-false (ltb (length seen) (count t)) (ltb (length opens / 2) (count t)) long .1) in
+          let k : count t ≤ length opens / 2 = ltb-false (length opens / 2) (count t) (either-false (ltb (length seen) (count t)) (ltb (length opens / 2) (count t)) long .1) in
           omega arith
 
       pub fits : (words : List ℕ) → Passed table words g → Fit table words n s t (take (count t) seen) (take (2 * count t) opens)

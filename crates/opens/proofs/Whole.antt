@@ -24,7 +24,7 @@ use Rattle.running.specs.Running.{stateOf, anchorOf, countsOf, withCounts}
 use Rattle.running.specs.declared.Record.{Record}
 use Rattle.opens.specs.Own.{ownAt, childrenAt, Marked}
 use Rattle.opens.specs.Inner.{withId}
-use Rattle.opens.proofs.Givens.{given-append}
+use Rattle.validate.proofs.Givens.{given-append}
 
 -- the room of what follows
 room-after : (fs gs : List Finding) (l l′ : List ℕ) (c c′ : Counts) → Wrote fs l c l′ c′ → Room c (fs ++ gs) → Room c′ gs

@@ -7,7 +7,8 @@ use Rattle.text.specs.Pick.{both, either}
 use Rattle.text.specs.Words.{blankText}
 use Rattle.tape.specs.Nodes.{Node}
 use Rattle.tape.specs.Forest.{Forest}
-use Rattle.validate.specs.Checks.{pickBool, frontBy, hasText, hasAttribute, hasMarkers}
+use Rattle.numbers.specs.Verse.{pickBool}
+use Rattle.validate.specs.Checks.{frontBy, hasText, hasAttribute, hasMarkers}
 use Rattle.running.specs.declared.Record.{Record}
 
 -- a Text; a blank one counts if the flag says so

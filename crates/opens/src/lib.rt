@@ -15,9 +15,7 @@ use running::Around;
 use running::Record;
 use table::Book;
 use table::BookId;
-use table::Category;
 use table::MarkerInfo;
-use table::TextRole;
 ghost use mathlib.Core.Path.{_≡_};
 ghost use mathlib.Core.Bool.{true, not};
 ghost use mathlib.Core.List.{[]};
@@ -29,7 +27,7 @@ ghost use Rattle.tape.specs.Nodes.{count, nodeAt, kindAt, startAt, isOpen};
 ghost use Rattle.tape.specs.Forest.{forest};
 ghost use Rattle.table.specs.Bytes.{equal, oneOf};
 ghost use Rattle.table.specs.Names.{noteOnly};
-ghost use Rattle.table.specs.Entries.{entryOfInfo, categoryOf};
+ghost use Rattle.table.specs.Entries.{entryOfInfo};
 ghost use Rattle.cursor.specs.Names.{nameOf};
 ghost use Rattle.cursor.specs.Inner.{Run, Spanned};
 ghost use Rattle.findings.specs.Finding.{severityOf};
@@ -285,15 +283,16 @@ fn is_one_of_four(name: &[u8]) -> bool
 }
 
 // A marker of notes that stands outside one.
-fn outside_note(category: Category, note: bool, name: &[u8]) -> bool
-    ensures { λ r. ⌜ r ≡ both (eqb (categoryOf category) 4) (both (not note) (oneOf noteOnly (now (name .entry)))) ⌝ }
+fn outside_note(m: MarkerInfo, note: bool, name: &[u8]) -> bool
+    ensures { λ r. ⌜ r ≡ both (eqb (entryOfInfo m .category) 4) (both (not note) (oneOf noteOnly (now (name .entry)))) ⌝ }
 {
     if note {
         return false;
     }
-    match category {
-        Category::Character => table::is_note_only_marker(name),
-        _ => false,
+    if running::is_of(m, 4) {
+        table::is_note_only_marker(name)
+    } else {
+        false
     }
 }
 
@@ -307,21 +306,6 @@ fn filled_blank_line(name: &[u8], source: &[u8], tape: &[u8], from: usize, to: u
     false
 }
 
-// A paragraph that can hold verse text.
-fn is_body(m: MarkerInfo) -> bool
-    ensures { λ r. ⌜ r ≡ isBody (entryOfInfo m) ⌝ }
-{
-    let category = m.category;
-    let role = m.text_role;
-    match category {
-        Category::Paragraph => match role {
-            TextRole::Boundary => true,
-            _ => false,
-        },
-        _ => false,
-    }
-}
-
 fn before_chapter(m: MarkerInfo, rec: Record) -> bool
     ensures { λ r. ⌜ r ≡ both (isBody (entryOfInfo m)) (both (not (rec .«has_chapter»)) (not (rec .«front_matter»))) ⌝ }
 {
@@ -331,7 +315,7 @@ fn before_chapter(m: MarkerInfo, rec: Record) -> bool
     if rec.front_matter {
         return false;
     }
-    is_body(m)
+    running::is_body(m)
 }
 
 // A number that isn't attached, by the table's name and the name as written.
@@ -365,9 +349,8 @@ fn place_findings(
     requires { ⌜ (Run (now source) (now tape) i to) × (i < to) × (isOpen (kindAt (now tape) i) ≡ true) × (startsOf numbers ≡ startsFor (anchorOf (now source) (now tape) (rec .anchor) i) (forest (now source) (now tape) i to)) × Room c (given (placeChecks (now name) (entryOfInfo m) (aroundOf around) (anchorOf (now source) (now tape) (rec .anchor) i) (stateOf (now source) (now tape) [] [] rec) (nodeAt (now source) (now tape) i) (childrenAt (now source) (now tape) i) (forest (now source) (now tape) i to))) ⌝ }
     ensures { λ r. ⌜ Wrote (given (placeChecks (now (name .entry)) (entryOfInfo m) (aroundOf around) (anchorOf (now (source .entry)) (now (tape .entry)) (rec .anchor) i) (stateOf (now (source .entry)) (now (tape .entry)) [] [] rec) (nodeAt (now (source .entry)) (now (tape .entry)) i) (childrenAt (now (source .entry)) (now (tape .entry)) i) (forest (now (source .entry)) (now (tape .entry)) i to))) (now (list .entry)) c (now (list .exit)) r ⌝ }
 {
-    let category = m.category;
     let link = tape::link_at(tape, i) as usize;
-    let outside = outside_note(category, around.note, name);
+    let outside = outside_note(m, around.note, name);
     let filled = filled_blank_line(name, source, tape, i + 1, link);
     let early = before_chapter(m, rec);
     let misplaced = is_misplaced(name, source, tape, i, numbers);

@@ -16,7 +16,7 @@ use Rattle.findings.specs.Written.{only}
 use Rattle.rows.specs.Cells.{Range}
 use Rattle.rows.specs.Row.{outOfOrder, cellIn, byColumns, rowFrom}
 
-only-few : (there : Bool) (f : Finding) → length (only there f) ≤ 1
+pub only-few : (there : Bool) (f : Finding) → length (only there f) ≤ 1
 only-few true f = omega arith
 only-few false f = omega arith
 

@@ -30,7 +30,7 @@ pub neither : (x y : Option Refusal) → orElse x y ≡ none → (x ≡ none) ×
 neither none y e = (refl, e)
 neither (some q) y e = refused q e
 
-either-false : (a b : Bool) → either a b ≡ false → (a ≡ false) × (b ≡ false)
+pub either-false : (a b : Bool) → either a b ≡ false → (a ≡ false) × (b ≡ false)
 either-false true b e = absurd (false≢true (sym e))
 either-false false b e = (refl, e)
 

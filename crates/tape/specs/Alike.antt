@@ -5,7 +5,7 @@ use mathlib.Core.Bool.{Bool, true}
 use mathlib.Core.List.{List, _++_}
 use Rattle.tape.specs.Nodes.{byte, count, kindAt, startAt, linkAt, isOpen}
 
--- without the condition on start offsets. The nodes of t from 1 on before its root's link are bytes 16 and those after it
+-- without the condition on start offsets. The nodes of t from 1 on before its root's link are its bytes from 16 up to 16 times that link
 pub record Alike (s t s′ t′ : List ℕ) : Type 0 where
   pub added : List ℕ
   pub source : s′ ≡ s ++ added

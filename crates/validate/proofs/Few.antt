@@ -22,7 +22,7 @@ use Rattle.findings.specs.Written.{only}
 use Rattle.attributes.specs.Attributes.{pickFindings, attributesFindings}
 use Rattle.attributes.proofs.Few.{attributes-few}
 use Rattle.rows.specs.Row.{rowFindings}
-use Rattle.rows.proofs.Few.{row-few}
+use Rattle.rows.proofs.Few.{only-few, row-few}
 use Rattle.validate.specs.State.{State, initial, outside, Around, Anchor, past, Told}
 use Rattle.validate.specs.Checks.{warning, Check, when, given, entryOf, chapterChecks, verseChecks, pickChecks, leafTold, bookCode, idName, trName, idChecks, afterId, placeChecks, contentChecks}
 use Rattle.validate.specs.Milestones.{milestoneChecks}
@@ -87,10 +87,6 @@ walk-few table o a (node x c r) st =
         let k = below (inside o e) (t .state) in
         let j = later (w .state) in
         omega (arith, length-append (t .findings) (w .findings ++ v .findings), length-append (w .findings) (v .findings))
-
-only-few : (b : Bool) (f : Finding) → length (only b f) ≤ 1
-only-few true f = le-refl 1
-only-few false f = omega arith
 
 pub text-few : (f : Forest) → length (textBefore f) ≤ 1
 unfolding textBefore

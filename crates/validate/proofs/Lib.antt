@@ -5,3 +5,4 @@ pub mod Demand3
 pub mod Counted
 pub mod Worked
 pub mod Few
+pub mod Givens

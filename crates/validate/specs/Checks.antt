@@ -17,8 +17,8 @@ use Rattle.cursor.specs.Names.{nameOf}
 use Rattle.cursor.specs.Info.{hasMarker, onlyFor}
 use Rattle.findings.specs.Finding.{Finding}
 use Rattle.findings.specs.Written.{only}
-use Rattle.numbers.specs.Label.{isGlued, labelOf, numbered}
-use Rattle.numbers.specs.Verse.{Position, versePart, verseEnd, next, inSequence}
+use Rattle.numbers.specs.Label.{isGlued, pickList, labelOf, numbered}
+use Rattle.numbers.specs.Verse.{Position, versePart, verseEnd, next, pickBool, inSequence}
 use Rattle.attachment.specs.Attached.{among, isAttached}
 use Rattle.validate.specs.State.{State, firstVerse, Around, Anchor, Told}
 
@@ -41,14 +41,6 @@ error x code form = about x 0 code form 0 0
 
 abbrev pub warning : Node → ℕ → ℕ → Finding
 warning x code form = about x 1 code form 0 0
-
-abbrev pub pickBool : Bool → Bool → Bool → Bool
-pickBool true a b = a
-pickBool false a b = b
-
-abbrev pub pickBytes : Bool → List ℕ → List ℕ → List ℕ
-pickBytes true a b = a
-pickBytes false a b = b
 
 abbrev pub known : Option ℕ → Bool
 known none = false
@@ -165,7 +157,7 @@ leafTold table o st x =
 -- "The book code = first whitespace token of the `\id` line's text", its first Text; empty where there is none
 unfoldable pub bookCode : Forest → List ℕ
 bookCode end = []
-bookCode (leaf x r) = pickBytes (eqb (x .kind) 5) (cut (firstWord (x .text)) (x .text)) (bookCode r)
+bookCode (leaf x r) = pickList (eqb (x .kind) 5) (cut (firstWord (x .text)) (x .text)) (bookCode r)
 bookCode (node x c r) = bookCode r
 
 abbrev pub isBook : List ℕ → Bool

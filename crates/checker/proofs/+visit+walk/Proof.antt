@@ -1,3 +1,5 @@
+-- `checker::visit` and `checker::walk` meet their contracts.
+-- Assumes nothing.
 use Prim.Native.Nat.{_+_, _-_, _*_}
 use mathlib.Core.Path.{_≡_, refl, sym, ap, _∙_}
 use native.Mathlib.Omega.{arith}
@@ -53,7 +55,6 @@ walk-at t = and 7 walk-kinds.ps (is 7 walk-kinds.ps μ-walk t) walk.Pre
 abbrev walk-below : ℕ → In 7 walk-kinds.ps
 walk-below t = and 7 walk-kinds.ps (falls 7 walk-kinds.ps _<_ μ-walk t) walk.Pre
 
--- src/lib.rt:162:9
 visit-visit-marker-requires : (t : ℕ) → visit-lts.Need-visit-marker-requires (
   visit-marker-reads.Asked,
   visit-marker-reads.Learnt,
@@ -78,7 +79,6 @@ visit-visit-marker-requires t c κs =
     let v = visit-with (aroundOf (a .around)) (entryOfInfo (a .m)) (now (a .list)) (p .0) (p .1) (p .3) in
     (p .2, visit-run v, p .1 .more, p .1 .opened, p .1 .attached, own-room v)
 
--- src/lib.rt:163:9
 visit-milestone-findings-requires : (t : ℕ) → visit-lts.Need-milestone-findings-requires (
   visit-marker-reads.Asked,
   visit-marker-reads.Learnt,
@@ -105,7 +105,6 @@ visit-milestone-findings-requires t c κs =
     let l1 = m1 .last .1 .1 .1 .1 .1 .1 .1 .1 .1 .0 in
     (visit-spanned v, milestone-opens v l1 (m1 .result) (m1 .ensures), milestone-room v l1 (m1 .result) (m1 .ensures))
 
--- src/lib.rt:164:57
 visit-with-counts-requires : (t : ℕ) → visit-lts.Need-with-counts-requires (
   visit-marker-reads.Asked,
   visit-marker-reads.Learnt,
@@ -126,7 +125,6 @@ visit-with-counts-requires : (t : ℕ) → visit-lts.Need-with-counts-requires (
 ) (visit-at t) visit.Post
 visit-with-counts-requires t c κs = search needs
 
--- src/lib.rt:164:9
 visit-after-milestone-requires : (t : ℕ) → visit-lts.Need-after-milestone-requires (
   visit-marker-reads.Asked,
   visit-marker-reads.Learnt,
@@ -156,7 +154,6 @@ visit-after-milestone-requires t c κs =
     let wc = c .with-counts in
     rw (wc .ensures) (visit-spanned v, step-opens v l1 (m1 .result) (m1 .ensures) l2 (mf .result) (mf .ensures), step-room v l1 (m1 .result) (m1 .ensures) l2 (mf .result) (mf .ensures))
 
--- src/lib.rt:171:9
 visit-add-walk : (t : ℕ) → visit-lts.Need-add-walk (
   visit-marker-reads.Asked,
   visit-marker-reads.Learnt,
@@ -182,7 +179,6 @@ visit-add-walk t c =
     let m = visit-low v in
     omega arith
 
--- src/lib.rt:172:9
 visit-link-at-requires : (t : ℕ) → visit-lts.Need-link-at-requires (
   visit-marker-reads.Asked,
   visit-marker-reads.Learnt,
@@ -207,7 +203,6 @@ visit-link-at-requires t c κs =
     let v = visit-with (aroundOf (a .around)) (entryOfInfo (a .m)) (now (a .list)) (p .0) (p .1) (p .3) in
     visit-inside v
 
--- src/lib.rt:172:9
 visit-cast-walk : (t : ℕ) → visit-lts.Need-cast-walk (
   visit-marker-reads.Asked,
   visit-marker-reads.Learnt,
@@ -228,7 +223,6 @@ visit-cast-walk : (t : ℕ) → visit-lts.Need-cast-walk (
 ) (visit-at t) visit.Post
 visit-cast-walk t c = search needs
 
--- src/lib.rt:173:9
 visit-sub-walk : (t : ℕ) → visit-lts.Need-sub-walk (
   visit-marker-reads.Asked,
   visit-marker-reads.Learnt,
@@ -253,7 +247,6 @@ visit-sub-walk t c =
     let v = visit-with (aroundOf (a .around)) (entryOfInfo (a .m)) (now (a .list)) (p .0) (p .1) (p .3) in
     visit-deep v
 
--- src/lib.rt:174:9
 visit-inside-requires : (t : ℕ) → visit-lts.Need-inside-requires (
   visit-marker-reads.Asked,
   visit-marker-reads.Learnt,
@@ -274,7 +267,6 @@ visit-inside-requires : (t : ℕ) → visit-lts.Need-inside-requires (
 ) (visit-at t) visit.Post
 visit-inside-requires t c κs = search needs
 
--- src/lib.rt:175:9
 visit-with-anchor-requires : (t : ℕ) → visit-lts.Need-with-anchor-requires (
   visit-marker-reads.Asked,
   visit-marker-reads.Learnt,
@@ -295,7 +287,6 @@ visit-with-anchor-requires : (t : ℕ) → visit-lts.Need-with-anchor-requires (
 ) (visit-at t) visit.Post
 visit-with-anchor-requires t c κs = search needs
 
--- src/lib.rt:165:9
 visit-walk-requires : (t : ℕ) → visit-lts.Need-walk-requires (
   visit-marker-reads.Asked,
   visit-marker-reads.Learnt,
@@ -332,7 +323,6 @@ visit-walk-requires t c κs =
     let d = visit-deep v in
     (omega (arith, c .before .before .before .before .before .before .before .before .before .before .before .before .before .before .before .before .before .before .before .before .before .before .before .before .before .before .before .pre .0), rw (lk .ensures, wa .ensures) (children-ready v l1 (m1 .result) (m1 .ensures) l2 (mf .result) (mf .ensures) o2 (am .result) (am .kept .1 .1 .1 .1 .0) st, children-room v l1 (m1 .result) (m1 .ensures) l2 (mf .result) (mf .ensures) o2 (am .result) (am .kept .1 .1 .1 .1 .0) st (aroundOf (ins .result)) (ins .ensures)))
 
--- src/lib.rt:180:5
 visit-with-anchor-requires-2 : (t : ℕ) → visit-lts.Need-with-anchor-requires-2 (
   visit-marker-reads.Asked,
   visit-marker-reads.Learnt,
@@ -353,7 +343,6 @@ visit-with-anchor-requires-2 : (t : ℕ) → visit-lts.Need-with-anchor-requires
 ) (visit-at t) visit.Post
 visit-with-anchor-requires-2 t c κs = search needs
 
--- src/lib.rt:141:1
 visit-same-length : (t : ℕ) → visit-lts.Need-same-length (
   visit-marker-reads.Asked,
   visit-marker-reads.Learnt,
@@ -374,7 +363,6 @@ visit-same-length : (t : ℕ) → visit-lts.Need-same-length (
 ) (visit-at t) visit.Post
 visit-same-length t c = c .before .before .before .before .before .before .before .walk .kept .1 .1 .1 .1 .1 .1 .1 .1 .1 .1 .0
 
--- src/lib.rt:141:1
 visit-same-length-2 : (t : ℕ) → visit-lts.Need-same-length-2 (
   visit-marker-reads.Asked,
   visit-marker-reads.Learnt,
@@ -395,7 +383,6 @@ visit-same-length-2 : (t : ℕ) → visit-lts.Need-same-length-2 (
 ) (visit-at t) visit.Post
 visit-same-length-2 t c = c .before .before .before .before .before .before .before .walk .kept .1 .1 .1 .1 .1 .1 .1 .1 .1 .1 .1 .0 ∙ c .before .before .before .before .before .before .before .before .before .before .before .before .before .before .before .before .after-milestone .kept .1 .1 .1 .1 .0
 
--- src/lib.rt:141:1
 visit-same-length-3 : (t : ℕ) → visit-lts.Need-same-length-3 (
   visit-marker-reads.Asked,
   visit-marker-reads.Learnt,
@@ -416,7 +403,6 @@ visit-same-length-3 : (t : ℕ) → visit-lts.Need-same-length-3 (
 ) (visit-at t) visit.Post
 visit-same-length-3 t c = c .before .before .before .before .before .before .before .walk .kept .1 .1 .1 .1 .1 .1 .1 .1 .1 .1 .1 .1 .0 ∙ c .before .before .before .before .before .before .before .before .before .before .before .before .before .before .before .before .before .before .before .before .before .milestone-findings .kept .1 .1 .1 .1 .1 .1 .0 ∙ c .before .before .before .before .before .before .before .before .before .before .before .before .before .before .before .before .before .before .before .before .before .before .before .before .before .before .visit-marker .kept .1 .1 .1 .1 .1 .1 .1 .1 .1 .0
 
--- src/lib.rt:141:1
 visit-returns : (t : ℕ) → visit-lts.Need-returns (
   visit-marker-reads.Asked,
   visit-marker-reads.Learnt,
@@ -461,7 +447,6 @@ walk-Inv-loop table words count source tape from to depth around seen₀ opens�
 abbrev walk-μ-loop : walk-lts.MeasureT-loop
 walk-μ-loop table words count source tape from to depth around seen₀ opens₀ list₀ r₀ numbers₀ i₀ seen opens list r numbers i = to - i
 
--- src/lib.rt:202:9
 walk-anchored-requires : (t : ℕ) → walk-lts.Need-anchored-requires (
   anchored-reads.Asked,
   anchored-reads.Learnt,
@@ -482,7 +467,6 @@ walk-anchored-requires t c κs =
     let p = c .before .before .before .before .before .before .before .pre .1 in
     (p .0 .accepted, p .0 .nested, p .0 .within, p .0 .anchored)
 
--- src/lib.rt:204:5
 walk-loop-holds : (t : ℕ) → walk-lts.Need-loop-holds (
   anchored-reads.Asked,
   anchored-reads.Learnt,
@@ -504,7 +488,6 @@ walk-loop-holds t c =
     let a = c .before .before .before .before .before .before .before .before .args in
     (going-start (now (a .table)) (now (a .words)) (a .count) (now (a .source)) (now (a .tape)) (a .depth) (aroundOf (a .around)) (a .from) (a .to) (now (a .seen)) (now (a .opens)) (now (a .list)) (a .rec) (c .anchored .result) (p .0) (p .1) (c .anchored .ensures), refl, refl, refl)
 
--- src/lib.rt:206:9
 walk-past-node-requires : (t : ℕ) → walk-lts.Need-past-node-requires (
   anchored-reads.Asked,
   anchored-reads.Learnt,
@@ -526,7 +509,6 @@ walk-past-node-requires t c κs =
     let more = c .loop-test .taken in
     going-below g more
 
--- src/lib.rt:207:12
 walk-kind-at-requires : (t : ℕ) → walk-lts.Need-kind-at-requires (
   anchored-reads.Asked,
   anchored-reads.Learnt,
@@ -548,7 +530,6 @@ walk-kind-at-requires t c κs =
     let more = c .before .loop-test .taken in
     going-below g more
 
--- src/lib.rt:208:13
 walk-leaf-requires : (t : ℕ) → walk-lts.Need-leaf-requires (
   anchored-reads.Asked,
   anchored-reads.Learnt,
@@ -573,7 +554,6 @@ walk-leaf-requires t c κs =
     let kind = no-open (now (a .source)) (now (a .tape)) (c .before .before .before .before .before .before .loop .i) (kd .result) (kd .ensures) (c .before .before .if1 .taken) in
     (g .ready .indexed, going-spanned g more, g .ready .sane, leaf-seen g more kind, leaf-verses g more kind, leaf-room g more kind)
 
--- src/lib.rt:209:13
 walk-numbers-after-requires : (t : ℕ) → walk-lts.Need-numbers-after-requires (
   anchored-reads.Asked,
   anchored-reads.Learnt,
@@ -596,7 +576,6 @@ walk-numbers-after-requires t c κs =
     let pn = c .before .before .before .before .before .before .before .before .before .past-node in
     (going-below g more, rw (pn .ensures) (going-run g more))
 
--- src/lib.rt:204:5
 walk-loop-less : (t : ℕ) → walk-lts.Need-loop-less (
   anchored-reads.Asked,
   anchored-reads.Learnt,
@@ -620,7 +599,6 @@ walk-loop-less t c =
     let l = going-later g more in
     omega (arith, l .0, l .1, pn .ensures)
 
--- src/lib.rt:204:5
 walk-loop-again : (t : ℕ) → walk-lts.Need-loop-again (
   anchored-reads.Asked,
   anchored-reads.Learnt,
@@ -649,7 +627,6 @@ walk-loop-again t c =
     let na = c .numbers-after in
     (rw (pn .ensures) (going-leaf g more kind (lf .last .1 .1 .1 .1 .1 .1 .1 .1 .0) (lf .last .1 .1 .1 .1 .1 .1 .1 .1 .1 .0) (lf .result) (na .result) (lf .kept .1 .1 .1 .1 .1 .1 .1 .1 .0) (lf .ensures) (rw (pn .ensures) at (na .ensures))), lf .kept .1 .1 .1 .1 .1 .1 .1 .1 .0 ∙ inv .1, inv .2, lf .kept .1 .1 .1 .1 .1 .1 .1 .1 .1 .0 ∙ inv .3)
 
--- src/lib.rt:212:30
 walk-marker-info-requires : (t : ℕ) → walk-lts.Need-marker-info-requires (
   anchored-reads.Asked,
   anchored-reads.Learnt,
@@ -671,7 +648,6 @@ walk-marker-info-requires t c κs =
     let more = c .before .before .before .loop-test .taken in
     (g .ready .indexed, going-below g more)
 
--- src/lib.rt:212:25
 walk-enum-known-m : (t : ℕ) → walk-lts.Need-enum-known-m (
   anchored-reads.Asked,
   anchored-reads.Learnt,
@@ -690,7 +666,6 @@ walk-enum-known-m : (t : ℕ) → walk-lts.Need-enum-known-m (
 ) (walk-at t) walk.Post walk-Inv-loop walk-μ-loop
 walk-enum-known-m t c = search needs
 
--- src/lib.rt:213:13
 walk-enum-told : (t : ℕ) → walk-lts.Need-enum-told (
   anchored-reads.Asked,
   anchored-reads.Learnt,
@@ -709,7 +684,6 @@ walk-enum-told : (t : ℕ) → walk-lts.Need-enum-told (
 ) (walk-at t) walk.Post walk-Inv-loop walk-μ-loop
 walk-enum-told t c = search needs
 
--- src/lib.rt:204:5
 walk-loop-less-2 : (t : ℕ) → walk-lts.Need-loop-less-2 (
   anchored-reads.Asked,
   anchored-reads.Learnt,
@@ -733,7 +707,6 @@ walk-loop-less-2 t c =
     let l = going-later g more in
     omega (arith, l .0, l .1, pn .ensures)
 
--- src/lib.rt:204:5
 walk-loop-again-2 : (t : ℕ) → walk-lts.Need-loop-again-2 (
   anchored-reads.Asked,
   anchored-reads.Learnt,
@@ -761,7 +734,6 @@ walk-loop-again-2 t c =
     let mi = c .before .before .marker-info in
     (rw (pn .ensures) (going-skip g more kind (entry-none (now (a .table)) (now (a .source)) (now (a .tape)) (c .before .before .before .before .before .before .before .loop .i) (mi .result) (mi .ensures) (c .enum-told .given .1))), inv .1, inv .2, inv .3)
 
--- src/lib.rt:215:9
 walk-visit-requires : (t : ℕ) → walk-lts.Need-visit-requires (
   anchored-reads.Asked,
   anchored-reads.Learnt,
@@ -789,7 +761,6 @@ walk-visit-requires t c κs =
     let known = entry-some (now (a .table)) (now (a .source)) (now (a .tape)) (c .before .before .before .before .before .before .before .before .before .before .before .loop .i) (mi .result) (mi .ensures) (m .0 .0) (m .1) in
     (omega (arith, c .before .before .before .before .before .before .before .before .before .before .before .before .before .before .before .before .before .before .before .before .pre .0), (g .ready, visit-able g more kind (entryOfInfo (m .0 .0)) known, entry-inside (now (a .table)) (now (a .words)) (a .count) (now (a .source)) (now (a .tape)) (c .before .before .before .before .before .before .before .before .before .before .before .loop .i) (m .0 .0) (g .ready .indexed) known, visit-room g more kind (entryOfInfo (m .0 .0)) known))
 
--- src/lib.rt:204:5
 walk-loop-less-3 : (t : ℕ) → walk-lts.Need-loop-less-3 (
   anchored-reads.Asked,
   anchored-reads.Learnt,
@@ -813,7 +784,6 @@ walk-loop-less-3 t c =
     let l = going-later g more in
     omega (arith, l .0, l .1, pn .ensures)
 
--- src/lib.rt:204:5
 walk-loop-again-3 : (t : ℕ) → walk-lts.Need-loop-again-3 (
   anchored-reads.Asked,
   anchored-reads.Learnt,
@@ -844,7 +814,6 @@ walk-loop-again-3 t c =
     let vs = c .before .before .before .before .before .before .visit in
     (rw (pn .ensures) (going-open g more kind (entryOfInfo (m .0 .0)) known (vs .last .1 .1 .1 .1 .1 .1 .1 .1 .1 .1 .1 .1 .0) (vs .last .1 .1 .1 .1 .1 .1 .1 .1 .1 .1 .1 .1 .1 .0) (vs .last .1 .1 .1 .1 .1 .1 .1 .1 .1 .1 .1 .1 .1 .1 .0) (vs .result) (vs .kept .1 .1 .1 .1 .1 .1 .1 .1 .1 .1 .1 .1 .0) (vs .kept .1 .1 .1 .1 .1 .1 .1 .1 .1 .1 .1 .1 .1 .0) (vs .ensures)), vs .kept .1 .1 .1 .1 .1 .1 .1 .1 .1 .1 .1 .1 .0 ∙ inv .1, vs .kept .1 .1 .1 .1 .1 .1 .1 .1 .1 .1 .1 .1 .1 .0 ∙ inv .2, vs .kept .1 .1 .1 .1 .1 .1 .1 .1 .1 .1 .1 .1 .1 .1 .0 ∙ inv .3)
 
--- src/lib.rt:183:1
 walk-same-length : (t : ℕ) → walk-lts.Need-same-length (
   anchored-reads.Asked,
   anchored-reads.Learnt,
@@ -863,7 +832,6 @@ walk-same-length : (t : ℕ) → walk-lts.Need-same-length (
 ) (walk-at t) walk.Post walk-Inv-loop walk-μ-loop
 walk-same-length t c = c .before .loop .inv .1
 
--- src/lib.rt:183:1
 walk-same-length-2 : (t : ℕ) → walk-lts.Need-same-length-2 (
   anchored-reads.Asked,
   anchored-reads.Learnt,
@@ -882,7 +850,6 @@ walk-same-length-2 : (t : ℕ) → walk-lts.Need-same-length-2 (
 ) (walk-at t) walk.Post walk-Inv-loop walk-μ-loop
 walk-same-length-2 t c = c .before .loop .inv .2
 
--- src/lib.rt:183:1
 walk-same-length-3 : (t : ℕ) → walk-lts.Need-same-length-3 (
   anchored-reads.Asked,
   anchored-reads.Learnt,
@@ -901,7 +868,6 @@ walk-same-length-3 : (t : ℕ) → walk-lts.Need-same-length-3 (
 ) (walk-at t) walk.Post walk-Inv-loop walk-μ-loop
 walk-same-length-3 t c = c .before .loop .inv .3
 
--- src/lib.rt:183:1
 walk-returns : (t : ℕ) → walk-lts.Need-returns (
   anchored-reads.Asked,
   anchored-reads.Learnt,

@@ -1,3 +1,5 @@
+-- `checker::anchored` meets its contract.
+-- Assumes nothing.
 use mathlib.Core.Path.{_≡_, refl, sym, ap, _∙_}
 use denote.Ref.{now}
 use Rattle.attachment.specs.Attached.{startsOf}
@@ -12,34 +14,29 @@ use Rattle.attachment.proofs.attached_numbers.Reads as attached-numbers-reads
 use Rattle.cursor.proofs.past_node.Reads as past-node-reads
 use Rattle.tape.proofs.kind_at.Reads as kind-at-reads
 
--- src/lib.rt:94:9
 returns : tie.Need-returns
 returns c =
     let a = c .before .before .before .args in
     begun-nothing (now (a .source)) (now (a .tape)) (a .anchor) (a .from) (forest (now (a .source)) (now (a .tape)) (a .from) (a .to)) (c .if1 .taken)
 
--- src/lib.rt:96:48
 kind-at-requires : tie.Need-kind-at-requires
 kind-at-requires c κs =
     let p = c .before .before .before .pre in
     let a = c .before .before .before .args in
     begun-below (now (a .source)) (now (a .tape)) (a .depth) (a .anchor) (a .from) (a .to) (p .0) (p .1) (p .2) (p .3) (c .if1 .left)
 
--- src/lib.rt:96:77
 past-node-requires : tie.Need-past-node-requires
 past-node-requires c κs =
     let p = c .before .before .before .before .pre in
     let a = c .before .before .before .before .args in
     begun-below (now (a .source)) (now (a .tape)) (a .depth) (a .anchor) (a .from) (a .to) (p .0) (p .1) (p .2) (p .3) (c .before .if1 .left)
 
--- src/lib.rt:96:5
 attached-numbers-requires : tie.Need-attached-numbers-requires
 attached-numbers-requires c κs =
     let p = c .before .before .before .before .before .pre in
     let a = c .before .before .before .before .before .args in
     begun-run (now (a .source)) (now (a .tape)) (a .depth) (a .anchor) (a .from) (a .to) (p .0) (p .1) (p .2) (p .3) (c .before .before .if1 .left) (c .past-node .result) (c .past-node .ensures)
 
--- src/lib.rt:89:1
 returns-2 : tie.Need-returns-2
 returns-2 c =
     let p = c .before .before .before .before .before .before .pre in

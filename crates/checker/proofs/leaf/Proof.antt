@@ -1,3 +1,5 @@
+-- `checker::leaf` meets its contract.
+-- Assumes nothing.
 use denote.Ref.{now}
 use Rattle.checker.proofs.Steps.{is-chapter, is-verse, is-neither, leaf-new, leaf-old}
 use borrow.Author.Needs.{needs}
@@ -9,61 +11,48 @@ use Rattle.leaves.proofs.visit_leaf.Reads as visit-leaf-reads
 use Rattle.running.proofs.with_anchor.Reads as with-anchor-reads
 use Rattle.tape.proofs.kind_at.Reads as kind-at-reads
 
--- src/lib.rt:130:9
 visit-leaf-requires : tie.Need-visit-leaf-requires
 visit-leaf-requires c κs = search needs
 
--- src/lib.rt:131:9
 kind-at-requires : tie.Need-kind-at-requires
 kind-at-requires c κs = search needs
 
--- src/lib.rt:133:9
 with-anchor-requires : tie.Need-with-anchor-requires
 with-anchor-requires c κs = search needs
 
--- src/lib.rt:133:9
 same-length : tie.Need-same-length
 same-length c = search needs
 
--- src/lib.rt:133:9
 same-length-2 : tie.Need-same-length-2
 same-length-2 c = search needs
 
--- src/lib.rt:133:9
 returns : tie.Need-returns
 returns c =
     let a = c .before .before .before .before .before .before .before .before .before .before .before .before .before .before .before .before .args in
     let k = c .before .before .kind-at in
     leaf-new (c .before .before .before .before .before .before .before .visit-leaf .ensures) (c .with-anchor .result) (c .with-anchor .ensures) (is-chapter (now (a .tape)) (a .i) (k .result) (k .ensures) (c .before .if1 .taken))
 
--- src/lib.rt:136:9
 with-anchor-requires-2 : tie.Need-with-anchor-requires-2
 with-anchor-requires-2 c κs = search needs
 
--- src/lib.rt:136:9
 same-length-3 : tie.Need-same-length-3
 same-length-3 c = search needs
 
--- src/lib.rt:136:9
 same-length-4 : tie.Need-same-length-4
 same-length-4 c = search needs
 
--- src/lib.rt:136:9
 returns-2 : tie.Need-returns-2
 returns-2 c =
     let a = c .before .before .before .before .before .before .before .before .before .before .before .before .before .before .before .before .before .args in
     let k = c .before .before .before .kind-at in
     leaf-new (c .before .before .before .before .before .before .before .before .visit-leaf .ensures) (c .with-anchor2 .result) (c .with-anchor2 .ensures) (is-verse (now (a .tape)) (a .i) (k .result) (k .ensures) (c .before .before .if1 .left) (c .before .if2 .taken))
 
--- src/lib.rt:115:1
 same-length-5 : tie.Need-same-length-5
 same-length-5 c = search needs
 
--- src/lib.rt:115:1
 same-length-6 : tie.Need-same-length-6
 same-length-6 c = search needs
 
--- src/lib.rt:115:1
 returns-3 : tie.Need-returns-3
 returns-3 c =
     let a = c .before .before .before .before .before .before .before .before .before .before .before .before .before .before .before .before .args in

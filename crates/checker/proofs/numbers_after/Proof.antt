@@ -1,3 +1,5 @@
+-- `checker::numbers_after` meets its contract.
+-- Assumes nothing.
 use denote.Ref.{now}
 use Rattle.attachment.specs.Attached.{startsOf}
 use Rattle.checker.proofs.Steps.{is-chapter, is-verse, is-neither, new-numbers, same-numbers}
@@ -9,33 +11,27 @@ use Rattle.checker.proofs.numbers_after.Lts as lts
 use Rattle.attachment.proofs.attached_numbers.Reads as attached-numbers-reads
 use Rattle.tape.proofs.kind_at.Reads as kind-at-reads
 
--- src/lib.rt:104:9
 kind-at-requires : tie.Need-kind-at-requires
 kind-at-requires c κs = search needs
 
--- src/lib.rt:106:9
 attached-numbers-requires : tie.Need-attached-numbers-requires
 attached-numbers-requires c κs = search needs
 
--- src/lib.rt:106:9
 returns : tie.Need-returns
 returns c =
     let a = c .before .before .before .before .before .args in
     let k = c .before .before .kind-at in
     new-numbers (now (a .source)) (now (a .tape)) (a .i) (a .next) (a .to) (startsOf (a .numbers)) (k .result) (startsOf (c .attached-numbers .result)) (k .ensures) (is-chapter (now (a .tape)) (a .i) (k .result) (k .ensures) (c .before .if1 .taken)) (c .attached-numbers .ensures)
 
--- src/lib.rt:109:9
 attached-numbers-requires-2 : tie.Need-attached-numbers-requires-2
 attached-numbers-requires-2 c κs = search needs
 
--- src/lib.rt:109:9
 returns-2 : tie.Need-returns-2
 returns-2 c =
     let a = c .before .before .before .before .before .before .args in
     let k = c .before .before .before .kind-at in
     new-numbers (now (a .source)) (now (a .tape)) (a .i) (a .next) (a .to) (startsOf (a .numbers)) (k .result) (startsOf (c .attached-numbers2 .result)) (k .ensures) (is-verse (now (a .tape)) (a .i) (k .result) (k .ensures) (c .before .before .if1 .left) (c .before .if2 .taken)) (c .attached-numbers2 .ensures)
 
--- src/lib.rt:100:1
 returns-3 : tie.Need-returns-3
 returns-3 c =
     let a = c .before .before .before .before .before .args in

@@ -8,7 +8,7 @@ use mathlib.Core.List.{List}
 use lib.ListN.{drop}
 use Rattle.findings.specs.declared.Counts.{Counts}
 use Rattle.findings.proofs.Overlay.{Left, left-start}
-use Rattle.opens.proofs.Givens.{given-room, given-wrote, given-end}
+use Rattle.validate.proofs.Givens.{given-room, given-wrote, given-end}
 use Rattle.validate.specs.Checks.{Check, given}
 use Rattle.opens.proofs.Whole.{contentPart}
 use Rattle.opens.proofs.content_findings.Statement.{statement}

@@ -13,7 +13,7 @@ use Rattle.tape.specs.Nodes.{nodeAt}
 use Rattle.tape.specs.Forest.{forest}
 use Rattle.findings.specs.declared.Counts.{Counts}
 use Rattle.findings.proofs.Overlay.{Left, left-start}
-use Rattle.opens.proofs.Givens.{given-room, given-wrote, given-end}
+use Rattle.validate.proofs.Givens.{given-room, given-wrote, given-end}
 use Rattle.validate.specs.Checks.{Check, given, bookCode, isBook, upper, warning}
 use Rattle.running.specs.Running.{stateOf}
 use Rattle.opens.proofs.Whole.{idPart}

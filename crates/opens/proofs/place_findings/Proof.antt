@@ -12,7 +12,7 @@ use Rattle.tape.specs.Nodes.{nodeAt, startAt}
 use Rattle.tape.specs.Forest.{forest}
 use Rattle.findings.specs.declared.Counts.{Counts}
 use Rattle.findings.proofs.Overlay.{Left, left-start}
-use Rattle.opens.proofs.Givens.{given-room, given-wrote, given-end}
+use Rattle.validate.proofs.Givens.{given-room, given-wrote, given-end}
 use Rattle.table.specs.Bytes.{equal, oneOf}
 use Rattle.table.specs.Entries.{entryOfInfo}
 use Rattle.cursor.specs.Names.{nameOf}

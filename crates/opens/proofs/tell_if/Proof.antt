@@ -3,7 +3,7 @@
 use borrow.Author.Needs.{needs}
 use denote.Ref.{now}
 use Rattle.findings.specs.Finding.{findingOf}
-use Rattle.opens.proofs.Givens.{tell-room, tell-wrote, tell-none}
+use Rattle.validate.proofs.Givens.{tell-room, tell-wrote, tell-none}
 use Rattle.opens.proofs.Flags.{not-true, not-false}
 use Rattle.opens.proofs.tell_if.Statement.{statement}
 use Rattle.opens.proofs.tell_if.Tie as tie
