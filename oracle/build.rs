@@ -165,12 +165,14 @@ fn module_list(out: &Path) -> String {
 
 /// Where `rt staticlib` puts the library's functions.
 fn link_library() {
-    let file = Path::new("../target/staticlib/libcompared.a");
-    let found = fs::canonicalize(file)
-        .unwrap_or_else(|_| fail("run `rt staticlib compared` first".to_string()));
-    println!("cargo::rerun-if-changed={}", file.display());
-    let folder = found.parent().expect("a file stands in a folder");
-    println!("cargo::rustc-link-search=native={}", folder.display());
+    for name in ["compared", "exports"] {
+        let file = format!("../target/staticlib/lib{name}.a");
+        let found = fs::canonicalize(&file)
+            .unwrap_or_else(|_| fail(format!("run `rt staticlib {name}` first")));
+        println!("cargo::rerun-if-changed={file}");
+        let folder = found.parent().expect("a file stands in a folder");
+        println!("cargo::rustc-link-search=native={}", folder.display());
+    }
 }
 
 fn main() {

@@ -10,6 +10,7 @@ mod stubs;
 pub use stubs::{Document, Version};
 
 pub mod arguments;
+pub mod books;
 pub mod coverage;
 pub mod differ;
 pub mod document;
@@ -25,3 +26,6 @@ pub mod recorded;
 pub mod refusals;
 pub mod rng;
 pub mod samples;
+pub mod timed;
+#[cfg(feature = "library")]
+pub mod whole;

@@ -1,8 +1,29 @@
-//! The functions of the Rattle library, as the static library of the crate `compared` exports them. Each takes any slice.
+//! The functions of the Rattle library, as the static libraries of the crates `compared` and `exports` export them. Each
+//! takes any slice.
 
 use std::ffi::c_uchar;
 
 use crate::document::Document;
+
+#[link(name = "exports", kind = "static")]
+unsafe extern "C" {
+    fn harkoxin_check(
+        table: *const c_uchar,
+        table_len: usize,
+        source: *const c_uchar,
+        source_len: usize,
+        tape: *const c_uchar,
+        tape_len: usize,
+        seen: *mut u32,
+        seen_len: usize,
+        opens: *mut u64,
+        opens_len: usize,
+        list: *mut u64,
+        list_len: usize,
+        answer: *mut u64,
+        answer_len: usize,
+    );
+}
 
 #[link(name = "compared", kind = "static")]
 unsafe extern "C" {
@@ -467,4 +488,35 @@ pub fn attached_numbers(
 pub fn is_attached(source: &[u8], tape: &[u8], (parent, i): (usize, usize), at: u32) -> bool {
     let (s, t) = (source.as_ptr(), tape.as_ptr());
     unsafe { compared_is_attached(s, source.len(), t, tape.len(), parent, i, at) }
+}
+
+/// The lists that a caller lends to the check, and the one that its answer is laid over.
+pub struct Lent<'a> {
+    pub seen: &'a mut [u32],
+    pub opens: &'a mut [u64],
+    pub list: &'a mut [u64],
+    pub answer: &'a mut [u64],
+}
+
+/// The whole check of a document.
+pub fn check(document: &Document, lent: Lent<'_>) {
+    let (table, source, tape) = (&document.table, &document.source, &document.tape);
+    unsafe {
+        harkoxin_check(
+            table.as_ptr(),
+            table.len(),
+            source.as_ptr(),
+            source.len(),
+            tape.as_ptr(),
+            tape.len(),
+            lent.seen.as_mut_ptr(),
+            lent.seen.len(),
+            lent.opens.as_mut_ptr(),
+            lent.opens.len(),
+            lent.list.as_mut_ptr(),
+            lent.list.len(),
+            lent.answer.as_mut_ptr(),
+            lent.answer.len(),
+        );
+    }
 }

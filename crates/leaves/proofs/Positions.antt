@@ -17,6 +17,7 @@ use Rattle.numbers.specs.declared.PartRead.{PartRead}
 use Rattle.numbers.specs.declared.PartRead.the-variants as read
 use Rattle.numbers.proofs.Readable.{start-readable, end-readable}
 use Rattle.validate.specs.Checks.{breaks, nextBy}
+use Rattle.leaves.specs.Inner.{LowRead}
 
 pub short-label : (s : List ℕ) → length s ≤ 1 → false ≡ both (ltb 1 (length s)) (eqb (getD s 0 0) 0x30)
 short-label s h = rw (le-ltb 1 (length s) h) refl
@@ -34,14 +35,19 @@ after-low r p h e =
     let q : r .num ≡ verse.nextBy (p .number) (p .letter) .number = ap (λ (x : Position). x .number) e in
     rw q (next-low (p .number) (p .letter) (h .number-low))
 
+-- what is read breaks the sequence, as the code asks
+module _ (x : PartRead) (p : VersePart) (part-read : x ≡ read.Is p) where
+  pub low-of : LowRead x → p .num ≤ 4294967296
+  low-of h = rw part-read at h
+
+  pub breaks-by : (e : Position) (b : Bool) → b ≡ inSequence e (positionOf p) → not b ≡ breaks (readOf x) e
+  breaks-by e b h = rw part-read (ap not h)
+
 -- the start of a label, as the code reads it
 module _ (s : List ℕ) (x : PartRead) (is : readOf x ≡ versePart s) where
   module _ (none-read : x ≡ read.NotRead) where
     unread : versePart s ≡ none
     unread = sym is ∙ ap readOf none-read
-
-    pub breaks-not : (e : Position) → false ≡ breaks (versePart s) e
-    breaks-not e = rw unread refl
 
     pub stays : (v : VersePart) → v .num ≤ 4294967296 → (positionOf v ≡ nextBy (versePart s) s (positionOf v)) × (v .num ≤ 4294967296)
     stays v h = (rw unread refl, h)
@@ -53,11 +59,8 @@ module _ (s : List ℕ) (x : PartRead) (is : readOf x ≡ versePart s) where
     pub start-is : Readable (positionOf p)
     start-is = start-readable s (positionOf p) start
 
-    pub start-low : p .num ≤ 4294967296
+    start-low : p .num ≤ 4294967296
     start-low = let l = start-is .number-low in omega arith
-
-    pub breaks-by : (e : Position) (b : Bool) → b ≡ inSequence e (positionOf p) → not b ≡ breaks (versePart s) e
-    breaks-by e b h = rw start (ap not h)
 
     -- and its end
     module _ (y : PartRead) (end-is : readOf y ≡ verseEnd s) where
@@ -73,3 +76,7 @@ module _ (s : List ℕ) (x : PartRead) (is : readOf x ≡ versePart s) where
       next-of-start r e h g =
           let z : verseEnd s ≡ none = sym end-is ∙ ap readOf h in
           (rw start (rw z g), after-low r (positionOf p) start-is g)
+
+pub low-read : (s : List ℕ) (x : PartRead) → readOf x ≡ versePart s → LowRead x
+low-read s (read.Is p) is = start-low s (read.Is p) is p refl
+low-read s read.NotRead is = tt

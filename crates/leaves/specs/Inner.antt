@@ -1,14 +1,21 @@
 -- What the inner functions promise.
-use Prim.Native.Nat.{ℕ, _+_}
+use Prim.Native.Nat.{ℕ, _+_, _≤_}
 use mathlib.Core.Path.{_≡_}
 use mathlib.Core.List.{List}
 use mathlib.Core.Option.{Option}
 use Rattle.tape.specs.Nodes.{nodeAt}
 use Rattle.table.specs.Entries.{Entry}
+use Rattle.numbers.specs.declared.PartRead.{PartRead}
+use Rattle.numbers.specs.declared.PartRead.the-variants as read
 use Rattle.validate.specs.State as state
 use Rattle.validate.specs.Checks.{afterChapter, afterVerse}
 use Rattle.running.specs.Running.{stateOf, Sane}
 use Rattle.running.specs.declared.Record.{Record}
+
+-- a number that a verse position can have, if one is read
+abbrev pub LowRead : PartRead → Type 0
+LowRead (read.Is p) = p .num ≤ 4294967296
+LowRead read.NotRead = Unit {0}
 
 -- the record after the Chapter of node i, and the chapters seen; neither the source nor the open starts matter
 pub record PassedChapter (t : List ℕ) (i : ℕ) (seen : List ℕ) (r : Record) (seen′ : List ℕ) (q : Record) : Type 0 where

@@ -27,12 +27,13 @@ ghost use Rattle.tape.specs.Nodes.{count, nodeAt};
 ghost use Rattle.table.specs.Entries.{Indexed, infoOf};
 ghost use Rattle.cursor.specs.Inner.{Spanned};
 ghost use Rattle.findings.specs.Written.{Room, Wrote, only};
-ghost use Rattle.numbers.specs.Verse.{positionOf, suffixOf, versePart};
+ghost use Rattle.numbers.specs.Label.{labelOf};
+ghost use Rattle.numbers.specs.Verse.{positionOf, readOf, suffixOf, versePart, verseEnd};
 ghost use Rattle.attachment.specs.Attached.{among};
 ghost use Rattle.validate.specs.Checks;
 ghost use Rattle.validate.specs.Checks.{about, error, given, numberForm, chapterChecks, verseChecks, letterByte, nextBy, leafTold};
 ghost use Rattle.running.specs.Running.{latest, stateOf, aroundOf, countsOf, Sane};
-ghost use Rattle.leaves.specs.Inner.{PassedChapter, PassedVerse};
+ghost use Rattle.leaves.specs.Inner.{LowRead, PassedChapter, PassedVerse};
 ghost use Rattle.leaves.specs.Leaves.{LeafVisited};
 
 // Whether a number is among the first k words.
@@ -106,22 +107,22 @@ fn warn_if(
     findings::push_if(list, c, there, f)
 }
 
-// How the number of a chapter (form 0) or a verse (form 1) is written.
+// How the number of a chapter (form 0) or a verse (form 1) is written, by its label.
 fn number_form(
     form: u64,
     info: Info,
+    label: &[u8],
     source: &[u8],
     tape: &[u8],
     i: usize,
     list: &mut [u64],
     c: Counts,
 ) -> Counts
-    requires { ⌜ (Spanned (now source) (now tape) i) × Room c (given (numberForm form (infoOf info) (nodeAt (now source) (now tape) i))) ⌝ }
+    requires { ⌜ (Spanned (now source) (now tape) i) × (now label ≡ labelOf (infoOf info) (nodeAt (now source) (now tape) i .text)) × Room c (given (numberForm form (infoOf info) (nodeAt (now source) (now tape) i))) ⌝ }
     ensures { λ r. ⌜ Wrote (given (numberForm form (infoOf info) (nodeAt (now (source .entry)) (now (tape .entry)) i))) (now (list .entry)) c (now (list .exit)) r ⌝ }
 {
-    let text = cursor::text(source, tape, i);
-    let glued = numbers::is_glued(info, text);
-    let zeros = leading_zeros(numbers::number_label(info, text));
+    let glued = numbers::is_glued(info, cursor::text(source, tape, i));
+    let zeros = leading_zeros(label);
     let d = warn_if(tape, i, MISSING_SPACE_BEFORE_NUMBER, 0, 0, glued, list, c);
     error_if(tape, i, LEADING_ZEROS, form, zeros, list, d)
 }
@@ -150,15 +151,15 @@ fn chapter_findings(
     let d = error_if(tape, i, MISSING_CHAPTER_NUMBER, 0, bare, list, c);
     let e = warn_if(tape, i, DUPLICATE_CHAPTER, n, 0, twice, list, d);
     let g = warn_if(tape, i, INVALID_CHAPTER_SEQUENCE, next, n, leaps, list, e);
-    number_form(0, info, source, tape, i, list, g)
+    number_form(0, info, label, source, tape, i, list, g)
 }
 
-// Whether a label is read and breaks the sequence of verses.
-fn breaks(label: &[u8], v: VersePart) -> bool
-    requires { ⌜ v .num ≤ 4294967296 ⌝ }
-    ensures { λ r. ⌜ r ≡ Checks.breaks (versePart (now (label .entry))) (positionOf v) ⌝ }
+// Whether what is read of a label breaks the sequence of verses.
+fn breaks(read: PartRead, v: VersePart) -> bool
+    requires { ⌜ (v .num ≤ 4294967296) × LowRead read ⌝ }
+    ensures { λ r. ⌜ r ≡ Checks.breaks (readOf read) (positionOf v) ⌝ }
 {
-    match numbers::parse_verse_part(label) {
+    match read {
         PartRead::Is(p) => !numbers::is_valid_verse_sequence(v, p),
         PartRead::NotRead => false,
     }
@@ -175,9 +176,11 @@ fn letter_byte(v: VersePart) -> u64
     }
 }
 
-// The findings of a Verse.
+// The findings of a Verse, by its label and what is read of it.
 fn verse_findings(
     info: Info,
+    label: &[u8],
+    read: PartRead,
     source: &[u8],
     tape: &[u8],
     i: usize,
@@ -185,14 +188,13 @@ fn verse_findings(
     rec: Record,
     list: &mut [u64],
 ) -> Counts
-    requires { ⌜ (Spanned (now source) (now tape) i) × Sane rec × Room (countsOf rec) (given (verseChecks (infoOf info) (aroundOf around) (stateOf (now source) (now tape) [] [] rec) (nodeAt (now source) (now tape) i))) ⌝ }
+    requires { ⌜ (Spanned (now source) (now tape) i) × (now label ≡ labelOf (infoOf info) (nodeAt (now source) (now tape) i .text)) × (readOf read ≡ versePart (now label)) × Sane rec × Room (countsOf rec) (given (verseChecks (infoOf info) (aroundOf around) (stateOf (now source) (now tape) [] [] rec) (nodeAt (now source) (now tape) i))) ⌝ }
     ensures { λ r. ⌜ Wrote (given (verseChecks (infoOf info) (aroundOf around) (stateOf (now (source .entry)) (now (tape .entry)) [] [] rec) (nodeAt (now (source .entry)) (now (tape .entry)) i))) (now (list .entry)) (countsOf rec) (now (list .exit)) r ⌝ }
 {
-    let label = numbers::number_label(info, cursor::text(source, tape, i));
     let bare = label.len() == 0;
     let v = rec.verse;
     let n = v.num;
-    let amiss = breaks(label, v);
+    let amiss = breaks(read, v);
     let letter = letter_byte(v);
     let outside = neither(around.body, rec.outside_warned);
     let crosses = around.char;
@@ -201,7 +203,7 @@ fn verse_findings(
     let e = error_if(tape, i, CHAR_CROSSES_VERSE_BOUNDARY, 0, crosses, list, d);
     let g = error_if(tape, i, MISSING_VERSE_NUMBER, 0, bare, list, e);
     let h = warn_if(tape, i, INVALID_VERSE_SEQUENCE, n, letter, amiss, list, g);
-    number_form(1, info, source, tape, i, list, h)
+    number_form(1, info, label, source, tape, i, list, h)
 }
 
 // The record after a Chapter, which is among those seen from now on.
@@ -233,35 +235,47 @@ fn after_chapter(tape: &[u8], i: usize, rec: Record, seen: &mut [u32]) -> Record
     }
 }
 
-// The position expected after a label. One that isn't read leaves it.
-fn verse_after(label: &[u8], v: VersePart) -> VersePart
-    requires { ⌜ v .num ≤ 4294967296 ⌝ }
+// What is read of a label's end, by what is read of its start, which is the end of a label without a hyphen.
+fn end_read(label: &[u8], start: PartRead) -> PartRead
+    requires { ⌜ readOf start ≡ versePart (now label) ⌝ }
+    ensures { λ r. ⌜ readOf r ≡ verseEnd (now (label .entry)) ⌝ }
+{
+    if text::find_byte(label, b'-') < label.len() {
+        return numbers::parse_verse_range_end(label);
+    }
+    start
+}
+
+// The position expected after a label, by what is read of its start. One that isn't read leaves it.
+fn verse_after(label: &[u8], read: PartRead, v: VersePart) -> VersePart
+    requires { ⌜ (v .num ≤ 4294967296) × (readOf read ≡ versePart (now label)) ⌝ }
     ensures { λ r. ⌜ (positionOf r ≡ nextBy (versePart (now (label .entry))) (now (label .entry)) (positionOf v)) × (r .num ≤ 4294967296) ⌝ }
 {
-    match numbers::parse_verse_part(label) {
+    match read {
         PartRead::NotRead => v,
-        PartRead::Is(start) => match numbers::parse_verse_range_end(label) {
+        PartRead::Is(start) => match end_read(label, read) {
             PartRead::Is(end) => numbers::next_expected(end),
             PartRead::NotRead => numbers::next_expected(start),
         },
     }
 }
 
-// The record after a Verse.
+// The record after a Verse, by its label and what is read of it.
 fn after_verse(
     info: Info,
+    label: &[u8],
+    read: PartRead,
     source: &[u8],
     tape: &[u8],
     i: usize,
     around: Around,
     rec: Record,
 ) -> Record
-    requires { ⌜ (Spanned (now source) (now tape) i) × Sane rec × (rec .verses < 4611686018427387904) ⌝ }
+    requires { ⌜ (now label ≡ labelOf (infoOf info) (nodeAt (now source) (now tape) i .text)) × (readOf read ≡ versePart (now label)) × Sane rec × (rec .verses < 4611686018427387904) ⌝ }
     ensures { λ r. ⌜ PassedVerse (infoOf info) (now (source .entry)) (now (tape .entry)) (aroundOf around) i rec r ⌝ }
 {
-    let label = numbers::number_label(info, cursor::text(source, tape, i));
     let v = rec.verse;
-    let next = verse_after(label, v);
+    let next = verse_after(label, read, v);
     let warned = or_not(rec.outside_warned, around.body);
     Record {
         has_id: rec.has_id,
@@ -306,8 +320,10 @@ pub fn visit_leaf(
     }
     if kind == 4 {
         let info = cursor::marker_info(table, words, count, tape, i);
-        let c = verse_findings(info, source, tape, i, around, rec, list);
-        let q = after_verse(info, source, tape, i, around, rec);
+        let label = numbers::number_label(info, cursor::text(source, tape, i));
+        let read = numbers::parse_verse_part(label);
+        let c = verse_findings(info, label, read, source, tape, i, around, rec, list);
+        let q = after_verse(info, label, read, source, tape, i, around, rec);
         return running::with_counts(q, c);
     }
     rec

@@ -1,22 +1,22 @@
--- Demand 3 for the lists that the check writes, where they are long enough; and which number is given.
+-- Demand 3 for the lists that the check writes; and which number is given.
 -- Assumes nothing.
 use Prim.Native.Nat.{ℕ, zero, suc, _+_, _-_, _*_, _<_, _≤_}
 use native.Mathlib.Omega.{arith}
-use native.Mathlib.Nat.{zero-add}
+use native.Mathlib.Nat.{zero-add, sub-zero}
 use mathlib.Core.Path.{_≡_, refl, sym, ap, _∙_}
 use mathlib.Core.Bool.{Bool, true, false}
 use mathlib.Core.List.{List, [], _∷_, _++_, append-assoc}
 use mathlib.Core.Logic.{_↔_, _⊎_, inl, inr}
 use mathlib.Core.Option.{Option, some, none}
-use lib.ListN.{length, take, drop, length-append}
-use lib.Seq.{take-at}
+use lib.ListN.{length, take, drop, length-append, take-append-drop}
+use lib.Seq.{take-at, take-append-add, length-take-le}
 use Rattle.tape.specs.Reading.{Refusal, orElse}
 use Rattle.tape.specs.Forest.{top}
 use Rattle.tape.specs.Alike.{BeginAlike}
 use Rattle.tape.proofs.OneNumber.{which}
 use Rattle.findings.specs.Finding.{Finding, wordsOf}
-use Rattle.findings.specs.Written.{overlay, encode}
-use Rattle.findings.proofs.Overlay.{overlay-is}
+use Rattle.findings.specs.Written.{room, overlay, encode}
+use Rattle.findings.proofs.Overlay.{overlay-is, overlay-cut}
 use Rattle.validate.specs.Document.{running, closing, walked}
 use Rattle.validate.specs.Outcome.{Lent, of1, of2, of3, ofTape, of9, of10, refusal, listOf, listAfter}
 use Rattle.validate.proofs.Demand3.{longer-keeps-findings}
@@ -31,30 +31,43 @@ unfolding encode
 encode-length [] = refl
 encode-length (f ∷ fs) = let h = encode-length fs in omega (arith, length-append (wordsOf f) (encode fs))
 
--- a checked document's list, long enough: the words of its findings, and then what was there
-pub written-words : (l : Lent) → refusal l ≡ none → 8 * length (listOf l) ≤ length (l .list) → listAfter l ≡ encode (listOf l) ++ drop (8 * length (listOf l)) (l .list)
-written-words l e h =
-    let k : 8 * (0 + length (listOf l)) ≤ length (l .list) = omega arith in
-    rw e (overlay-is (l .list) 0 (listOf l) k ∙ rw (zero-add (length (listOf l))))
+few : (n : ℕ) (fs : List Finding) → length (take n fs) ≤ n
+few zero fs = omega arith
+few (suc n) [] = omega arith
+few (suc n) (f ∷ fs) = let h = few n fs in omega arith
 
--- the words of the findings that a list begins with
-begun-words : (l : Lent) (fs gs : List Finding) → refusal l ≡ none → 8 * length (listOf l) ≤ length (l .list) → listOf l ≡ fs ++ gs → take (8 * length fs) (listAfter l) ≡ encode fs
-begun-words l fs gs e h is =
-    rw (written-words l e h, is, encode-append fs gs, append-assoc (encode fs) (encode gs) (drop (8 * length (fs ++ gs)) (l .list)))
-    (take-at (encode fs) (encode gs ++ drop (8 * length (fs ++ gs)) (l .list)) (8 * length fs) (encode-length fs))
+-- a checked document's list: the words of the findings that fit, and then what was there
+pub written-words : (l : Lent) → refusal l ≡ none → listAfter l ≡ encode (take (room (l .list)) (listOf l)) ++ drop (8 * length (take (room (l .list)) (listOf l))) (l .list)
+written-words l e =
+    let fit = take (room (l .list)) (listOf l) in
+    let h : 8 * (0 + length fit) ≤ length (l .list) = omega (arith, few (room (l .list)) (listOf l)) in
+    rw e (overlay-cut (l .list) 0 (listOf l) ∙ ap (λ (n : ℕ). overlay (l .list) 0 (take n (listOf l))) (sub-zero (room (l .list))) ∙ overlay-is (l .list) 0 fit h ∙ rw (zero-add (length fit)))
 
--- demand 3: the words of the shorter's findings, closing findings aside, begin both lists
-module _ (l l′ : Lent) (same-table : l .table ≡ l′ .table) (short : refusal l ≡ none) (long : refusal l′ ≡ none) (alike : BeginAlike (l .source) (l .tape) (l′ .source) (l′ .tape)) (room : 8 * length (listOf l) ≤ length (l .list)) (room′ : 8 * length (listOf l′) ≤ length (l′ .list)) where
+-- the words of the first k findings, if they fit
+first-words : (l : Lent) (k : ℕ) (a b : List Finding) → refusal l ≡ none → listOf l ≡ a ++ b → length a ≡ k → k ≤ room (l .list) → take (8 * k) (listAfter l) ≡ encode a
+first-words l k a b e is n h =
+    let r = room (l .list) - k in
+    let q : room (l .list) ≡ length a + r = omega (arith, n) in
+    let fit : take (room (l .list)) (listOf l) ≡ a ++ take r b = ap (λ (m : ℕ). take m (listOf l)) q ∙ ap (take (length a + r)) is ∙ take-append-add a b r in
+    let z = drop (8 * length (take (room (l .list)) (listOf l))) (l .list) in
+    rw (written-words l e)
+    (ap (λ (fs : List Finding). take (8 * k) (encode fs ++ z)) fit
+    ∙ rw (encode-append a (take r b), append-assoc (encode a) (encode (take r b)) z) (take-at (encode a) (encode (take r b) ++ z) (8 * k) (encode-length a ∙ ap (8 *_) n)))
+
+-- demand 3: the words of the shorter's findings, closing findings aside, begin both lists, as far as both have room
+module _ (l l′ : Lent) (same-table : l .table ≡ l′ .table) (short : refusal l ≡ none) (long : refusal l′ ≡ none) (alike : BeginAlike (l .source) (l .tape) (l′ .source) (l′ .tape)) where
   abbrev kept : List Finding
   kept = running (l .table) (top (l .source) (l .tape))
 
-  pub longer-keeps-words : take (8 * length kept) (listAfter l′) ≡ take (8 * length kept) (listAfter l)
-  longer-keeps-words =
+  pub longer-keeps-words : (k : ℕ) → k ≤ length kept → k ≤ room (l .list) → k ≤ room (l′ .list) → take (8 * k) (listAfter l′) ≡ take (8 * k) (listAfter l)
+  longer-keeps-words k h g g′ =
       let b = longer-keeps-findings l l′ same-table short long alike in
-      let f′ = top (l′ .source) (l′ .tape) in
-      let c′ = closing (walked (l′ .table) f′ .state) in
-      begun-words l′ kept (b .more ++ c′) long room′ (ap (_++ c′) (b .is) ∙ append-assoc kept (b .more) c′)
-      ∙ sym (begun-words l kept (closing (walked (l .table) (top (l .source) (l .tape)) .state)) short room refl)
+      let c = closing (walked (l .table) (top (l .source) (l .tape)) .state) in
+      let c′ = closing (walked (l′ .table) (top (l′ .source) (l′ .tape)) .state) in
+      let n = length-take-le k kept h in
+      let cut : (more : List Finding) → kept ++ more ≡ take k kept ++ (drop k kept ++ more) = λ more. ap (_++ more) (sym (take-append-drop k kept)) ∙ append-assoc (take k kept) (drop k kept) more in
+      first-words l′ k (take k kept) (drop k kept ++ (b .more ++ c′)) long (ap (_++ c′) (b .is) ∙ append-assoc kept (b .more) c′ ∙ cut (b .more ++ c′)) n g′
+      ∙ sym (first-words l k (take k kept) (drop k kept ++ c) short (cut c) n g)
 
 -- which of the numbers is given: the first whose own part gives it, no earlier one being given
 pub data Given (l : Lent) (r : Refusal) : Type 0 where

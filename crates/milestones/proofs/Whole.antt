@@ -6,6 +6,7 @@ use mathlib.Core.Path.{_≡_, refl, sym, ap, _∙_}
 use mathlib.Core.Bool.{Bool, true, false, not}
 use mathlib.Core.List.{List, [], _∷_, append-nil}
 use borrow.Author.Tests.{not-true, not-false}
+use lib.Dec.{eqb}
 use lib.ListN.{length}
 use Rattle.text.specs.Pick.{both, cut}
 use Rattle.tape.specs.Nodes.{Node, nodeAt, span}
@@ -38,6 +39,10 @@ module _ (b b′ : Bool) (f f′ : Finding) (b-is : b′ ≡ b) (f-is : f′ ≡
 
   pub one-wrote : (c c′ : Counts) (l l′ : List ℕ) (d : Counts) → c′ ≡ c → Wrote (only b′ f′) l c′ l′ d → Wrote (given (when b f ∷ [])) l c l′ d
   one-wrote c c′ l l′ d e w = rw one (rw e at w)
+
+-- a marker of another category is no milestone, whatever its name
+pub other-category : (e : Entry) (name : List ℕ) (b : Bool) → b ≡ eqb (e .category) 6 → b ≡ false → false ≡ named e name
+other-category e name b is h = let q : eqb (e .category) 6 ≡ false = sym is ∙ h in rw q
 
 -- a node by its name and its entry
 module _ (e : Entry) (s t : List ℕ) (i : ℕ) (name : List ℕ) (is : name ≡ nameOf (cut (span t i) s)) (y : Bool) (y-is : y ≡ named e name) where

@@ -140,8 +140,15 @@ fn with_open(r: Record, n: usize) -> Record
     }
 }
 
-// An end that none of the first k open starts waits for.
-fn is_alone(m: MarkerInfo, source: &[u8], tape: &[u8], i: usize, opens: &[u64], k: usize) -> bool
+// Whether a milestone, by its name, is an end that none of the first k open starts waits for.
+fn is_alone_named(
+    m: MarkerInfo,
+    source: &[u8],
+    tape: &[u8],
+    i: usize,
+    opens: &[u64],
+    k: usize,
+) -> bool
     requires { ⌜ (Spanned (now source) (now tape) i) × Opens (now source) (now tape) (now opens) k ⌝ }
     ensures { λ r. ⌜ r ≡ both (isMilestone (entryOfInfo m) (nodeAt (now (source .entry)) (now (tape .entry)) i)) (both (not (isStart (nodeAt (now (source .entry)) (now (tape .entry)) i))) (not (waits (nodeAt (now (source .entry)) (now (tape .entry)) i) (starts (now (source .entry)) (now (tape .entry)) (now (opens .entry)) k)))) ⌝ }
 {
@@ -156,6 +163,17 @@ fn is_alone(m: MarkerInfo, source: &[u8], tape: &[u8], i: usize, opens: &[u64], 
         Found::At(_) => false,
         Found::Nothing => true,
     }
+}
+
+// The same of any marker. Most are no milestones, and their names aren't read.
+fn is_alone(m: MarkerInfo, source: &[u8], tape: &[u8], i: usize, opens: &[u64], k: usize) -> bool
+    requires { ⌜ (Spanned (now source) (now tape) i) × Opens (now source) (now tape) (now opens) k ⌝ }
+    ensures { λ r. ⌜ r ≡ both (isMilestone (entryOfInfo m) (nodeAt (now (source .entry)) (now (tape .entry)) i)) (both (not (isStart (nodeAt (now (source .entry)) (now (tape .entry)) i))) (not (waits (nodeAt (now (source .entry)) (now (tape .entry)) i) (starts (now (source .entry)) (now (tape .entry)) (now (opens .entry)) k)))) ⌝ }
+{
+    if running::is_of(m, 6) {
+        return is_alone_named(m, source, tape, i, opens, k);
+    }
+    false
 }
 
 // An end that no open start waits for.
@@ -184,8 +202,8 @@ pub fn milestone_findings(
     findings::push_if(list, running::counts(rec), alone, f)
 }
 
-// A start is one more open start; an end takes the latest of its base.
-pub fn after_milestone(
+// The step of a milestone, by its name: a start is one more open start; an end takes the latest of its base.
+fn after_named(
     m: MarkerInfo,
     source: &[u8],
     tape: &[u8],
@@ -213,4 +231,22 @@ pub fn after_milestone(
         }
         Found::Nothing => rec,
     }
+}
+
+// The same of any marker. Most are no milestones, and their names aren't read.
+pub fn after_milestone(
+    m: MarkerInfo,
+    source: &[u8],
+    tape: &[u8],
+    i: usize,
+    opens: &mut [u64],
+    rec: Record,
+) -> Record
+    requires { ⌜ (Spanned (now source) (now tape) i) × (Opens (now source) (now tape) (now opens) (rec .«open»)) × (2 * (rec .«open» + 1) ≤ length (now opens)) ⌝ }
+    ensures { λ r. ⌜ Stepped (entryOfInfo m) (now (source .entry)) (now (tape .entry)) i (now (opens .entry)) rec (now (opens .exit)) r ⌝ }
+{
+    if running::is_of(m, 6) {
+        return after_named(m, source, tape, i, opens, rec);
+    }
+    rec
 }

@@ -291,6 +291,22 @@ pub fn decode_at(s: &[u8], at: usize) -> Decoded
     decode_wide(s, at)
 }
 
+// The same at a byte of the text. It calls `decode_wide` itself, which two callers keep out of line: this function stays small
+// enough to become part of a loop.
+fn decode_in(s: &[u8], at: usize) -> Decoded
+    requires { ⌜ at < length (now s) ⌝ }
+    ensures { λ r. ⌜ r ≡ decode (drop at (now (s .entry))) ⌝ }
+{
+    let b = s[at];
+    if b < 0x80 {
+        return Decoded {
+            cp: b as u32,
+            width: 1,
+        };
+    }
+    decode_wide(s, at)
+}
+
 // Whether a place of well-formed text lies between two characters, or at either end.
 pub fn is_char_boundary(s: &[u8], at: usize) -> bool
     ensures { λ r. ⌜ r ≡ starts (now (s .entry)) at ⌝ }
@@ -305,8 +321,8 @@ pub fn is_char_boundary(s: &[u8], at: usize) -> bool
     if b < 0x80 { true } else { 0xBF < b }
 }
 
-// The property White_Space.
-pub fn is_blank(cp: u32) -> bool
+// Whether a code point is one of the property's, by its ranges.
+fn is_listed(cp: u32) -> bool
     ensures { λ r. ⌜ r ≡ blank cp ⌝ }
 {
     match cp {
@@ -314,6 +330,22 @@ pub fn is_blank(cp: u32) -> bool
         0x20 | 0x85 | 0xA0 | 0x1680 | 0x2028 | 0x2029 | 0x202F | 0x205F | 0x3000 => true,
         _ => false,
     }
+}
+
+// The property White_Space; below 85 few tests do.
+pub fn is_blank(cp: u32) -> bool
+    ensures { λ r. ⌜ r ≡ blank cp ⌝ }
+{
+    if 0x84 < cp {
+        return is_listed(cp);
+    }
+    if cp == 0x20 {
+        return true;
+    }
+    if cp < 0x09 {
+        return false;
+    }
+    if cp <= 0x0D { true } else { false }
 }
 
 fn agree(a: bool, b: bool) -> bool
@@ -329,7 +361,7 @@ pub fn find_from(s: &[u8], from: usize, t: bool) -> usize
 {
     let mut i = from;
     while i < s.len() {
-        let d = decode_at(s, i);
+        let d = decode_in(s, i);
         if agree(t, is_blank(d.cp)) {
             return i;
         }
@@ -380,7 +412,7 @@ fn kept_forward(s: &[u8]) -> usize
     let mut end: usize = 0;
     let mut i: usize = 0;
     while i < s.len() {
-        let d = decode_at(s, i);
+        let d = decode_in(s, i);
         i += d.width;
         if !is_blank(d.cp) {
             end = i;

@@ -14,7 +14,7 @@ use Rattle.validate.specs.State.{State}
 use Rattle.validate.specs.Checks.{Check, given, about, isEmpty, numberForm, chapterChecks}
 use Rattle.running.specs.Running.{stateOf, countsOf}
 use Rattle.leaves.proofs.Givens.{Due, due-start, due-room, due-wrote, due-rest, due-all}
-use Rattle.leaves.proofs.Told.{bareChapter, twice, leaps, is-bare, is-twice, says-twice, is-leap, says-leap}
+use Rattle.leaves.proofs.Told.{bareChapter, twice, leaps, is-bare, is-twice, says-twice, is-leap, says-leap, the-label}
 use borrow.Author.Needs.{needs}
 use Rattle.leaves.proofs.chapter_findings.Statement.{statement}
 use Rattle.leaves.proofs.chapter_findings.Tie as tie
@@ -122,7 +122,11 @@ warn-if-requires-2 c κs =
 number-form-requires : tie.Need-number-form-requires
 number-form-requires c κs =
     let t = c .before .before .before in
-    (root (counted3 t) .pre .0, due-rest (due-form t))
+    let k = counted3 t in
+    let s = root k in
+    let l = k .before .before .before .number-label in
+    let x = k .before .before .before .before .text in
+    (s .pre .0, the-label (entry s) (node s) (now (x .result)) (x .ensures) (now (l .result)) (l .ensures), due-rest (due-form t))
 
 same-length : tie.Need-same-length
 same-length c = search needs

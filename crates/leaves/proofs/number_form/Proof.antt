@@ -16,10 +16,10 @@ use Rattle.leaves.proofs.number_form.Statement.{statement}
 use Rattle.leaves.proofs.number_form.Tie as tie
 
 abbrev root-glued : tie.After-is-glued → tie.Start
-root-glued c = c .before .before .before .before .before
+root-glued c = c .before .before .before .before .before .before
 
 abbrev root-zeros : tie.After-leading-zeros → tie.Start
-root-zeros c = root-glued (c .before .before)
+root-zeros c = root-glued (c .before)
 
 abbrev entry : tie.Start → Option Entry
 entry c = infoOf (c .args .info)
@@ -40,16 +40,14 @@ glued c =
 leading : (c : tie.After-leading-zeros) → c .leading-zeros .result ≡ zeros (root-zeros c .args .form) (entry (root-zeros c)) (node (root-zeros c)) .holds
 leading c =
     let s = root-zeros c in
-    let t = c .before .before .before .text in
-    let l = c .before .number-label in
-    is-led (entry s) (node s) (now (t .result)) (t .ensures) (now (l .result)) (l .ensures) (c .leading-zeros .result) (c .leading-zeros .ensures)
+    is-led (entry s) (node s) (node s .text) refl (now (s .args .label)) (s .pre .1) (c .leading-zeros .result) (c .leading-zeros .ensures)
 
 due-two : (c : tie.Start) → Rest c (numberForm (c .args .form) (entry c) (node c)) (now (c .args .list)) (c .args .c)
-due-two c = let a = c .args in due-start (numberForm (a .form) (entry c) (node c)) (now (a .list)) (a .c) (a .c) refl (c .pre .1)
+due-two c = let a = c .args in due-start (numberForm (a .form) (entry c) (node c)) (now (a .list)) (a .c) (a .c) refl (c .pre .2)
 
 due-one : (c : tie.After-warn-if) → Rest (root-zeros (c .before .before)) (zeros (root-zeros (c .before .before) .args .form) (entry (root-zeros (c .before .before))) (node (root-zeros (c .before .before))) ∷ []) (c .warn-if .last .1 .1 .1 .1 .1 .1 .0) (c .warn-if .result)
 due-one c =
-    let g = c .before .before .before .before in
+    let g = c .before .before .before in
     let s = root-glued g in
     due-wrote (spaced (entry s) (node s)) (zeros (s .args .form) (entry s) (node s) ∷ []) (g .is-glued .result) (spaced (entry s) (node s) .finding) (glued g) refl (due-two s) (c .warn-if .ensures)
 
@@ -59,16 +57,13 @@ text-requires c κs = search needs
 is-glued-requires : tie.Need-is-glued-requires
 is-glued-requires c κs = search needs
 
-number-label-requires : tie.Need-number-label-requires
-number-label-requires c κs = search needs
-
 leading-zeros-requires : tie.Need-leading-zeros-requires
 leading-zeros-requires c κs = search needs
 
 warn-if-requires : tie.Need-warn-if-requires
 warn-if-requires c κs =
     let s = root-zeros (c .before) in
-    (s .pre .0 .inside, due-room (spaced (entry s) (node s)) (zeros (s .args .form) (entry s) (node s) ∷ []) (c .before .before .before .is-glued .result) (spaced (entry s) (node s) .finding) (glued (c .before .before .before)) refl (due-two s))
+    (s .pre .0 .inside, due-room (spaced (entry s) (node s)) (zeros (s .args .form) (entry s) (node s) ∷ []) (c .before .before .is-glued .result) (spaced (entry s) (node s) .finding) (glued (c .before .before)) refl (due-two s))
 
 error-if-requires : tie.Need-error-if-requires
 error-if-requires c κs =
@@ -91,7 +86,6 @@ number-form-spec =
     (tie.spec
     text-requires
     is-glued-requires
-    number-label-requires
     leading-zeros-requires
     warn-if-requires
     error-if-requires

@@ -3,7 +3,7 @@
 use mathlib.Core.Bool.{Bool}
 use denote.Ref.{now}
 use Prim.Native.Nat.{ℕ}
-use mathlib.Core.Path.{_≡_, refl, _∙_}
+use mathlib.Core.Path.{_≡_, refl, ap, _∙_}
 use mathlib.Core.List.{List, [], _∷_}
 use mathlib.Core.Option.{Option}
 use Rattle.tape.specs.Nodes.{Node, nodeAt}
@@ -11,16 +11,18 @@ use Rattle.table.specs.Entries.{Entry, infoOf}
 use Rattle.findings.specs.Finding.{Finding}
 use Rattle.findings.specs.declared.Counts.{Counts}
 use Rattle.validate.specs.State.{State, Around}
-use Rattle.validate.specs.Checks.{Check, given, about, isEmpty, numberForm, verseChecks}
+use Rattle.numbers.specs.Verse.{Position}
+use Rattle.validate.specs.Checks.{Check, given, about, isEmpty, breaks, numberForm, verseChecks}
 use Rattle.running.specs.Running.{stateOf, countsOf, aroundOf}
 use Rattle.leaves.proofs.Givens.{Due, due-start, due-room, due-wrote, due-rest, due-all}
+use Rattle.leaves.proofs.Positions.{low-read}
 use Rattle.leaves.proofs.Told.{stray, crossing, bareVerse, amiss, is-bare, is-amiss, says-amiss}
 use borrow.Author.Needs.{needs}
 use Rattle.leaves.proofs.verse_findings.Statement.{statement}
 use Rattle.leaves.proofs.verse_findings.Tie as tie
 
 abbrev root : tie.After-counts → tie.Start
-root c = c .before .before .before .before .before .before .before .before .before .before
+root c = c .before .before .before .before .before .before .before .before .before
 
 abbrev counted2 : tie.After-error-if → tie.After-counts
 counted2 c = c .before .before .before .before .before .before
@@ -58,22 +60,18 @@ abbrev Rest : tie.Start → List Check → List ℕ → Counts → Type 0
 Rest c = let a = c .args in Due (given (verseChecks (entry c) (around c) (state c) (node c))) (now (a .list)) (countsOf (a .rec))
 
 abbrev empty : tie.After-counts → Bool
-empty c = isEmpty (now (c .before .before .before .before .before .number-label .result))
+empty c = isEmpty (now (root c .args .label))
 
 bare : (c : tie.After-counts) → empty c ≡ bareVerse (entry (root c)) (node (root c)) .holds
 bare c =
     let s = root c in
-    let l = c .before .before .before .before .before .number-label in
-    let t = c .before .before .before .before .before .before .text in
-    is-bare (entry s) (node s) (now (t .result)) (t .ensures) (now (l .result)) (l .ensures)
+    is-bare (entry s) (node s) (node s .text) refl (now (s .args .label)) (s .pre .1)
 
 broken : (c : tie.After-counts) → c .before .before .before .breaks .result ≡ amiss (entry (root c)) (state (root c)) (node (root c)) .holds
 broken c =
     let s = root c in
     let b = c .before .before .before .breaks in
-    let l = c .before .before .before .before .before .number-label in
-    let t = c .before .before .before .before .before .before .text in
-    is-amiss (entry s) (node s) (now (t .result)) (t .ensures) (now (l .result)) (l .ensures) (state s) (b .result) (b .ensures)
+    is-amiss (entry s) (node s) (node s .text) refl (now (s .args .label)) (s .pre .1) (state s) (b .result) (b .ensures ∙ ap (λ (p : Option Position). breaks p (state s .verse)) (s .pre .2))
 
 abbrev wrong : tie.After-counts → Finding
 wrong c = about (node (root c)) 1 11 0 (state (root c) .verse .number) (c .before .before .letter-byte .result)
@@ -84,7 +82,7 @@ says c = says-amiss (entry (root c)) (state (root c)) (node (root c)) (c .before
 due-stray : (c : tie.After-counts) → Rest (root c) (stray (around (root c)) (state (root c)) (node (root c)) ∷ three (root c)) (now (root c .args .list)) (c .counts .result)
 due-stray c =
     let s = root c in
-    due-start (verseChecks (entry s) (around s) (state s) (node s)) (now (s .args .list)) (countsOf (s .args .rec)) (c .counts .result) (c .counts .ensures) (s .pre .2)
+    due-start (verseChecks (entry s) (around s) (state s) (node s)) (now (s .args .list)) (countsOf (s .args .rec)) (c .counts .result) (c .counts .ensures) (s .pre .4)
 
 due-crossing : (c : tie.After-warn-if) → Rest (root (c .before .before)) (three (root (c .before .before))) (c .warn-if .last .1 .1 .1 .1 .1 .1 .0) (c .warn-if .result)
 due-crossing c =
@@ -109,14 +107,10 @@ due-form c =
     let s = root k in
     due-wrote (amiss (entry s) (state s) (node s)) (numberForm 1 (entry s) (node s)) (k .before .before .before .breaks .result) (wrong k) (broken k) (says k) (due-amiss (c .before .before .before .before)) (c .warn-if2 .ensures)
 
-text-requires : tie.Need-text-requires
-text-requires c κs = search needs
-
-number-label-requires : tie.Need-number-label-requires
-number-label-requires c κs = search needs
-
 breaks-requires : tie.Need-breaks-requires
-breaks-requires c κs = search needs
+breaks-requires c κs =
+    let s = c .before .before .before .before .before in
+    (s .pre .3, low-read (now (s .args .label)) (s .args .read) (s .pre .2))
 
 letter-byte-requires : tie.Need-letter-byte-requires
 letter-byte-requires c κs = search needs
@@ -156,7 +150,8 @@ warn-if-requires-2 c κs =
 number-form-requires : tie.Need-number-form-requires
 number-form-requires c κs =
     let t = c .before .before .before in
-    (root (counted4 t) .pre .0, due-rest (due-form t))
+    let s = root (counted4 t) in
+    (s .pre .0, s .pre .1, due-rest (due-form t))
 
 same-length : tie.Need-same-length
 same-length c =
@@ -165,7 +160,7 @@ same-length c =
     let t3 = t4 .before .before .before .before in
     let t2 = t3 .before .before .before .before in
     let t1 = t2 .before .before .before .before in
-    f .number-form .kept .1 .1 .1 .1 .1 .0 ∙ t4 .warn-if2 .kept .1 .1 .1 .1 .1 .1 .0 ∙ t3 .error-if2 .kept .1 .1 .1 .1 .1 .0 ∙ t2 .error-if .kept .1 .1 .1 .1 .1 .0 ∙ t1 .warn-if .kept .1 .1 .1 .1 .1 .1 .0
+    f .number-form .kept .1 .1 .1 .1 .1 .1 .0 ∙ t4 .warn-if2 .kept .1 .1 .1 .1 .1 .1 .0 ∙ t3 .error-if2 .kept .1 .1 .1 .1 .1 .0 ∙ t2 .error-if .kept .1 .1 .1 .1 .1 .0 ∙ t1 .warn-if .kept .1 .1 .1 .1 .1 .1 .0
 
 returns : tie.Need-returns
 returns c = due-all (due-form (c .before .before .before .before .before .before)) (c .before .before .number-form .ensures)
@@ -174,8 +169,6 @@ pub verse-findings-spec : {M : Type 1} → statement M
 verse-findings-spec =
     tie.close
     (tie.spec
-    text-requires
-    number-label-requires
     breaks-requires
     letter-byte-requires
     neither-requires

@@ -2,10 +2,13 @@
 -- Assumes nothing.
 use denote.Ref.{now}
 use native.Mathlib.Omega.{arith}
+use mathlib.Core.Path.{_≡_}
 use mathlib.Core.List.{[]}
+use Rattle.tape.specs.Nodes.{Node, nodeAt}
 use Rattle.table.specs.Entries.{infoOf}
 use Rattle.validate.specs.State.{State}
 use Rattle.running.specs.Running.{stateOf, aroundOf, countsOf}
+use Rattle.leaves.proofs.Told.{label, the-label}
 use Rattle.leaves.proofs.Passing.{room-chapter, visited-chapter, room-verse, visited-verse, visited-other}
 use borrow.Author.Needs.{needs}
 use Rattle.leaves.proofs.visit_leaf.Statement.{statement}
@@ -16,6 +19,9 @@ root c = c .before .before .before .before .before .before .before
 
 abbrev state : tie.Start → State
 state c = let a = c .args in stateOf (now (a .source)) (now (a .tape)) (now (a .seen)) [] (a .rec)
+
+abbrev node : tie.Start → Node
+node c = let a = c .args in nodeAt (now (a .source)) (now (a .tape)) (a .i)
 
 kind-at-requires : tie.Need-kind-at-requires
 kind-at-requires c κs = search needs
@@ -56,16 +62,34 @@ returns c =
 marker-info-requires-2 : tie.Need-marker-info-requires-2
 marker-info-requires-2 c κs = search needs
 
+text-requires : tie.Need-text-requires
+text-requires c κs = search needs
+
+number-label-requires : tie.Need-number-label-requires
+number-label-requires c κs = search needs
+
+parse-verse-part-requires : tie.Need-parse-verse-part-requires
+parse-verse-part-requires c κs = search needs
+
+-- the label is that of the node's text
+labelled : (c : tie.After-number-label) → now (c .number-label .result) ≡ label (infoOf (c .before .before .marker-info2 .result)) (node (root (c .before .before .before .before .before)))
+labelled c =
+    let t = c .before .text in
+    the-label (infoOf (c .before .before .marker-info2 .result)) (node (root (c .before .before .before .before .before))) (now (t .result)) (t .ensures) (now (c .number-label .result)) (c .number-label .ensures)
+
 verse-findings-requires : tie.Need-verse-findings-requires
 verse-findings-requires c κs =
-    let m = c .before in
+    let m = c .before .before .before .before in
     let s = root (m .before .before .before) in
     let a = s .args in
     let k = m .before .before .before .kind-at in
-    (s .pre .1, s .pre .2, room-verse (now (a .table)) (now (a .source)) (now (a .tape)) (aroundOf (a .around)) (a .i) (k .result) (k .ensures) (infoOf (m .marker-info2 .result)) (m .marker-info2 .ensures) (m .before .before .if1 .left) (m .before .if2 .taken) (state s) (countsOf (a .rec)) (s .pre .5))
+    (s .pre .1, labelled (c .before .before), c .before .parse-verse-part .ensures, s .pre .2, room-verse (now (a .table)) (now (a .source)) (now (a .tape)) (aroundOf (a .around)) (a .i) (k .result) (k .ensures) (infoOf (m .marker-info2 .result)) (m .marker-info2 .ensures) (m .before .before .if1 .left) (m .before .if2 .taken) (state s) (countsOf (a .rec)) (s .pre .5))
 
 after-verse-requires : tie.Need-after-verse-requires
-after-verse-requires c κs = search needs
+after-verse-requires c κs =
+    let p = c .before .before .before .before in
+    let s = root (p .before .before .before .before .before .before) in
+    (labelled (p .before), p .parse-verse-part .ensures, s .pre .2, s .pre .4)
 
 with-counts-requires-2 : tie.Need-with-counts-requires-2
 with-counts-requires-2 c κs = search needs
@@ -77,7 +101,7 @@ returns-2 : tie.Need-returns-2
 returns-2 c =
     let q = c .before in
     let f = q .before .before .before in
-    let m = f .before .before in
+    let m = f .before .before .before .before .before in
     let s = root (m .before .before .before) in
     let a = s .args in
     let k = m .before .before .before .kind-at in
@@ -103,6 +127,9 @@ visit-leaf-spec =
     same-length-2
     returns
     marker-info-requires-2
+    text-requires
+    number-label-requires
+    parse-verse-part-requires
     verse-findings-requires
     after-verse-requires
     with-counts-requires-2

@@ -1,65 +1,34 @@
 -- `milestones::is_alone` meets its contract.
 -- Assumes nothing.
 use denote.Ref.{now}
+use mathlib.Core.Path.{refl}
+use mathlib.Core.Bool.{false}
+use Rattle.text.specs.Pick.{cut}
+use Rattle.tape.specs.Nodes.{span}
 use Rattle.table.specs.Entries.{entryOfInfo}
-use Rattle.milestones.proofs.Whole.{alone-other, alone-start, alone-end}
+use Rattle.cursor.specs.Names.{nameOf}
+use Rattle.milestones.proofs.Whole.{other-category, alone-other}
 use borrow.Author.Needs.{needs}
 use Rattle.milestones.proofs.is_alone.Statement.{statement}
 use Rattle.milestones.proofs.is_alone.Tie as tie
 
-marker-name-requires : tie.Need-marker-name-requires
-marker-name-requires c κs = search needs
+is-of-requires : tie.Need-is-of-requires
+is-of-requires c κs = search needs
 
-is-milestone-requires : tie.Need-is-milestone-requires
-is-milestone-requires c κs = search needs
+is-alone-named-requires : tie.Need-is-alone-named-requires
+is-alone-named-requires c κs = search needs
 
 returns : tie.Need-returns
-returns c =
-    let a = c .before .before .before .before .before .before .args in
-    alone-other (entryOfInfo (a .m)) (now (a .source)) (now (a .tape)) (a .i) (now (c .before .before .marker-name .result)) (c .before .before .marker-name .ensures) (c .before .is-milestone .result) (c .before .is-milestone .ensures) (now (a .opens)) (a .k) (c .if1 .taken)
-
-ends-in-requires : tie.Need-ends-in-requires
-ends-in-requires c κs = search needs
+returns c = search needs
 
 returns-2 : tie.Need-returns-2
 returns-2 c =
-    let a = c .before .before .before .before .before .before .before .before .args in
-    alone-start (entryOfInfo (a .m)) (now (a .source)) (now (a .tape)) (a .i) (now (c .before .before .before .before .marker-name .result)) (c .before .before .before .before .marker-name .ensures) (c .before .before .before .is-milestone .result) (c .before .before .before .is-milestone .ensures) (now (a .opens)) (a .k) (c .before .before .if1 .left) (c .before .ends-in .result) (c .before .ends-in .ensures) (c .if2 .taken)
-
-base-requires : tie.Need-base-requires
-base-requires c κs = search needs
-
-nearest-requires : tie.Need-nearest-requires
-nearest-requires c κs = search needs
-
-enum-told : tie.Need-enum-told
-enum-told c = search needs
-
-enum-told-2 : tie.Need-enum-told-2
-enum-told-2 c = search needs
-
-returns-3 : tie.Need-returns-3
-returns-3 c =
-    let a = c .before .before .before .before .before .before .before .before .before .before .before .before .args in
-    alone-end (entryOfInfo (a .m)) (now (a .source)) (now (a .tape)) (a .i) (now (c .before .before .before .before .before .before .before .before .marker-name .result)) (c .before .before .before .before .before .before .before .before .marker-name .ensures) (c .before .before .before .before .before .before .before .is-milestone .result) (c .before .before .before .before .before .before .before .is-milestone .ensures) (now (a .opens)) (a .k) (c .before .before .before .before .before .before .if1 .left) (c .before .before .before .before .before .ends-in .result) (c .before .before .before .before .before .ends-in .ensures) (c .before .before .before .before .if2 .left) (now (c .before .before .before .base .result)) (c .before .before .nearest .result) _ (c .before .before .before .base .ensures) (c .before .before .nearest .ensures) (c .enum-told .given .1)
-
-returns-4 : tie.Need-returns-4
-returns-4 c =
-    let a = c .before .before .before .before .before .before .before .before .before .before .before .before .args in
-    alone-end (entryOfInfo (a .m)) (now (a .source)) (now (a .tape)) (a .i) (now (c .before .before .before .before .before .before .before .before .marker-name .result)) (c .before .before .before .before .before .before .before .before .marker-name .ensures) (c .before .before .before .before .before .before .before .is-milestone .result) (c .before .before .before .before .before .before .before .is-milestone .ensures) (now (a .opens)) (a .k) (c .before .before .before .before .before .before .if1 .left) (c .before .before .before .before .before .ends-in .result) (c .before .before .before .before .before .ends-in .ensures) (c .before .before .before .before .if2 .left) (now (c .before .before .before .base .result)) (c .before .before .nearest .result) _ (c .before .before .before .base .ensures) (c .before .before .nearest .ensures) (c .enum-told2 .given .1)
+    let s = c .before .before .before .before .before in
+    let a = s .args in
+    let e = entryOfInfo (a .m) in
+    let name = nameOf (cut (span (now (a .tape)) (a .i)) (now (a .source))) in
+    let k = c .before .is-of in
+    alone-other e (now (a .source)) (now (a .tape)) (a .i) name refl false (other-category e name (k .result) (k .ensures) (c .if1 .left)) (now (a .opens)) (a .k) refl
 
 pub is-alone-spec : {M : Type 1} → statement M
-is-alone-spec =
-    tie.close
-    (tie.spec
-    marker-name-requires
-    is-milestone-requires
-    returns
-    ends-in-requires
-    returns-2
-    base-requires
-    nearest-requires
-    enum-told
-    enum-told-2
-    returns-3
-    returns-4)
+is-alone-spec = tie.close (tie.spec is-of-requires is-alone-named-requires returns returns-2)

@@ -22,8 +22,8 @@ abbrev μ-loop : tie.MeasureT-loop
 loop-holds : tie.Need-loop-holds Inv-loop μ-loop
 loop-holds c = (omega arith, refl)
 
-decode-at-requires : tie.Need-decode-at-requires Inv-loop μ-loop
-decode-at-requires c κs = search needs
+decode-in-requires : tie.Need-decode-in-requires Inv-loop μ-loop
+decode-in-requires c κs = search needs
 
 is-blank-requires : tie.Need-is-blank-requires Inv-loop μ-loop
 is-blank-requires c κs = search needs
@@ -36,7 +36,7 @@ returns c =
     let a = c .before .before .before .before .before .before .before .args in
     let s = now (a .s) in
     let l = c .before .before .before .before .before .loop in
-    let d = c .before .before .before .decode-at in
+    let d = c .before .before .before .decode-in in
     let b = c .before .before .is-blank in
     let y = tested s (l .i) (a .t) (d .result) (b .result) (c .before .agree .result) _ (d .ensures) (b .ensures) (c .before .agree .ensures) (c .if1 .taken) in
     record { is = sym (l .inv .1 ∙ stops (blankIs (a .t)) s (l .i) (omega arith) y); inside = omega arith }
@@ -45,14 +45,14 @@ add-i : tie.Need-add-i Inv-loop μ-loop
 add-i c =
     let s = c .before .before .before .before .before .before .before .before .args .s .now in
     let i = c .before .before .before .before .before .before .loop .i in
-    let w = ap (λ (d : Decoded). d .width) (c .before .before .before .before .decode-at .ensures) in
+    let w = ap (λ (d : Decoded). d .width) (c .before .before .before .before .decode-in .ensures) in
     omega (arith, in-text s i (omega arith), w)
 
 loop-less : tie.Need-loop-less Inv-loop μ-loop
 loop-less c =
     let s = c .before .before .before .before .before .before .before .before .args .s .now in
     let i = c .before .before .before .before .before .before .loop .i in
-    let w = ap (λ (d : Decoded). d .width) (c .before .before .before .before .decode-at .ensures) in
+    let w = ap (λ (d : Decoded). d .width) (c .before .before .before .before .decode-in .ensures) in
     omega (arith, in-text s i (omega arith), w)
 
 loop-again : tie.Need-loop-again Inv-loop μ-loop
@@ -60,7 +60,7 @@ loop-again c =
     let a = c .before .before .before .before .before .before .before .before .args in
     let s = a .s .now in
     let l = c .before .before .before .before .before .before .loop in
-    let d = c .before .before .before .before .decode-at in
+    let d = c .before .before .before .before .decode-in in
     let b = c .before .before .before .is-blank in
     let w = ap (λ (d : Decoded). d .width) (d .ensures) in
     let y = tested s (l .i) (a .t) (d .result) (b .result) (c .before .before .agree .result) _ (d .ensures) (b .ensures) (c .before .before .agree .ensures) (c .before .if1 .left) in
@@ -79,7 +79,7 @@ find-from-spec =
     Inv-loop
     μ-loop
     loop-holds
-    decode-at-requires
+    decode-in-requires
     is-blank-requires
     agree-requires
     returns

@@ -25,13 +25,13 @@ abbrev μ-loop : tie.MeasureT-loop
 loop-holds : tie.Need-loop-holds Inv-loop μ-loop
 loop-holds c = (omega arith, omega arith, kept-start _)
 
-decode-at-requires : tie.Need-decode-at-requires Inv-loop μ-loop
-decode-at-requires c κs = search needs
+decode-in-requires : tie.Need-decode-in-requires Inv-loop μ-loop
+decode-in-requires c κs = search needs
 
 add-i : tie.Need-add-i Inv-loop μ-loop
 add-i c =
     let s = c .before .before .before .before .before .args .s .now in
-    let w = ap (λ (d : Decoded). d .width) (c .before .decode-at .ensures) in
+    let w = ap (λ (d : Decoded). d .width) (c .before .decode-in .ensures) in
     omega (arith, in-text s (c .before .before .before .loop .i) (omega arith), w)
 
 is-blank-requires : tie.Need-is-blank-requires Inv-loop μ-loop
@@ -40,14 +40,14 @@ is-blank-requires c κs = search needs
 loop-less : tie.Need-loop-less Inv-loop μ-loop
 loop-less c =
     let s = c .before .before .before .before .before .before .before .args .s .now in
-    let w = ap (λ (d : Decoded). d .width) (c .before .before .before .decode-at .ensures) in
+    let w = ap (λ (d : Decoded). d .width) (c .before .before .before .decode-in .ensures) in
     omega (arith, in-text s (c .before .before .before .before .before .loop .i) (omega arith), w)
 
 loop-again : tie.Need-loop-again Inv-loop μ-loop
 loop-again c =
     let s = c .before .before .before .before .before .before .before .args .s .now in
     let l = c .before .before .before .before .before .loop in
-    let d = c .before .before .before .decode-at in
+    let d = c .before .before .before .decode-in in
     let w = ap (λ (d : Decoded). d .width) (d .ensures) in
     let t = in-text s (l .i) (omega arith) in
     let y = ap (λ (d : Decoded). blank (d .cp)) (sym (d .ensures)) ∙ sym (c .before .is-blank .ensures) ∙ not-true _ (c .if1 .taken) in
@@ -56,14 +56,14 @@ loop-again c =
 loop-less-2 : tie.Need-loop-less-2 Inv-loop μ-loop
 loop-less-2 c =
     let s = c .before .before .before .before .before .before .before .args .s .now in
-    let w = ap (λ (d : Decoded). d .width) (c .before .before .before .decode-at .ensures) in
+    let w = ap (λ (d : Decoded). d .width) (c .before .before .before .decode-in .ensures) in
     omega (arith, in-text s (c .before .before .before .before .before .loop .i) (omega arith), w)
 
 loop-again-2 : tie.Need-loop-again-2 Inv-loop μ-loop
 loop-again-2 c =
     let s = c .before .before .before .before .before .before .before .args .s .now in
     let l = c .before .before .before .before .before .loop in
-    let d = c .before .before .before .decode-at in
+    let d = c .before .before .before .decode-in in
     let w = ap (λ (d : Decoded). d .width) (d .ensures) in
     let t = in-text s (l .i) (omega arith) in
     let y = ap (λ (d : Decoded). blank (d .cp)) (sym (d .ensures)) ∙ sym (c .before .is-blank .ensures) ∙ not-false _ (c .if1 .left) in
@@ -82,7 +82,7 @@ kept-forward-spec =
     Inv-loop
     μ-loop
     loop-holds
-    decode-at-requires
+    decode-in-requires
     add-i
     is-blank-requires
     loop-less
