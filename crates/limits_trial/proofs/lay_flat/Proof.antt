@@ -13,14 +13,14 @@ Inv-loop nodes₀ n i₀ nodes i = (i ≤ n + 1) × (length nodes ≡ length nod
 abbrev μ-loop : tie.MeasureT-loop
 μ-loop nodes₀ n i₀ nodes i = n - i
 
-node-requires : tie.Need-node-requires Inv-loop μ-loop
-node-requires c κs = search needs
+put-empty-requires : tie.Need-put-empty-requires Inv-loop μ-loop
+put-empty-requires c κs = search needs
 
 loop-holds : tie.Need-loop-holds Inv-loop μ-loop
 loop-holds c = search needs
 
-node-requires-2 : tie.Need-node-requires-2 Inv-loop μ-loop
-node-requires-2 c κs = search needs
+put-empty-requires-2 : tie.Need-put-empty-requires-2 Inv-loop μ-loop
+put-empty-requires-2 c κs = search needs
 
 add-i : tie.Need-add-i Inv-loop μ-loop
 add-i c = search needs
@@ -43,9 +43,9 @@ lay-flat-spec =
     (tie.spec
     Inv-loop
     μ-loop
-    node-requires
+    put-empty-requires
     loop-holds
-    node-requires-2
+    put-empty-requires-2
     add-i
     loop-less
     loop-again

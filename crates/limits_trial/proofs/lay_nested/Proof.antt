@@ -13,41 +13,47 @@ Inv-loop nodes₀ d i₀ nodes i = (i ≤ d + 1) × (length nodes ≡ length nod
 abbrev μ-loop : tie.MeasureT-loop
 μ-loop nodes₀ d i₀ nodes i = d + 1 - i
 
-mul-node : tie.Need-mul-node Inv-loop μ-loop
-mul-node c = search needs
+mul-put-empty : tie.Need-mul-put-empty Inv-loop μ-loop
+mul-put-empty c = search needs
 
-add-node : tie.Need-add-node Inv-loop μ-loop
-add-node c = search needs
+add-put-empty : tie.Need-add-put-empty Inv-loop μ-loop
+add-put-empty c = search needs
 
-node-requires : tie.Need-node-requires Inv-loop μ-loop
-node-requires c κs = search needs
+put-empty-requires : tie.Need-put-empty-requires Inv-loop μ-loop
+put-empty-requires c κs = search needs
+
+add-put-empty-2 : tie.Need-add-put-empty-2 Inv-loop μ-loop
+add-put-empty-2 c = search needs
+
+put-empty-requires-2 : tie.Need-put-empty-requires-2 Inv-loop μ-loop
+put-empty-requires-2 c κs = search needs
 
 loop-holds : tie.Need-loop-holds Inv-loop μ-loop
 loop-holds c = search needs
 
-mul-node-2 : tie.Need-mul-node-2 Inv-loop μ-loop
-mul-node-2 c = search needs
+mul-put-empty-2 : tie.Need-mul-put-empty-2 Inv-loop μ-loop
+mul-put-empty-2 c = search needs
 
-add-node-2 : tie.Need-add-node-2 Inv-loop μ-loop
-add-node-2 c = search needs
+add-put-empty-3 : tie.Need-add-put-empty-3 Inv-loop μ-loop
+add-put-empty-3 c = search needs
 
-sub-node : tie.Need-sub-node Inv-loop μ-loop
-sub-node c = search needs
+sub-put-empty : tie.Need-sub-put-empty Inv-loop μ-loop
+sub-put-empty c = search needs
 
-node-requires-2 : tie.Need-node-requires-2 Inv-loop μ-loop
-node-requires-2 c κs = search needs
+put-empty-requires-3 : tie.Need-put-empty-requires-3 Inv-loop μ-loop
+put-empty-requires-3 c κs = search needs
 
-mul-node-3 : tie.Need-mul-node-3 Inv-loop μ-loop
-mul-node-3 c = search needs
+mul-put-empty-3 : tie.Need-mul-put-empty-3 Inv-loop μ-loop
+mul-put-empty-3 c = search needs
 
-add-node-3 : tie.Need-add-node-3 Inv-loop μ-loop
-add-node-3 c = search needs
+add-put-empty-4 : tie.Need-add-put-empty-4 Inv-loop μ-loop
+add-put-empty-4 c = search needs
 
-sub-node-2 : tie.Need-sub-node-2 Inv-loop μ-loop
-sub-node-2 c = search needs
+sub-put-empty-2 : tie.Need-sub-put-empty-2 Inv-loop μ-loop
+sub-put-empty-2 c = search needs
 
-node-requires-3 : tie.Need-node-requires-3 Inv-loop μ-loop
-node-requires-3 c κs = search needs
+put-empty-requires-4 : tie.Need-put-empty-requires-4 Inv-loop μ-loop
+put-empty-requires-4 c κs = search needs
 
 add-i : tie.Need-add-i Inv-loop μ-loop
 add-i c = search needs
@@ -70,18 +76,20 @@ lay-nested-spec =
     (tie.spec
     Inv-loop
     μ-loop
-    mul-node
-    add-node
-    node-requires
+    mul-put-empty
+    add-put-empty
+    put-empty-requires
+    add-put-empty-2
+    put-empty-requires-2
     loop-holds
-    mul-node-2
-    add-node-2
-    sub-node
-    node-requires-2
-    mul-node-3
-    add-node-3
-    sub-node-2
-    node-requires-3
+    mul-put-empty-2
+    add-put-empty-3
+    sub-put-empty
+    put-empty-requires-3
+    mul-put-empty-3
+    add-put-empty-4
+    sub-put-empty-2
+    put-empty-requires-4
     add-i
     loop-less
     loop-again
