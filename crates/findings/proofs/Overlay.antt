@@ -151,3 +151,14 @@ overlay-cut l k (f ∷ fs) = go (room l - k) refl (overlay-cut (put l k f) (k + 
     go (suc n) e h =
         let q : room (put l k f) - (k + 1) ≡ n = rw (length-put l k f) (omega arith) in
         h ∙ rw q
+
+-- the words of findings
+pub encode-append : (fs gs : List Finding) → encode (fs ++ gs) ≡ encode fs ++ encode gs
+unfolding encode
+encode-append [] gs = refl
+encode-append (f ∷ fs) gs = ap (wordsOf f ++_) (encode-append fs gs) ∙ sym (append-assoc (wordsOf f) (encode fs) (encode gs))
+
+pub encode-length : (fs : List Finding) → length (encode fs) ≡ 8 * length fs
+unfolding encode
+encode-length [] = refl
+encode-length (f ∷ fs) = let h = encode-length fs in omega (arith, length-append (wordsOf f) (encode fs))

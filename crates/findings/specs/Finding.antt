@@ -15,6 +15,10 @@ pub record Finding : Type 0 where
   pub first : ℕ
   pub second : ℕ
 
+-- "so the last is 34": how many codes there are
+abbrev pub codes : ℕ
+codes = 35
+
 -- a finding's severity, code and form, by which its message is chosen
 pub record Kind : Type 0 where
   pub severity : ℕ

@@ -132,7 +132,7 @@ module _ {table words : List ℕ} {entries : ℕ} {s t seen opens : List ℕ} (f
 by-severity : (c : Counts) (fs : List Finding) → Graded fs → (counted c fs .errors ≡ c .errors + ofSeverity 0 fs) × (counted c fs .warnings ≡ c .warnings + ofSeverity 1 fs) × (counted c fs .infos ≡ c .infos + ofSeverity 2 fs)
 unfolding counted ofSeverity
 by-severity c [] h = (omega arith, omega arith, omega arith)
-by-severity c (f ∷ fs) h = go (f .severity) (h .0) (λ d. by-severity d fs (h .1))
+by-severity c (f ∷ fs) h = go (f .severity) (h .0 .0) (λ d. by-severity d fs (h .1))
   where
     go : (n : ℕ) → n ≤ 2 → ((d : Counts) → (counted d fs .errors ≡ d .errors + ofSeverity 0 fs) × (counted d fs .warnings ≡ d .warnings + ofSeverity 1 fs) × (counted d fs .infos ≡ d .infos + ofSeverity 2 fs)) → (counted (bySeverity n c) fs .errors ≡ c .errors + addIf (eqb n 0) (ofSeverity 0 fs)) × (counted (bySeverity n c) fs .warnings ≡ c .warnings + addIf (eqb n 1) (ofSeverity 1 fs)) × (counted (bySeverity n c) fs .infos ≡ c .infos + addIf (eqb n 2) (ofSeverity 2 fs))
     go zero l k = let q = k (bySeverity 0 c) in (omega (arith, q .0), omega (arith, q .1), omega (arith, q .2))

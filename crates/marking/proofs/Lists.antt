@@ -8,28 +8,18 @@ use mathlib.Core.Bool.{Bool, true, false}
 use mathlib.Core.List.{List, [], _∷_, _++_, append-assoc}
 use mathlib.Core.Logic.{_↔_, _⊎_, inl, inr}
 use mathlib.Core.Option.{Option, some, none}
-use lib.ListN.{length, take, drop, length-append, take-append-drop}
+use lib.ListN.{length, take, drop, take-append-drop}
 use lib.Seq.{take-at, take-append-add, length-take-le}
 use Rattle.tape.specs.Reading.{Refusal, orElse}
 use Rattle.tape.specs.Forest.{top}
 use Rattle.tape.specs.Alike.{BeginAlike}
 use Rattle.tape.proofs.OneNumber.{which}
-use Rattle.findings.specs.Finding.{Finding, wordsOf}
+use Rattle.findings.specs.Finding.{Finding}
 use Rattle.findings.specs.Written.{room, overlay, encode}
-use Rattle.findings.proofs.Overlay.{overlay-is, overlay-cut}
+use Rattle.findings.proofs.Overlay.{overlay-is, overlay-cut, encode-append, encode-length}
 use Rattle.validate.specs.Document.{running, closing, walked}
 use Rattle.validate.specs.Outcome.{Lent, of1, of2, of3, ofTape, of9, of10, refusal, listOf, listAfter}
 use Rattle.validate.proofs.Demand3.{longer-keeps-findings}
-
-encode-append : (fs gs : List Finding) → encode (fs ++ gs) ≡ encode fs ++ encode gs
-unfolding encode
-encode-append [] gs = refl
-encode-append (f ∷ fs) gs = ap (wordsOf f ++_) (encode-append fs gs) ∙ sym (append-assoc (wordsOf f) (encode fs) (encode gs))
-
-encode-length : (fs : List Finding) → length (encode fs) ≡ 8 * length fs
-unfolding encode
-encode-length [] = refl
-encode-length (f ∷ fs) = let h = encode-length fs in omega (arith, length-append (wordsOf f) (encode fs))
 
 few : (n : ℕ) (fs : List Finding) → length (take n fs) ≤ n
 few zero fs = omega arith

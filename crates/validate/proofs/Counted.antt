@@ -24,7 +24,7 @@ use Rattle.cursor.proofs.Runs.{run-top}
 use Rattle.table.specs.Entries.{Entry}
 use Rattle.table.specs.Names.{defaultOf, noteOnly}
 use Rattle.cursor.specs.Names.{nameOf}
-use Rattle.findings.specs.Finding.{Finding, Kind}
+use Rattle.findings.specs.Finding.{Finding, Kind, codes}
 use Rattle.findings.specs.Written.{only, room}
 use Rattle.attributes.specs.Attributes.{emptyList, noDefault, Mode, between, key, value, opened, quoted, escaping, unquoted, inQuotes, Step, go, tell, stop, pickStep, step, ended, resume, scan, body, pickKinds, hasDefault, holdsEquals, attributeKinds, findingsAt, attributeFindings, pickFindings, attributesFindings}
 use Rattle.rows.specs.Cells.{Range}
@@ -39,16 +39,20 @@ use Rattle.validate.specs.Document.{textBefore, ofDocument, unclosed, cl
 use Rattle.validate.specs.Outcome.{Lent, refusal, addIf, ofSeverity, smaller, listOf, writtenOf, checkedOf}
 use Rattle.validate.proofs.Demand3.{checked-accepted}
 
--- every finding is an error, a warning or an info
+-- "severity (0 error, 1 warning, 2 info)"; of the codes "the last is 34"
+abbrev pub Listed : ℕ → ℕ → Type 0
+Listed severity code = (severity ≤ 2) × (code < codes)
+
+-- every finding has one of these severities and codes
 abbrev pub Graded : List Finding → Type 0
 Graded [] = Unit {0}
-Graded (f ∷ fs) = (f .severity ≤ 2) × Graded fs
+Graded (f ∷ fs) = Listed (f .severity) (f .code) × Graded fs
 
 graded-append : (fs gs : List Finding) → Graded fs → Graded gs → Graded (fs ++ gs)
 graded-append [] gs p q = q
 graded-append (f ∷ fs) gs p q = (p .0, graded-append fs gs (p .1) q)
 
-graded-only : (b : Bool) (f : Finding) → f .severity ≤ 2 → Graded (only b f)
+graded-only : (b : Bool) (f : Finding) → Listed (f .severity) (f .code) → Graded (only b f)
 graded-only true f h = (h, tt)
 graded-only false f h = tt
 
@@ -57,11 +61,11 @@ graded-pick true fs gs p q = p
 graded-pick false fs gs p q = q
 
 -- a finding or none, and then others
-graded-then : (b : Bool) (f : Finding) (fs : List Finding) → f .severity ≤ 2 → Graded fs → Graded (only b f ++ fs)
+graded-then : (b : Bool) (f : Finding) (fs : List Finding) → Listed (f .severity) (f .code) → Graded fs → Graded (only b f ++ fs)
 graded-then b f fs h p = graded-append (only b f) fs (graded-only b f h) p
 
 -- findings, and then one or none
-graded-snoc : (fs : List Finding) (b : Bool) (f : Finding) → Graded fs → f .severity ≤ 2 → Graded (fs ++ only b f)
+graded-snoc : (fs : List Finding) (b : Bool) (f : Finding) → Graded fs → Listed (f .severity) (f .code) → Graded (fs ++ only b f)
 graded-snoc fs b f p h = graded-append fs (only b f) p (graded-only b f h)
 
 cell-graded : (q : Option Range) (x : Node) (e : ℕ) (later : ℕ → List Finding) → ((n : ℕ) → Graded (later n)) → Graded (byColumns q x e later)
@@ -77,12 +81,12 @@ row-graded e (node x c r) = cell-graded (cellIn x) x e (λ n. rowFrom n r) (λ n
 -- the same of kinds, and of a step of the scan of attributes
 abbrev Low : List Kind → Type 0
 Low [] = Unit {0}
-Low (k ∷ ks) = (k .severity ≤ 2) × Low ks
+Low (k ∷ ks) = Listed (k .severity) (k .code) × Low ks
 
 abbrev LowStep : Step → Type 0
 LowStep (go m) = Unit {0}
-LowStep (tell k m) = k .severity ≤ 2
-LowStep (stop k) = k .severity ≤ 2
+LowStep (tell k m) = Listed (k .severity) (k .code)
+LowStep (stop k) = Listed (k .severity) (k .code)
 
 low-pick : (b : Bool) (x y : Step) → LowStep x → LowStep y → LowStep (pickStep b x y)
 low-pick true x y p q = p
@@ -145,7 +149,7 @@ attributes-graded owner marker (node x c r) = attributes-graded owner marker r
 -- and of the checks of a node
 abbrev Fair : List Check → Type 0
 Fair [] = Unit {0}
-Fair (c ∷ cs) = (c .finding .severity ≤ 2) × Fair cs
+Fair (c ∷ cs) = Listed (c .finding .severity) (c .finding .code) × Fair cs
 
 given-graded : (cs : List Check) → Fair cs → Graded (given cs)
 unfolding given
@@ -212,7 +216,7 @@ graded table f =
 severities : (fs : List Finding) → Graded fs → ofSeverity 0 fs + ofSeverity 1 fs + ofSeverity 2 fs ≡ length fs
 unfolding ofSeverity
 severities [] h = refl
-severities (f ∷ fs) h = go (f .severity) (h .0) (severities fs (h .1))
+severities (f ∷ fs) h = go (f .severity) (h .0 .0) (severities fs (h .1))
   where
     go : (n : ℕ) → n ≤ 2 → ofSeverity 0 fs + ofSeverity 1 fs + ofSeverity 2 fs ≡ length fs → addIf (eqb n 0) (ofSeverity 0 fs) + addIf (eqb n 1) (ofSeverity 1 fs) + addIf (eqb n 2) (ofSeverity 2 fs) ≡ suc (length fs)
     go zero l q = omega arith

@@ -1,0 +1,36 @@
+-- Bytes laid over a list one at a time.
+-- Assumes nothing.
+use Prim.Native.Nat.{ℕ, suc, _+_, _<_, _≤_}
+use native.Mathlib.Omega.{arith}
+use native.Mathlib.Nat.{add-zero, add-assoc}
+use native.Mathlib.Numerals.{add-one}
+use mathlib.Core.Path.{_≡_, refl, sym, _∙_}
+use mathlib.Core.List.{List}
+use lib.ListN.{length, drop, set, getD, length-set, drop-of-length-le}
+use lib.Seq.{drop-cons}
+use Rattle.laying.specs.Over.{over}
+use Rattle.laying.proofs.Over.{over-past, over-none, over-set}
+
+-- what is left to lay gives what the whole gives
+pub record Laying (s l₀ : List ℕ) (at : ℕ) (l : List ℕ) (i : ℕ) : Type 0 where
+  pub left : i ≤ length s
+  pub whole : over l (at + i) (drop i s) ≡ over l₀ at s
+  pub same : length l ≡ length l₀
+
+pub laying-start : (s l : List ℕ) (at : ℕ) → Laying s l at l 0
+laying-start s l at = record { left = omega arith; whole = rw add-zero; same = refl }
+
+module _ (s l₀ : List ℕ) (at : ℕ) (l : List ℕ) (i : ℕ) (y : Laying s l₀ at l i) where
+  pub laying-on : i < length s → at + i < length l → Laying s l₀ at (set l (at + i) (getD s i 0)) (i + 1)
+  laying-on h k =
+      record {
+        left = omega arith;
+        whole = rw (← add-assoc at i 1, add-one i) (sym (over-set l (at + i) (getD s i 0) (drop (suc i) s) k) ∙ rw (← drop-cons s i 0 h) (y .whole));
+        same = length-set l (at + i) (getD s i 0) ∙ y .same;
+      }
+
+  pub laying-full : length l ≤ at + i → l ≡ over l₀ at s
+  laying-full h = sym (over-past l (at + i) (drop i s) h) ∙ y .whole
+
+  pub laying-end : length s ≤ i → l ≡ over l₀ at s
+  laying-end h = sym (over-none l (at + i)) ∙ rw (drop-of-length-le s {i = i} h) at (y .whole)

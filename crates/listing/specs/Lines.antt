@@ -1,0 +1,102 @@
+-- Document 01, "Listing": the lines of a listing. "Line and column count from 1; a line ends after byte 10; column counts bytes."
+use Prim.Native.Nat.{ℕ, zero, suc, _+_}
+use Prim.Native.String.{String}
+use mathlib.Core.Bool.{Bool, true, false}
+use mathlib.Core.List.{List, [], _∷_, _++_}
+use lib.Dec.{eqb}
+use Rattle.text.specs.Literal.{ascii}
+use Rattle.laying.specs.Decimal.{decimal}
+
+-- a key, `=`, a value, byte 10
+abbrev pub line : String → List ℕ → List ℕ
+line key value = ascii key ++ (0x3D ∷ value ++ (10 ∷ []))
+
+abbrev pub tooLargeLines : List ℕ
+tooLargeLines = line "verdict" (ascii "toolarge")
+
+-- "Refused: `verdict=refused`, `refusal=`, `place=`."
+unfoldable pub refusedLines : ℕ → ℕ → List ℕ
+refusedLines number place = line "verdict" (ascii "refused") ++ (line "refusal" (decimal number) ++ line "place" (decimal place))
+
+-- "`findings=` is the total"
+unfoldable pub checkedLines : ℕ → ℕ → ℕ → ℕ → List ℕ
+checkedLines errors warnings infos total =
+    line "verdict" (ascii "checked")
+    ++ (line "errors" (decimal errors) ++ (line "warnings" (decimal warnings) ++ (line "infos" (decimal infos) ++ line "findings" (decimal total))))
+
+-- the Rust's names, in its order
+unfoldable pub severityNames : List (List ℕ)
+severityNames = ascii "error" ∷ ascii "warning" ∷ ascii "info" ∷ []
+
+unfoldable pub codeNames : List (List ℕ)
+codeNames =
+    ascii "UnknownMarker"
+    ∷ ascii "UnclosedMarker"
+    ∷ ascii "StrayCloseMarker"
+    ∷ ascii "StrayBackslash"
+    ∷ ascii "MissingIdMarker"
+    ∷ ascii "InvalidBookCode"
+    ∷ ascii "DuplicateId"
+    ∷ ascii "TextBeforeId"
+    ∷ ascii "MissingChapterMarker"
+    ∷ ascii "InvalidChapterSequence"
+    ∷ ascii "DuplicateChapter"
+    ∷ ascii "InvalidVerseSequence"
+    ∷ ascii "VerseOutsideParagraph"
+    ∷ ascii "NoteSubmarkerOutsideNote"
+    ∷ ascii "NonEmptyBlankLine"
+    ∷ ascii "LeadingZeros"
+    ∷ ascii "MilestoneMismatch"
+    ∷ ascii "InvalidAttributes"
+    ∷ ascii "MissingChapterNumber"
+    ∷ ascii "MissingVerseNumber"
+    ∷ ascii "CharCrossesVerseBoundary"
+    ∷ ascii "EmptyFigure"
+    ∷ ascii "UnquotedAttributeValue"
+    ∷ ascii "MissingRequiredAttribute"
+    ∷ ascii "BodyParagraphBeforeChapter"
+    ∷ ascii "EmptyWordMarker"
+    ∷ ascii "MissingMilestoneSelfClose"
+    ∷ ascii "InvalidTableColumnSequence"
+    ∷ ascii "DeprecatedMarker"
+    ∷ ascii "ImplicitClose"
+    ∷ ascii "UnclosedNote"
+    ∷ ascii "UnclosedAtEof"
+    ∷ ascii "DefaultAttributeNotDefined"
+    ∷ ascii "MisplacedNumberMarker"
+    ∷ ascii "MissingSpaceBeforeNumber"
+    ∷ []
+
+-- the k-th name, empty past the last
+unfoldable pub nameAt : List (List ℕ) → ℕ → List ℕ
+nameAt [] k = []
+nameAt (n ∷ ns) zero = n
+nameAt (n ∷ ns) (suc k) = nameAt ns k
+
+-- "The last five lines repeat per finding."
+unfoldable pub findingLines : ℕ → ℕ → ℕ → ℕ → List ℕ → List ℕ
+findingLines severity code at column message =
+    line "severity" (nameAt severityNames severity)
+    ++ (line "code" (nameAt codeNames code) ++ (line "line" (decimal at) ++ (line "column" (decimal column) ++ line "message" message)))
+
+-- line and column of a byte's place
+pub record Place : Type 0 where
+  pub line : ℕ
+  pub column : ℕ
+
+abbrev pub pickPlace : Bool → Place → Place → Place
+pickPlace true a b = a
+pickPlace false a b = b
+
+-- "a line ends after byte 10"
+abbrev pub afterByte : ℕ → Place → Place
+afterByte b p = pickPlace (eqb b 10) (record { line = p .line + 1; column = 1 }) (record { line = p .line; column = p .column + 1 })
+
+-- the place behind the first n bytes of what stands at a place
+unfoldable pub placeFrom : Place → List ℕ → ℕ → Place
+placeFrom p s zero = p
+placeFrom p [] (suc n) = p
+placeFrom p (b ∷ s) (suc n) = placeFrom (afterByte b p) s n
+
+abbrev pub placeOf : List ℕ → ℕ → Place
+placeOf s n = placeFrom (record { line = 1; column = 1 }) s n

@@ -1,0 +1,4 @@
+pub mod Records
+pub mod Counting
+pub mod Sums
+pub mod Total

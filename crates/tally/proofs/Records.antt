@@ -1,0 +1,59 @@
+-- Number 11, one record at a time.
+-- Assumes nothing.
+use Prim.Native.Nat.{ℕ, _+_, _-_, _%_, _<_, _≤_}
+use native.Mathlib.Omega.{arith}
+use native.Mathlib.Nat.{sub-zero}
+use mathlib.Core.Path.{_≡_, refl}
+use mathlib.Core.Bool.{Bool, true, false, not}
+use mathlib.Core.List.{List}
+use mathlib.Core.Option.{Option, none}
+use lib.Dec.{eqb, ltb, leb}
+use lib.ListN.{length}
+use borrow.Author.Tests.{eq-eqb, ne-eqb, lt-ltb, le-ltb, le-leb, lt-leb, ltb-true, ltb-false, not-false}
+use Rattle.tape.specs.Reading.{Refusal, refuse, onlyIf, orElse, firstBad}
+use Rattle.tape.proofs.OneNumber.{neither, either-false, none-of}
+use Rattle.tape.proofs.Whole.{first-pass, first-hit, first-end}
+use Rattle.findings.specs.Finding.{codes}
+use Rattle.tally.specs.Tally.{severityAt, codeAt, whole, badRecord, tallyRefusal}
+
+pub bad-severity : (l : List ℕ) (k : ℕ) → 2 < severityAt l k → true ≡ badRecord l k
+bad-severity l k h = rw (lt-ltb 2 (severityAt l k) h)
+
+pub bad-code : (l : List ℕ) (k : ℕ) → severityAt l k ≤ 2 → leb codes (codeAt l k) ≡ badRecord l k
+bad-code l k h = rw (le-ltb 2 (severityAt l k) h) (test (ltb (codeAt l k) codes) refl)
+  where
+    test : (b : Bool) → ltb (codeAt l k) codes ≡ b → leb codes (codeAt l k) ≡ not b
+    test true e = lt-leb codes (codeAt l k) (ltb-true (codeAt l k) codes e)
+    test false e = le-leb codes (codeAt l k) (ltb-false (codeAt l k) codes e)
+
+-- the records of a list that isn't turned back
+pub known : (l : List ℕ) → tallyRefusal l ≡ none → (k : ℕ) → k < whole l → codeAt l k < codes
+unfolding tallyRefusal
+known l e k h =
+    let good = none-of 11 (badRecord l) (whole l) 0 (neither (firstBad 11 (badRecord l) 0 (whole l)) _ e .0) k (omega arith) (omega arith) in
+    ltb-true (codeAt l k) codes (not-false _ (either-false (ltb 2 (severityAt l k)) _ good .1))
+
+-- what the length says, when all records are good
+abbrev rest : List ℕ → Option Refusal
+rest l = onlyIf (not (eqb (length l % 8) 0)) (refuse 11 (whole l))
+
+-- the records that are left give what the whole gives
+abbrev pub Checking : List ℕ → ℕ → Type 0
+Checking l k = orElse (firstBad 11 (badRecord l) k (whole l - k)) (rest l) ≡ tallyRefusal l
+
+pub checking-start : (l : List ℕ) → Checking l 0
+unfolding tallyRefusal
+checking-start l = rw sub-zero
+
+module _ (l : List ℕ) (k : ℕ) (y : Checking l k) where
+  pub checking-hit : k < whole l → badRecord l k ≡ true → refuse 11 k ≡ tallyRefusal l
+  checking-hit h e = rw (first-hit 11 (badRecord l) (whole l) k h e) at y
+
+  pub checking-on : k < whole l → badRecord l k ≡ false → Checking l (k + 1)
+  checking-on h e = rw (first-pass 11 (badRecord l) (whole l) k h e) at y
+
+  pub checking-ragged : whole l ≤ k → (length l % 8 ≡ 0 → ⊥) → refuse 11 (whole l) ≡ tallyRefusal l
+  checking-ragged h e = rw (first-end 11 (badRecord l) (whole l) k h, ne-eqb (length l % 8) 0 e) at y
+
+  pub checking-end : whole l ≤ k → length l % 8 ≡ 0 → none ≡ tallyRefusal l
+  checking-end h e = rw (first-end 11 (badRecord l) (whole l) k h, eq-eqb (length l % 8) 0 e) at y

@@ -1,0 +1,46 @@
+-- The tally of the words of findings.
+-- Assumes nothing.
+use Prim.Native.Nat.{ℕ, zero, suc, _+_, _*_, _%_, _<_}
+use native.Mathlib.Omega.{arith}
+use mathlib.Core.Path.{_≡_, refl, _∙_}
+use mathlib.Core.Bool.{false}
+use mathlib.Core.List.{List, [], _∷_, append-nil}
+use mathlib.Core.Option.{none}
+use lib.ListN.{length, length-append, drop-of-length-le}
+use lib.Seq.{getD-append-add}
+use borrow.Author.Tests.{eq-eqb, lt-ltb, le-ltb}
+use Rattle.tape.proofs.OneNumber.{all-none}
+use Rattle.findings.specs.Finding.{Finding, codes, wordsOf}
+use Rattle.findings.specs.Written.{encode, overlay}
+use Rattle.findings.proofs.Overlay.{overlay-is, encode-length}
+use Rattle.tape.specs.Forest.{top}
+use Rattle.validate.proofs.Counted.{Graded, graded}
+use Rattle.validate.specs.Outcome.{Lent, refusal, listOf, listAfter}
+use Rattle.tally.specs.Tally.{whole, badRecord, tallyRefusal, tallyOf, sum}
+use Rattle.tally.proofs.Sums.{tally-sums}
+
+good : (fs : List Finding) → Graded fs → (i : ℕ) → i < length fs → badRecord (encode fs) i ≡ false
+unfolding encode
+good [] h i b = absurd (omega arith)
+good (f ∷ fs) h zero b = rw (le-ltb 2 (f .severity) (h .0 .0), lt-ltb (f .code) codes (h .0 .1))
+good (f ∷ fs) h (suc i) b =
+    let s : 8 * suc i ≡ 8 + 8 * i = omega arith in
+    let c : 8 * suc i + 1 ≡ 8 + (8 * i + 1) = omega arith in
+    rw (c, s, getD-append-add (wordsOf f) (encode fs) (8 * i) 0, getD-append-add (wordsOf f) (encode fs) (8 * i + 1) 0) (good fs (h .1) i (omega arith))
+
+pub encode-passes : (fs : List Finding) → Graded fs → tallyRefusal (encode fs) ≡ none
+unfolding tallyRefusal
+encode-passes fs h =
+    let n = encode-length fs in
+    rw (all-none 11 (badRecord (encode fs)) (whole (encode fs)) 0 (λ i g b. good fs h i (omega arith)), eq-eqb (length (encode fs) % 8) 0 (omega arith))
+
+pub encode-sums : (fs : List Finding) → Graded fs → sum (tallyOf (encode fs)) ≡ length fs
+encode-sums fs h = tally-sums (encode fs) (encode-passes fs h) ∙ omega (arith, encode-length fs)
+
+-- a list that has room for the findings and for nothing else holds their words
+exactly : (l : List ℕ) (fs : List Finding) → 8 * length fs ≡ length l → overlay l 0 fs ≡ encode fs
+exactly l fs n = overlay-is l 0 fs (omega arith) ∙ rw (drop-of-length-le l {i = 8 * (0 + length fs)} (omega arith)) (append-nil (encode fs))
+
+-- a checked document's list, with room for its findings and for nothing else: the tally sums to their number
+pub tally-total : (l : Lent) → refusal l ≡ none → 8 * length (listOf l) ≡ length (l .list) → sum (tallyOf (listAfter l)) ≡ length (listOf l)
+tally-total l e n = rw (e, exactly (l .list) (listOf l) n) (encode-sums (listOf l) (graded (l .table) (top (l .source) (l .tape))))

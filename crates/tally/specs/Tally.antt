@@ -1,0 +1,60 @@
+-- Document 01: "Tally gives 35 counts by code", and number 11 of its refusals.
+use Prim.Native.Nat.{ℕ, zero, suc, _+_, _*_, _/_, _%_}
+use mathlib.Core.Bool.{Bool, not}
+use mathlib.Core.List.{List, [], _∷_}
+use mathlib.Core.Option.{Option, none}
+use lib.Dec.{eqb, ltb}
+use lib.ListN.{length, getD}
+use Rattle.text.specs.Pick.{either, pickNat}
+use Rattle.tape.specs.Reading.{Refusal, refuse, onlyIf, orElse, firstBad, isNone}
+use Rattle.findings.specs.Finding.{codes}
+use Rattle.findings.specs.Written.{pickWords}
+use Rattle.laying.specs.Over.{over}
+use Rattle.tally.specs.declared.Tallied.{Tallied}
+use Rattle.tally.specs.declared.Tallied.the-variants.{Counted, Refused}
+
+-- severity and code of record k
+abbrev pub severityAt : List ℕ → ℕ → ℕ
+severityAt l k = getD l (8 * k) 0
+
+abbrev pub codeAt : List ℕ → ℕ → ℕ
+codeAt l k = getD l (8 * k + 1) 0
+
+-- how many whole records the list holds
+abbrev pub whole : List ℕ → ℕ
+whole l = length l / 8
+
+-- "severity over 2 or code over 34"
+abbrev pub badRecord : List ℕ → ℕ → Bool
+badRecord l k = either (ltb 2 (severityAt l k)) (not (ltb (codeAt l k) codes))
+
+-- 11: "length no multiple of 8, severity over 2 or code over 34; place: that record, or the number of whole records for the length, the smaller first."
+unfoldable pub tallyRefusal : List ℕ → Option Refusal
+tallyRefusal l = orElse (firstBad 11 (badRecord l) 0 (whole l)) (onlyIf (not (eqb (length l % 8) 0)) (refuse 11 (whole l)))
+
+-- how many of the first n records have the code
+unfoldable pub withCode : List ℕ → ℕ → ℕ → ℕ
+withCode l c zero = 0
+withCode l c (suc n) = pickNat (eqb (codeAt l n) c) 1 0 + withCode l c n
+
+-- the counts by code, from the code c on, n of them
+unfoldable pub countsFrom : List ℕ → ℕ → ℕ → List ℕ
+countsFrom l c zero = []
+countsFrom l c (suc n) = withCode l c (whole l) ∷ countsFrom l (suc c) n
+
+abbrev pub tallyOf : List ℕ → List ℕ
+tallyOf l = countsFrom l 0 codes
+
+-- the lent list after it: as it was after a refusal, else the counts laid over it as far as there is room
+abbrev pub countsAfter : List ℕ → List ℕ → List ℕ
+countsAfter l out = pickWords (isNone (tallyRefusal l)) (over out 0 (tallyOf l)) out
+
+-- what the answer says
+abbrev pub answerOf : Tallied → Option Refusal
+answerOf Counted = none
+answerOf (Refused number place) = refuse number place
+
+-- the sum of a list: of the counts it is the number of records, which is proved of them
+unfoldable pub sum : List ℕ → ℕ
+sum [] = 0
+sum (n ∷ l) = n + sum l

@@ -1,0 +1,106 @@
+-- Document 01, module 10: "The Rust's texts". Each text once, with the values that it shows; a text's form is "the message's position among that code's messages in validate.rs, from 0".
+use Prim.Native.Nat.{ℕ}
+use Prim.Native.String.{String}
+use mathlib.Core.List.{List, [], _∷_}
+use Rattle.text.specs.Literal.{ascii}
+
+-- what a text can show beside its own bytes
+pub data Hole : Type 0 where
+  -- nothing
+  empty : Hole
+  -- the finding's two numbers
+  first : Hole
+  second : Hole
+  -- a verse position: the first number, and the letter that the second is
+  position : Hole
+  -- the table's name of the node's marker
+  entryName : Hole
+  -- the source's name of the owner, whose node the first number is
+  ownerName : Hole
+  -- a chapter's or a verse's number as written
+  label : Hole
+  -- the same where it is glued to its marker, the name that it is glued to, and the name with it
+  gluedLabel : Hole
+  bareName : Hole
+  gluedName : Hole
+  -- a milestone's
+  base : Hole
+  -- one of the four names of an alternate or a published number, the letter of its owner's marker, and what its owner is
+  numberName : Hole
+  owner : Hole
+  unit : Hole
+  bookCode : Hole
+
+-- where the values of a text stand, and its first value in capitals
+abbrev pub v1 : List ℕ
+v1 = 1 ∷ []
+
+abbrev pub v2 : List ℕ
+v2 = 2 ∷ []
+
+abbrev pub v3 : List ℕ
+v3 = 3 ∷ []
+
+abbrev pub V1 : List ℕ
+V1 = 4 ∷ []
+
+abbrev pub say : String → List ℕ
+say s = ascii s
+
+-- a code, its three values, and its texts in order
+pub record Code : Type 0 where
+  pub code : ℕ
+  pub h1 : Hole
+  pub h2 : Hole
+  pub h3 : Hole
+  pub forms : List (List (List ℕ))
+
+abbrev pub of : ℕ → Hole → Hole → Hole → List (List (List ℕ)) → Code
+of code h1 h2 h3 forms = record { code = code; h1 = h1; h2 = h2; h3 = h3; forms = forms }
+
+unfoldable pub documentTexts : List Code
+documentTexts =
+    of 4 empty empty empty ((say "document has chapters/verses but no \\id (book) marker" ∷ []) ∷ [])
+    ∷ of 5 bookCode empty empty ((say "book code \"" ∷ v1 ∷ say "\" should be uppercase: \"" ∷ V1 ∷ say "\"" ∷ []) ∷ (say "\"" ∷ v1 ∷ say "\" is not a valid USFM book code" ∷ []) ∷ [])
+    ∷ of 6 empty empty empty ((say "more than one \\id marker" ∷ []) ∷ [])
+    ∷ of 7 empty empty empty ((say "text appears before the \\id marker" ∷ []) ∷ [])
+    ∷ of 8 empty empty empty ((say "the document has no \\c (chapter) marker" ∷ []) ∷ [])
+    ∷ []
+
+unfoldable pub numberTexts : List Code
+numberTexts =
+    of 9 first second empty ((say "expected chapter " ∷ v1 ∷ say " but found " ∷ v2 ∷ []) ∷ [])
+    ∷ of 10 first second empty ((say "chapter " ∷ v1 ∷ say " appears more than once" ∷ []) ∷ [])
+    ∷ of 11 position label empty ((say "expected verse " ∷ v1 ∷ say " but found " ∷ v2 ∷ []) ∷ [])
+    ∷ of 12 empty empty empty ((say "\\v is not inside a body paragraph (e.g. \\c or \\s directly followed by \\v with no \\p)" ∷ []) ∷ [])
+    ∷ of 15 label empty empty ((say "chapter number `" ∷ v1 ∷ say "` has leading zeros" ∷ []) ∷ (say "verse number `" ∷ v1 ∷ say "` has leading zeros" ∷ []) ∷ [])
+    ∷ of 18 empty empty empty ((say "\\c is missing its chapter number" ∷ []) ∷ [])
+    ∷ of 19 empty empty empty ((say "\\v is missing its verse number" ∷ []) ∷ [])
+    ∷ of 20 empty empty empty ((say "a character marker spans a verse boundary (\\v inside a \\char span)" ∷ []) ∷ [])
+    ∷ of 34 gluedName bareName gluedLabel ((say "\\" ∷ v1 ∷ say " needs a space before its number; read as \\" ∷ v2 ∷ say " " ∷ v3 ∷ []) ∷ [])
+    ∷ []
+
+unfoldable pub markerTexts : List Code
+markerTexts =
+    of 13 entryName empty empty ((say "\\" ∷ v1 ∷ say " is only valid inside a note" ∷ []) ∷ [])
+    ∷ of 14 empty empty empty ((say "\\b (blank line) must not contain content" ∷ []) ∷ [])
+    ∷ of 16 base empty empty ((say "milestone \\" ∷ v1 ∷ say "-s has no matching \\" ∷ v1 ∷ say "-e" ∷ []) ∷ (say "milestone \\" ∷ v1 ∷ say "-e has no matching \\" ∷ v1 ∷ say "-s" ∷ []) ∷ [])
+    ∷ of 21 empty empty empty ((say "\\fig has no caption content" ∷ []) ∷ [])
+    ∷ of 23 empty empty empty ((say "\\rb is missing its required \"gloss\" attribute" ∷ []) ∷ [])
+    ∷ of 24 entryName empty empty ((say "body paragraph \\" ∷ v1 ∷ say " appears before any \\c (chapter)" ∷ []) ∷ [])
+    ∷ of 25 empty empty empty ((say "\\w has no text content or attributes" ∷ []) ∷ [])
+    ∷ of 27 first second empty ((say "expected table column " ∷ v1 ∷ say " but found column " ∷ v2 ∷ []) ∷ [])
+    ∷ of 33 numberName owner unit ((say "\\" ∷ v1 ∷ say " must directly follow its \\" ∷ v2 ∷ say " (at most once per " ∷ v3 ∷ say "); it is kept as character text" ∷ []) ∷ [])
+    ∷ []
+
+unfoldable pub attributeTexts : List Code
+attributeTexts =
+    of 17 empty empty empty
+    ((say "empty attribute list after `|`" ∷ [])
+    ∷ (say "attribute key without a `=\"value\"`" ∷ [])
+    ∷ (say "attribute has an empty value (e.g. `lemma=\"\"`)" ∷ [])
+    ∷ (say "unterminated quoted attribute value" ∷ [])
+    ∷ [])
+    ∷ of 22 empty empty empty ((say "attribute value must be quoted" ∷ []) ∷ [])
+    ∷ of 32 ownerName empty empty ((say "\\" ∷ v1 ∷ say " has no default attribute; the value after `|` is invalid" ∷ []) ∷ [])
+    ∷ []
