@@ -100,7 +100,7 @@ pub enum Answer {
 }
 
 // Whether one of the numbers turns it back; if none does, how many entries the table has.
-enum Gate {
+pub enum Gate {
     Open(usize),
     Shut(u64, u64),
 }
@@ -203,7 +203,7 @@ fn text_gate(
 }
 
 // Numbers 1 to 10; where none is given, the words are the table's index.
-fn table_gate(
+pub fn table_gate(
     table: &[u8],
     words: &mut [u64],
     source: &[u8],

@@ -28,7 +28,7 @@ enum Found {
 }
 
 // Whether a name ends in a hyphen and the letter.
-fn ends_in(name: &[u8], letter: u8) -> bool
+pub fn ends_in(name: &[u8], letter: u8) -> bool
     ensures { λ r. ⌜ r ≡ endsIn letter (now (name .entry)) ⌝ }
 {
     let n = name.len();
@@ -42,7 +42,7 @@ fn ends_in(name: &[u8], letter: u8) -> bool
 }
 
 // A name without its last two bytes: a part of it.
-fn base(name: &[u8]) -> &[u8]
+pub fn base(name: &[u8]) -> &[u8]
     ensures { λ r. ⌜ now r ≡ baseIn (now (name .entry)) ⌝ }
 {
     let n = name.len();

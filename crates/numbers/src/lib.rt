@@ -73,7 +73,7 @@ fn label_splits(info: Info, text: &[u8]) -> bool
     false
 }
 
-fn is_numbered(kind: u8) -> bool
+pub fn is_numbered(kind: u8) -> bool
     ensures { λ r. ⌜ r ≡ numbered kind ⌝ }
 {
     if kind == 3 { true } else { kind == 4 }

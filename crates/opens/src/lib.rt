@@ -76,7 +76,7 @@ fn is_text(source: &[u8], tape: &[u8], i: usize, blank: bool) -> bool
 }
 
 // The first word of the first Text of a run; empty where there is none.
-fn book_code<'a, 'b>(source: &'a [u8], tape: &'b [u8], from: usize, to: usize) -> &'a [u8]
+pub fn book_code<'a, 'b>(source: &'a [u8], tape: &'b [u8], from: usize, to: usize) -> &'a [u8]
     requires { ⌜ Run (now source) (now tape) from to ⌝ }
     ensures { λ r. ⌜ now r ≡ bookCode (forest (now (source .entry)) (now (tape .entry)) from to) ⌝ }
 {
@@ -267,7 +267,7 @@ fn after_id(named: bool, source: &[u8], tape: &[u8], from: usize, to: usize, rec
     }
 }
 
-fn is_one_of_four(name: &[u8]) -> bool
+pub fn is_one_of_four(name: &[u8]) -> bool
     ensures { λ r. ⌜ r ≡ oneOf fourNames (now (name .entry)) ⌝ }
 {
     if table::same(b"ca", name) {

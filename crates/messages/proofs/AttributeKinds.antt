@@ -1,0 +1,74 @@
+-- What holds of the six kinds of findings that attributes can have holds of all that are found of an attribute.
+-- Assumes nothing.
+use Prim.Native.Nat.{ℕ}
+use mathlib.Core.Bool.{Bool, true, false}
+use mathlib.Core.List.{List, [], _∷_}
+use lib.Dec.{eqb}
+use lib.ListN.{length}
+use Rattle.text.specs.Blank.{blank}
+use Rattle.text.specs.Characters.{chars}
+use Rattle.text.specs.declared.Decoded.{Decoded}
+use Rattle.table.specs.Names.{defaultOf}
+use Rattle.findings.specs.Finding.{Kind}
+use Rattle.attributes.specs.Attributes.{emptyList, keyAlone, emptyValue, unterminated, unquotedValue, noDefault, Mode, between, key, value, opened, quoted, escaping, unquoted, inQuotes, Step, go, tell, stop, pickStep, step, ended, resume, scan, body, pickKinds, hasDefault, holdsEquals, attributeKinds}
+use Rattle.messages.proofs.Every.{AllOf}
+
+pub record OfAttributes (P : Kind → Type 0) : Type 0 where
+  pub empty-list : P emptyList
+  pub key-alone : P keyAlone
+  pub empty-value : P emptyValue
+  pub not-ended : P unterminated
+  pub not-quoted : P unquotedValue
+  pub no-default : P noDefault
+
+module _ (P : Kind → Type 0) (six : OfAttributes P) where
+  abbrev InStep : Step → Type 0
+  InStep (go m) = Unit {0}
+  InStep (tell k m) = P k
+  InStep (stop k) = P k
+
+  in-pick : (b : Bool) (x y : Step) → InStep x → InStep y → InStep (pickStep b x y)
+  in-pick true x y p q = p
+  in-pick false x y p q = q
+
+  in-quotes : (c : ℕ) → InStep (inQuotes c)
+  in-quotes c = in-pick (eqb c 0x5C) (go escaping) (go quoted) tt tt
+
+  in-step : (m : Mode) (c : ℕ) → InStep (step m c)
+  unfolding step
+  in-step between c = in-pick (blank c) _ _ tt (in-pick (eqb c 0x3D) _ _ tt tt)
+  in-step key c = in-pick (eqb c 0x3D) _ _ tt (in-pick (blank c) _ _ (six .key-alone) tt)
+  in-step value c = in-pick (eqb c 0x22) _ _ tt (in-pick (blank c) _ _ (six .not-quoted) (six .not-quoted))
+  in-step opened c = in-pick (eqb c 0x22) _ _ (six .empty-value) (in-quotes c)
+  in-step quoted c = in-pick (eqb c 0x22) _ _ tt (in-quotes c)
+  in-step escaping c = in-quotes c
+  in-step unquoted c = in-pick (blank c) _ _ tt tt
+
+  at-end : (m : Mode) → AllOf P (ended m)
+  at-end between = tt
+  at-end key = (six .key-alone, tt)
+  at-end value = (six .not-quoted, tt)
+  at-end opened = (six .not-ended, tt)
+  at-end quoted = (six .not-ended, tt)
+  at-end escaping = (six .not-ended, tt)
+  at-end unquoted = tt
+
+  resumed : (x : Step) (rest : Mode → List Kind) → InStep x → ((m : Mode) → AllOf P (rest m)) → AllOf P (resume x rest)
+  resumed (go m) rest p h = h m
+  resumed (tell k m) rest p h = (p, h m)
+  resumed (stop k) rest p h = (p, tt)
+
+  scanned : (m : Mode) (cs : List Decoded) → AllOf P (scan m cs)
+  unfolding scan
+  scanned m [] = at-end m
+  scanned m (c ∷ cs) = resumed (step m (c .cp)) (λ n. scan n cs) (in-step m (c .cp)) (λ n. scanned n cs)
+
+  pub all-kinds : (marker text : List ℕ) → AllOf P (attributeKinds marker text)
+  unfolding attributeKinds
+  all-kinds marker text = by (eqb (length (body text)) 0) (holdsEquals (body text)) (hasDefault (defaultOf marker))
+    where
+      by : (a b c : Bool) → AllOf P (pickKinds a (emptyList ∷ []) (pickKinds b (scan between (chars (body text))) (pickKinds c [] (noDefault ∷ []))))
+      by true b c = (six .empty-list, tt)
+      by false true c = scanned between (chars (body text))
+      by false false true = tt
+      by false false false = (six .no-default, tt)

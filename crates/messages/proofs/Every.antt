@@ -1,0 +1,47 @@
+-- What holds of every element of a list, and of every finding that a list of checks gives.
+-- Assumes nothing.
+use mathlib.Core.Path.{_≡_, refl}
+use mathlib.Core.Bool.{Bool, true, false}
+use mathlib.Core.List.{List, [], _∷_, _++_}
+use Rattle.tape.specs.Nodes.{Node}
+use Rattle.findings.specs.Finding.{Finding}
+use Rattle.findings.specs.Written.{only}
+use Rattle.attributes.specs.Attributes.{pickFindings}
+use Rattle.validate.specs.Checks.{Check, given}
+use Rattle.validate.specs.Milestones.{sameBase, pickNodes, without}
+
+abbrev pub AllOf : {A : Type 0} → (A → Type 0) → List A → Type 0
+AllOf P [] = Unit {0}
+AllOf P (x ∷ xs) = P x × AllOf P xs
+
+pub all-append : {A : Type 0} (P : A → Type 0) (xs ys : List A) → AllOf P xs → AllOf P ys → AllOf P (xs ++ ys)
+all-append P [] ys p q = q
+all-append P (x ∷ xs) ys p q = (p .0, all-append P xs ys (p .1) q)
+
+-- of what is left when one is taken out
+pub all-without : (P : Node → Type 0) (x : Node) (xs : List Node) → AllOf P xs → AllOf P (without x xs)
+unfolding without
+all-without P x [] h = tt
+all-without P x (y ∷ ys) h = go (sameBase y x) (all-without P x ys (h .1))
+  where
+    go : (b : Bool) → AllOf P (without x ys) → AllOf P (pickNodes b ys (y ∷ without x ys))
+    go true k = h .1
+    go false k = (h .0, k)
+
+-- of the finding of a check, if the check holds
+abbrev pub WhenHeld : (Finding → Type 0) → Check → Type 0
+WhenHeld P c = c .holds ≡ true → P (c .finding)
+
+module _ (P : Finding → Type 0) where
+  pub all-only : (b : Bool) (f : Finding) → (b ≡ true → P f) → AllOf P (only b f)
+  all-only true f h = (h refl, tt)
+  all-only false f h = tt
+
+  pub all-pick : (b : Bool) (fs : List Finding) → AllOf P fs → AllOf P (pickFindings b fs [])
+  all-pick true fs h = h
+  all-pick false fs h = tt
+
+  pub all-given : (cs : List Check) → AllOf (WhenHeld P) cs → AllOf P (given cs)
+  unfolding given
+  all-given [] h = tt
+  all-given (c ∷ cs) h = all-append P (only (c .holds) (c .finding)) (given cs) (all-only (c .holds) (c .finding) (h .0)) (all-given cs (h .1))

@@ -1,0 +1,11 @@
+pub mod Values
+pub mod Plain
+pub mod Shown
+pub mod Nine
+pub mod Every
+pub mod LowLetters
+pub mod AttributeKinds
+pub mod HasMessage
+pub mod Digits
+pub mod Lengths
+pub mod Parts

@@ -1,0 +1,55 @@
+-- What a text shows of a source is no longer than the source; a verse position has one letter or none.
+-- Assumes nothing.
+use Prim.Native.Nat.{ℕ, zero, suc, _+_, _≤_}
+use mathlib.Core.Path.{_≡_, refl}
+use mathlib.Core.Bool.{Bool, true, false}
+use mathlib.Core.List.{List, [], _∷_}
+use mathlib.Core.Option.{Option}
+use native.Mathlib.Omega.{arith}
+use lib.Dec.{eqb}
+use lib.ListN.{length}
+use Rattle.text.specs.Pick.{cut}
+use Rattle.text.specs.Words.{firstWord}
+use Rattle.tape.specs.Nodes.{span, nodeAt}
+use Rattle.tape.specs.Forest.{forest, Nested, done, one, inner}
+use Rattle.tape.proofs.Nest.{forest-done, forest-leaf, forest-node}
+use Rattle.table.specs.Entries.{Entry}
+use Rattle.cursor.specs.Inner.{Run}
+use Rattle.numbers.specs.Label.{labelOf, pickList}
+use Rattle.validate.specs.Checks.{bookCode}
+use Rattle.messages.specs.Message.{letter}
+use Rattle.messages.proofs.Lengths.{cut-short, label-short}
+
+pick-short : (m : ℕ) (b : Bool) (x y : List ℕ) → length x ≤ m → length y ≤ m → length (pickList b x y) ≤ m
+pick-short m true x y h k = h
+pick-short m false x y h k = k
+
+-- a node's label, or none
+pub label-inside : (s t : List ℕ) (i : ℕ) (e : Option Entry) (b : Bool) (label : List ℕ) → label ≡ pickList b (labelOf e (nodeAt s t i .text)) [] → length label ≤ length s
+label-inside s t i e b label is =
+    let l = label-short e (nodeAt s t i .text) in
+    let c = cut-short (span t i) s in
+    rw is (pick-short (length s) b (labelOf e (nodeAt s t i .text)) [] (omega (arith, l, c)) (omega arith))
+
+-- the book code of a run
+code-short : (s t : List ℕ) {d a b : ℕ} → Nested t d a b → length (bookCode (forest s t a b)) ≤ length s
+unfolding bookCode
+code-short s t {d} {a} {b} (done e) = rw (forest-done s t a b (omega arith)) (omega arith)
+code-short s t {d} {a} {b} (one h z r) =
+    let x = nodeAt s t a in
+    let w = cut-short (firstWord (x .text)) (x .text) in
+    let c = cut-short (span t a) s in
+    rw (forest-leaf s t h z r) (pick-short (length s) (eqb (x .kind) 5) (cut (firstWord (x .text)) (x .text)) (bookCode (forest s t (a + 1) b)) (omega (arith, w, c)) (code-short s t r))
+code-short s t (inner h z c r) = rw (forest-node s t h z c r) (code-short s t r)
+
+pub code-inside : (s t : List ℕ) (a b : ℕ) (code : List ℕ) → Run s t a b → code ≡ bookCode (forest s t a b) → length code ≤ length s
+code-inside s t a b code run is = rw is (code-short s t (run .nested))
+
+-- the letter of a verse position
+pub letter-none : (n : ℕ) → n ≡ 0 → letter n ≡ []
+letter-none zero e = refl
+letter-none (suc n) e = absurd (omega arith)
+
+pub letter-one : (n : ℕ) → (n ≡ 0 → ⊥) → letter n ≡ n ∷ []
+letter-one zero e = absurd (e refl)
+letter-one (suc n) e = refl

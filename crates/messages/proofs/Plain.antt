@@ -1,0 +1,68 @@
+-- The texts of the other codes show nothing.
+-- Assumes nothing.
+use Prim.Native.Nat.{ℕ}
+use mathlib.Core.Path.{_≡_, refl, sym, ap, _∙_}
+use mathlib.Core.Bool.{Bool, true, false}
+use mathlib.Core.List.{List, [], _∷_}
+use mathlib.Core.Logic.{_⊎_, inl, inr}
+use mathlib.Core.Option.{Option, some, none}
+use lib.Dec.{eqb}
+use borrow.Author.Tests.{eqb-true}
+use types.Run.{OneOf}
+use Rattle.texts.specs.Texts.{Code, Hole, documentTexts, numberTexts, markerTexts, attributeTexts}
+use Rattle.texts.specs.Texts as texts
+use Rattle.texts.specs.Filled.{codes, codeOf, formOf, formIn, textIn, filledBy, pickCode, lengthOf, overBy}
+use Rattle.texts.specs.Inner.{values}
+use Rattle.texts.specs.declared.Laid.{Laid}
+use Rattle.messages.specs.Message.{Asked, shown, shownOf, three, textBy}
+use Rattle.messages.specs.Inner.{LaidBy, LaidWith}
+
+abbrev others : List ℕ
+others = 9 ∷ 10 ∷ 11 ∷ 13 ∷ 15 ∷ 16 ∷ 24 ∷ 27 ∷ 32 ∷ 33 ∷ 34 ∷ []
+
+-- the codes whose texts show something
+abbrev pub special : List ℕ
+special = 5 ∷ others
+
+abbrev Plain : Code → Type 0
+Plain c = (OneOf special (c .code)) ⊎ ((c .h1 ≡ texts.empty) × ((c .h2 ≡ texts.empty) × (c .h3 ≡ texts.empty)))
+
+abbrev AllPlain : List Code → Type 0
+AllPlain [] = Unit {0}
+AllPlain (c ∷ cs) = Plain c × AllPlain cs
+
+all-plain : AllPlain codes
+unfolding codes documentTexts numberTexts markerTexts attributeTexts
+all-plain =
+    (inr (refl, (refl, refl)), (inl (inl refl), (inr (refl, (refl, refl)), (inr (refl, (refl, refl)), (inr (refl, (refl, refl)), (inl (inr (inl refl)), (inl (inr (inr (inl refl))), (inl (inr (inr (inr (inl refl)))), (inr (refl, (refl, refl)), (inl (inr (inr (inr (inr (inr (inl refl)))))), (inr (refl, (refl, refl)), (inr (refl, (refl, refl)), (inr (refl, (refl, refl)), (inl (inr (inr (inr (inr (inr (inr (inr (inr (inr (inr (inr (refl)))))))))))), (inl (inr (inr (inr (inr (inl refl))))), (inr (refl, (refl, refl)), (inl (inr (inr (inr (inr (inr (inr (inl refl))))))), (inr (refl, (refl, refl)), (inr (refl, (refl, refl)), (inl (inr (inr (inr (inr (inr (inr (inr (inl refl)))))))), (inr (refl, (refl, refl)), (inl (inr (inr (inr (inr (inr (inr (inr (inr (inl refl))))))))), (inl (inr (inr (inr (inr (inr (inr (inr (inr (inr (inr (inl refl))))))))))), (inr (refl, (refl, refl)), (inr (refl, (refl, refl)), (inl (inr (inr (inr (inr (inr (inr (inr (inr (inr (inl refl)))))))))), tt))))))))))))))))))))))))))
+
+module _ (sh : Hole → Option (List ℕ)) (nothing : sh texts.empty ≡ some []) (n form : ℕ) (other : OneOf special n → ⊥) where
+  found : (cs : List Code) → AllPlain cs → textBy sh (codeOf cs n) form ≡ filledBy (formIn (codeOf cs n) form) (some (values [] [] []))
+  unfolding codeOf
+  found [] h = refl
+  found (c ∷ cs) h = go (eqb (c .code) n) refl (h .0) (found cs (h .1))
+    where
+      go : (b : Bool) → eqb (c .code) n ≡ b → Plain c → textBy sh (codeOf cs n) form ≡ filledBy (formIn (codeOf cs n) form) (some (values [] [] [])) → textBy sh (pickCode b (some c) (codeOf cs n)) form ≡ filledBy (formIn (pickCode b (some c) (codeOf cs n)) form) (some (values [] [] []))
+      go true e (inl o) i = absurd (other (rw (eqb-true (c .code) n e) at o))
+      go true e (inr z) i = rw (z .0, z .1 .0, z .1 .1, nothing)
+      go false e p i = i
+
+-- the code is none of these, as an arm for any other code is told
+abbrev pub OtherThan : Type 0 → List ℕ → ℕ → Type 0
+OtherThan N [] n = N
+OtherThan N (k ∷ ks) n = OtherThan (N × (n ≡ k → ⊥)) ks n
+
+told : (N : Type 0) (ks : List ℕ) (n : ℕ) → OtherThan N ks n → N
+told N [] n o = o
+told N (k ∷ ks) n o = told (N × (n ≡ k → ⊥)) ks n o .0
+
+none-of : (N : Type 0) (k : ℕ) (ks : List ℕ) (n : ℕ) → OtherThan N (k ∷ ks) n → OneOf (k ∷ ks) n → ⊥
+none-of N k [] n o e = o .1 e
+none-of N k (j ∷ ks) n o (inl e) = told (N × (n ≡ k → ⊥)) (j ∷ ks) n o .1 e
+none-of N k (j ∷ ks) n o (inr r) = none-of (N × (n ≡ k → ⊥)) j ks n o r
+
+pub laid-plain : (table s t : List ℕ) (q : Asked) → OtherThan (Unit {0}) special (q .code) → (l l′ : List ℕ) (r : Laid) → LaidWith q [] [] [] l l′ r → LaidBy table s t q l l′ r
+unfolding shownOf
+laid-plain table s t q other l l′ r h =
+    let z : textBy (shown table s t q) (codeOf codes (q .code)) (q .form) ≡ filledBy (textIn codes (q .code) (q .form)) (some (values [] [] [])) = found (shown table s t q) refl (q .code) (q .form) (none-of (Unit {0}) 5 others (q .code) other) codes all-plain in
+    record { length-is = h .length-is ∙ ap lengthOf (sym z); list-is = h .list-is ∙ ap (λ (o : Option (List ℕ)). overBy o l) (sym z) }

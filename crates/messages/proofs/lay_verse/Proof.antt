@@ -1,0 +1,63 @@
+-- `messages::lay_verse` meets its contract.
+-- Assumes nothing.
+use mathlib.Core.List.{[], _++_}
+use native.Mathlib.Omega.{arith}
+use denote.Ref.{now}
+use borrow.Author.Needs.{needs}
+use Rattle.tape.specs.Nodes.{kindAt}
+use Rattle.cursor.specs.Info.{infoAt}
+use Rattle.numbers.specs.Label.{numbered}
+use Rattle.laying.specs.Decimal.{decimal}
+use Rattle.texts.specs.Texts as texts
+use Rattle.messages.specs.Message.{letter}
+use Rattle.messages.specs.Inner.{askedBy}
+use Rattle.messages.proofs.Values.{holes-11, laid-with, laid-lacks}
+use Rattle.messages.proofs.Shown.{far-letter, verse-lacks, verse-shown}
+use Rattle.messages.proofs.Parts.{label-inside}
+use Rattle.messages.proofs.lay_verse.Statement.{statement}
+use Rattle.messages.proofs.lay_verse.Tie as tie
+
+returns : tie.Need-returns
+returns c =
+    let s = c .before .before .before .before .before .before .before in
+    let a = s .args in
+    let q = askedBy (a .q) in
+    laid-lacks (now (a .table)) (now (a .source)) (now (a .tape)) q texts.position texts.label texts.empty (holes-11 (q .code) (s .pre .1)) (far-letter (now (a .table)) (now (a .source)) (now (a .tape)) q (c .if1 .taken)) (now (a .out))
+
+label-shown-requires : tie.Need-label-shown-requires
+label-shown-requires c κs = search needs
+
+returns-2 : tie.Need-returns-2
+returns-2 c =
+    let n = c .before in
+    let s = n .before .before .before .before .before .before .before .before in
+    let a = s .args in
+    let q = askedBy (a .q) in
+    laid-lacks (now (a .table)) (now (a .source)) (now (a .tape)) q texts.position texts.label texts.empty (holes-11 (q .code) (s .pre .1)) (verse-lacks (now (a .table)) (now (a .source)) (now (a .tape)) q (now (n .label-shown .result)) (n .label-shown .ensures) (n .before .if1 .left) (c .if2 .taken)) (now (a .out))
+
+lay-position-requires : tie.Need-lay-position-requires
+lay-position-requires c κs =
+    let n = c .before .before in
+    let s = n .before .before .before .before .before .before .before .before in
+    let a = s .args in
+    let q = askedBy (a .q) in
+    let l = label-inside (now (a .source)) (now (a .tape)) (q .node) (infoAt (now (a .table)) (now (a .tape)) (q .node)) (numbered (kindAt (now (a .tape)) (q .node))) (now (n .label-shown .result)) (n .label-shown .ensures) in
+    (n .before .if1 .left, omega (arith, l, s .pre .0 .short))
+
+same-length : tie.Need-same-length
+same-length c = search needs
+
+returns-3 : tie.Need-returns-3
+returns-3 c =
+    let p = c .before .before in
+    let e = p .before .before in
+    let n = e .before in
+    let s = n .before .before .before .before .before .before .before .before in
+    let a = s .args in
+    let q = askedBy (a .q) in
+    laid-with (now (a .table)) (now (a .source)) (now (a .tape)) q texts.position texts.label texts.empty (holes-11 (q .code) (s .pre .1)) (decimal (q .first) ++ letter (q .second)) (now (n .label-shown .result)) [] (verse-shown (now (a .table)) (now (a .source)) (now (a .tape)) q (now (n .label-shown .result)) (n .label-shown .ensures) (n .before .if1 .left) (e .if2 .left)) (now (a .out)) (p .lay-position .last .1 .1 .1 .1 .1 .0) (p .lay-position .result) (p .lay-position .ensures)
+
+pub lay-verse-spec : {M : Type 1} → statement M
+lay-verse-spec =
+    tie.close
+    (tie.spec returns label-shown-requires returns-2 lay-position-requires same-length returns-3)

@@ -1,0 +1,15 @@
+-- `messages::shows_entry` meets its contract.
+-- Assumes nothing.
+use borrow.Author.Tests.{eq-eqb, ne-eqb}
+use borrow.Author.Needs.{needs}
+use Rattle.messages.proofs.shows_entry.Statement.{statement}
+use Rattle.messages.proofs.shows_entry.Tie as tie
+
+returns : tie.Need-returns
+returns c = simp (eq-eqb _ _ (c .if1 .taken))
+
+returns-2 : tie.Need-returns-2
+returns-2 c = simp (ne-eqb _ _ (c .if1 .left))
+
+pub shows-entry-spec : {M : Type 1} → statement M
+shows-entry-spec = tie.close (tie.spec returns returns-2)

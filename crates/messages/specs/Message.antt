@@ -1,0 +1,114 @@
+-- Document 01, module 10 and numbers 12 and 13: the text of a finding.
+use Prim.Native.Nat.{ℕ, zero, suc, _+_, _-_}
+use mathlib.Core.Bool.{Bool, true, false, not}
+use mathlib.Core.List.{List, [], _∷_, _++_}
+use mathlib.Core.Option.{Option, some, none}
+use lib.Dec.{eqb, ltb, leb}
+use lib.ListN.{length, getD, take, drop}
+use Rattle.text.specs.Pick.{both, either, pickNat, cut}
+use Rattle.text.specs.Literal.{ascii}
+use Rattle.tape.specs.Nodes.{Node, count, linkAt, isOpen, nodeAt}
+use Rattle.tape.specs.Forest.{forest}
+use Rattle.tape.specs.Reading.{Refusal, refuse, onlyIf, orElse}
+use Rattle.table.specs.Bytes.{oneOf}
+use Rattle.table.specs.Entries.{Entry}
+use Rattle.cursor.specs.Names.{nameOf}
+use Rattle.cursor.specs.Info.{infoAt}
+use Rattle.numbers.specs.Label.{isGlued, labelOf, numbered}
+use Rattle.findings.specs.Finding.{Finding}
+use Rattle.validate.specs.Checks.{bookCode, fourNames}
+use Rattle.validate.specs.Milestones.{isStart, isEnd, baseOf}
+use Rattle.laying.specs.Decimal.{decimal}
+use Rattle.texts.specs.Texts as texts
+use Rattle.texts.specs.Texts.{Hole, Code}
+use Rattle.texts.specs.Filled.{Values, codes, codeOf, formOf, filledBy}
+
+-- what a text is asked for: of a finding's words, those that are looked at
+pub record Asked : Type 0 where
+  pub code : ℕ
+  pub form : ℕ
+  pub node : ℕ
+  pub first : ℕ
+  pub second : ℕ
+
+abbrev pub askedOf : Finding → Asked
+askedOf f = record { code = f .code; form = f .form; node = f .node; first = f .first; second = f .second }
+
+abbrev pub onlyIfTrue : Bool → List ℕ → Option (List ℕ)
+onlyIfTrue true s = some s
+onlyIfTrue false s = none
+
+-- the letter of a verse position: a byte, or none
+abbrev pub letter : ℕ → List ℕ
+letter zero = []
+letter (suc n) = suc n ∷ []
+
+-- the name in the table: "`\fr` outside a note shows the table's name"
+abbrev pub nameIn : List ℕ → Option Entry → Option (List ℕ)
+nameIn table none = none
+nameIn table (some e) = some (cut (e .name) table)
+
+-- "a Chapter's or Verse's nonempty label (glued for code 34)"
+abbrev pub labelIn : Option Entry → Node → Option (List ℕ)
+labelIn e x = onlyIfTrue (both (numbered (x .kind)) (not (eqb (length (labelOf e (x .text))) 0))) (labelOf e (x .text))
+
+abbrev pub glued : Option Entry → Node → Bool
+glued e x = both (numbered (x .kind)) (isGlued e (nameOf (x .text)))
+
+abbrev pub unitOf : Bool → List ℕ
+unitOf true = ascii "chapter"
+unitOf false = ascii "verse"
+
+-- "for code 33 one of its four names": the name as written, of which `ca` and `cp` are a chapter's; the root has no text
+abbrev pub isNumber : ℕ → Node → Bool
+isNumber i x = both (not (eqb i 0)) (oneOf fourNames (nameOf (x .text)))
+
+abbrev pub ofChapter : Node → Bool
+ofChapter x = eqb (getD (nameOf (x .text)) 0 0) 0x63
+
+-- "a milestone base"
+abbrev pub hasBase : ℕ → Node → Bool
+hasBase i x = both (not (eqb i 0)) (either (isStart x) (isEnd x))
+
+-- "a MarkerOpen's book code"
+abbrev pub codeIn : Node → List ℕ → Option (List ℕ)
+codeIn x code = onlyIfTrue (both (isOpen (x .kind)) (not (eqb (length code) 0))) code
+
+-- what a text shows of the node with its table entry and the children's book code, or none where it lacks that
+unfoldable pub shownOf : List ℕ → List ℕ → List ℕ → Asked → Option Entry → Node → Hole → Option (List ℕ)
+shownOf table s t q e x texts.empty = some []
+shownOf table s t q e x texts.first = some (decimal (q .first))
+shownOf table s t q e x texts.second = some (decimal (q .second))
+shownOf table s t q e x texts.position = onlyIfTrue (leb (q .second) 127) (decimal (q .first) ++ letter (q .second))
+shownOf table s t q e x texts.entryName = nameIn table e
+shownOf table s t q e x texts.ownerName = onlyIfTrue (both (not (eqb (q .first) 0)) (ltb (q .first) (count t))) (nameOf (nodeAt s t (q .first) .text))
+shownOf table s t q e x texts.label = labelIn e x
+shownOf table s t q e x texts.gluedLabel = onlyIfTrue (glued e x) (labelOf e (x .text))
+shownOf table s t q e x texts.bareName = onlyIfTrue (glued e x) (take (length (nameOf (x .text)) - length (labelOf e (x .text))) (nameOf (x .text)))
+shownOf table s t q e x texts.gluedName = onlyIfTrue (glued e x) (nameOf (x .text))
+shownOf table s t q e x texts.base = onlyIfTrue (hasBase (q .node) x) (baseOf x)
+shownOf table s t q e x texts.numberName = onlyIfTrue (isNumber (q .node) x) (nameOf (x .text))
+shownOf table s t q e x texts.owner = onlyIfTrue (isNumber (q .node) x) (take 1 (nameOf (x .text)))
+shownOf table s t q e x texts.unit = onlyIfTrue (isNumber (q .node) x) (unitOf (ofChapter x))
+shownOf table s t q e x texts.bookCode = codeIn x (bookCode (forest s t (q .node + 1) (linkAt t (q .node))))
+
+abbrev pub shown : List ℕ → List ℕ → List ℕ → Asked → Hole → Option (List ℕ)
+shown table s t q h = shownOf table s t q (infoAt table t (q .node)) (nodeAt s t (q .node)) h
+
+abbrev pub three : Option (List ℕ) → Option (List ℕ) → Option (List ℕ) → Option Values
+three none y z = none
+three (some a) none z = none
+three (some a) (some b) none = none
+three (some a) (some b) (some c) = some (record { a = a; b = b; c = c })
+
+abbrev pub textBy : (Hole → Option (List ℕ)) → Option Code → ℕ → Option (List ℕ)
+textBy shown none form = none
+textBy shown (some c) form = filledBy (formOf (c .forms) form) (three (shown (c .h1)) (shown (c .h2)) (shown (c .h3)))
+
+abbrev pub pickText : Bool → Option (List ℕ) → Option (List ℕ) → Option (List ℕ)
+pickText true a b = a
+pickText false a b = b
+
+-- the text, or none: "code and form unknown to validate.rs, node or owner not on the tape, letter over 127, or the node lacks what the text needs"
+unfoldable pub messageText : List ℕ → List ℕ → List ℕ → Asked → Option (List ℕ)
+messageText table s t q = pickText (ltb (q .node) (count t)) (textBy (shown table s t q) (codeOf codes (q .code)) (q .form)) none

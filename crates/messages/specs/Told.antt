@@ -1,0 +1,54 @@
+-- What the entry for a text answers: numbers 1 to 9, 12 and 13, or the text's length, and the lent list afterwards.
+use Prim.Native.Nat.{ℕ}
+use mathlib.Core.Bool.{Bool, true, false}
+use mathlib.Core.List.{List, []}
+use mathlib.Core.Option.{Option, some, none}
+use lib.Dec.{ltb}
+use lib.ListN.{length}
+use Rattle.tape.specs.Reading.{Refusal, refuse, onlyIf, orElse}
+use Rattle.validate.specs.Outcome.{Lent, of1, of2, of3, ofTape, of9}
+use Rattle.laying.specs.Over.{over}
+use Rattle.messages.specs.Message.{Asked, messageText}
+
+-- a document, with nothing else lent
+abbrev pub document : List ℕ → List ℕ → List ℕ → Lent
+document table s t = record { table = table; source = s; tape = t; seen = []; openStarts = []; list = [] }
+
+-- "Message (after 1 to 9)"
+unfoldable pub firstNine : List ℕ → List ℕ → List ℕ → Option Refusal
+firstNine table s t =
+    orElse (of1 (document table s t)) (orElse (of2 (document table s t)) (orElse (of3 (document table s t)) (orElse (ofTape (document table s t)) (of9 (document table s t)))))
+
+-- a refusal, or so many bytes
+pub data Told : Type 0 where
+  refused : Refusal → Told
+  laid : ℕ → Told
+
+-- 13: "Message list too short; place: length needed."
+abbrev pub pickTold : Bool → Told → Told → Told
+pickTold true a b = a
+pickTold false a b = b
+
+abbrev pub byRoom : Option (List ℕ) → ℕ → Told
+byRoom none room = refused (record { number = 12; place = 0 })
+byRoom (some text) room = pickTold (ltb room (length text)) (refused (record { number = 13; place = length text })) (laid (length text))
+
+abbrev pub toldBy : Option Refusal → Option (List ℕ) → ℕ → Told
+toldBy (some r) text room = refused r
+toldBy none text room = byRoom text room
+
+abbrev pub told : List ℕ → List ℕ → List ℕ → Asked → List ℕ → Told
+told table s t q out = toldBy (firstNine table s t) (messageText table s t q) (length out)
+
+-- "from the list's start, with their length; bytes beyond are untouched"; a refusal writes nothing
+abbrev pub pickBytes : Bool → List ℕ → List ℕ → List ℕ
+pickBytes true a b = a
+pickBytes false a b = b
+
+abbrev pub bytesBy : Option Refusal → Option (List ℕ) → List ℕ → List ℕ
+bytesBy (some r) text out = out
+bytesBy none none out = out
+bytesBy none (some text) out = pickBytes (ltb (length out) (length text)) out (over out 0 text)
+
+abbrev pub bytesAfter : List ℕ → List ℕ → List ℕ → Asked → List ℕ → List ℕ
+bytesAfter table s t q out = bytesBy (firstNine table s t) (messageText table s t q) out
