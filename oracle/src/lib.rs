@@ -14,6 +14,7 @@ pub mod books;
 pub mod coverage;
 pub mod differ;
 pub mod document;
+pub mod examples;
 pub mod exhaustive;
 pub mod features;
 pub mod forms;
@@ -21,6 +22,7 @@ pub mod generate;
 pub mod judge;
 #[cfg(feature = "library")]
 pub mod library;
+pub mod listing;
 pub mod parts;
 pub mod recorded;
 pub mod refusals;

@@ -1,0 +1,53 @@
+-- `check_exercise::tell_checked` meets its contract.
+-- Assumes nothing.
+use denote.Ref.{now}
+use Rattle.messages.proofs.Nine.{is-accepted}
+use borrow.Author.Needs.{needs}
+use Rattle.check_exercise.proofs.tell_checked.Statement.{statement}
+use Rattle.check_exercise.proofs.tell_checked.Tie as tie
+
+tell-counts-requires : tie.Need-tell-counts-requires
+tell-counts-requires c κs = search needs
+
+slice-aggregate-table-gate : tie.Need-slice-aggregate-table-gate
+slice-aggregate-table-gate c = search needs
+
+table-gate-requires : tie.Need-table-gate-requires
+table-gate-requires c κs = search needs
+
+enum-known-entries : tie.Need-enum-known-entries
+enum-known-entries c = search needs
+
+enum-told : tie.Need-enum-told
+enum-told c = search needs
+
+returns : tie.Need-returns
+returns c = search needs
+
+slice-aggregate-tell-findings : tie.Need-slice-aggregate-tell-findings
+slice-aggregate-tell-findings c = search needs
+
+tell-findings-requires : tie.Need-tell-findings-requires
+tell-findings-requires c κs =
+    let g = c .before .before .before .before .before .table-gate in
+    let s = c .before .before .before .before .before .before .before .before .before .before .before .before in
+    let a = s .args in
+    let m = c .before .before .entries .given in
+    (rw (m .1) at (g .ensures .1), is-accepted (now (a .table)) (now (a .source)) (now (a .tape)) (g .result) (g .ensures .0) (m .0 .0) (m .1), s .pre)
+
+returns-2 : tie.Need-returns-2
+returns-2 c = search needs
+
+pub tell-checked-spec : {M : Type 1} → statement M
+tell-checked-spec =
+    tie.close
+    (tie.spec
+    tell-counts-requires
+    slice-aggregate-table-gate
+    table-gate-requires
+    enum-known-entries
+    enum-told
+    returns
+    slice-aggregate-tell-findings
+    tell-findings-requires
+    returns-2)

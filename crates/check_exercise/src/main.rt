@@ -1,0 +1,244 @@
+// Reads table.txt, source.usfm and nodes.bin of the current folder, checks them and writes the listing.
+use libc::STDOUT_FILENO;
+use marking::Answer;
+use marking::Gate;
+use marking::Report;
+use messages::Asked;
+use messages::Told;
+ghost use mathlib.Core.Path.{_≡_};
+ghost use Prim.Native.Nat.{_*_, _≤_};
+ghost use lib.ListN.{length};
+ghost use Rattle.tape.specs.Forest.{Accepted};
+ghost use Rattle.table.specs.Entries.{Indexed};
+
+// One byte more than a file may have.
+fn room() -> [u8; 65537]
+    ensures { λ r. ⌜ 65537 ≡ length r ⌝ }
+{
+    [0; 65537]
+}
+
+// A line or a column for each place of a source, its end among them.
+fn marks() -> [u32; 65537]
+    ensures { λ r. ⌜ 65537 ≡ length r ⌝ }
+{
+    [0; 65537]
+}
+
+// The lines of a finding whose message fills its list.
+fn lines_room() -> [u8; 66048]
+    ensures { λ r. ⌜ 66048 ≡ length r ⌝ }
+{
+    [0; 66048]
+}
+
+// Findings, 1,024 of them; or open starts, for 4,096 nodes.
+fn words() -> [u64; 8192]
+    ensures { λ r. ⌜ 8192 ≡ length r ⌝ }
+{
+    [0; 8192]
+}
+
+// Chapters seen, for 4,096 nodes.
+fn numbers() -> [u32; 4096]
+    ensures { λ r. ⌜ 4096 ≡ length r ⌝ }
+{
+    [0; 4096]
+}
+
+// How many bytes a file has, up to the list's length; none where it can't be read.
+fn read(path: &[u8], file: &mut [u8]) -> usize
+    ensures { λ r. ⌜ r ≤ length (now (file .exit)) ⌝ }
+{
+    let fd = os::open_read(path);
+    if fd < 0 {
+        return 0;
+    }
+    let n = io::read_full(fd, file);
+    libc::close(fd);
+    n
+}
+
+// What was laid at the list's start, up to a place.
+fn write(out: &[u8], end: usize) {
+    if end <= out.len() {
+        io::write_all(STDOUT_FILENO, &out[..end]);
+    }
+}
+
+fn tell_too_large() {
+    let mut out = [0u8; 64];
+    let end = listing::put_too_large(&mut out, 0);
+    write(&out, end);
+}
+
+fn tell_refused(number: u64, place: u64) {
+    let mut out = [0u8; 128];
+    let end = listing::put_refused(&mut out, 0, number, place);
+    write(&out, end);
+}
+
+fn tell_counts(r: Report) {
+    let mut out = [0u8; 256];
+    let end = listing::put_checked(&mut out, 0, r.errors, r.warnings, r.infos, r.total);
+    write(&out, end);
+}
+
+// The entry of a list at a place, or 0 past it.
+fn at(list: &[u32], i: usize) -> u64 {
+    if i < list.len() { list[i] as u64 } else { 0 }
+}
+
+// The text that was laid; one that doesn't fit is shown as empty.
+fn shown(told: Told, text: &[u8]) -> &[u8]
+    ensures { λ r. ⌜ length (now r) ≤ length (now (text .entry)) ⌝ }
+{
+    match told {
+        Told::Laid(n) => first(text, n),
+        Told::Refused(_, _) => first(text, 0),
+    }
+}
+
+// So many bytes of a list, or none where it has fewer.
+fn first(text: &[u8], n: usize) -> &[u8]
+    ensures { λ r. ⌜ length (now r) ≤ length (now (text .entry)) ⌝ }
+{
+    if text.len() < n {
+        return &text[..0];
+    }
+    &text[..n]
+}
+
+// The lines of one finding, its eight words.
+fn tell_finding<'a>(
+    table: &'a [u8],
+    index: &[u64],
+    entries: usize,
+    source: &'a [u8],
+    tape: &[u8],
+    f: &[u64],
+    lines: &[u32],
+    columns: &[u32],
+    text: &mut [u8],
+    out: &mut [u8],
+)
+    requires { ⌜ (Indexed (now table) (now index) entries) × (Accepted (now source) (now tape)) × (length (now source) ≤ 1048576) × (8 ≤ length (now f)) × (length (now text) ≤ 1048576) ⌝ }
+{
+    let q = Asked {
+        code: f[1],
+        form: f[5],
+        node: f[4],
+        first: f[6],
+        second: f[7],
+    };
+    let told = messages::message_in(table, index, entries, source, tape, q, text);
+    let start = f[2] as usize;
+    let line = at(lines, start);
+    let column = at(columns, start);
+    let end = listing::put_finding(out, 0, f[0], f[1], line, column, shown(told, text));
+    write(out, end);
+}
+
+// How many of the findings stand in the list.
+fn held(list: &[u64], written: usize) -> usize
+    ensures { λ r. ⌜ 8 * r ≤ length (now (list .entry)) ⌝ }
+{
+    if written < list.len() / 8 {
+        written
+    } else {
+        list.len() / 8
+    }
+}
+
+// The held findings, one after the other.
+fn tell_findings<'a>(
+    table: &'a [u8],
+    index: &[u64],
+    entries: usize,
+    source: &'a [u8],
+    tape: &[u8],
+    list: &[u64],
+    written: usize,
+)
+    requires { ⌜ (Indexed (now table) (now index) entries) × (Accepted (now source) (now tape)) × (length (now source) ≤ 65536) ⌝ }
+{
+    let mut lines = marks();
+    let mut columns = marks();
+    listing::mark(source, &mut lines, &mut columns);
+    let mut text = io::large_buffer();
+    let mut out = lines_room();
+    let n = held(list, written);
+    let mut k: usize = 0;
+    while k < n {
+        let from = 8 * k;
+        tell_finding(
+            table,
+            index,
+            entries,
+            source,
+            tape,
+            &list[from..],
+            &lines,
+            &columns,
+            &mut text,
+            &mut out,
+        );
+        k += 1;
+    }
+}
+
+// The counts, and the held findings.
+fn tell_checked<'a>(table: &'a [u8], source: &'a [u8], tape: &[u8], r: Report, list: &[u64])
+    requires { ⌜ length (now source) ≤ 65536 ⌝ }
+{
+    tell_counts(r);
+    let mut index = [0u64; 512];
+    let Gate::Open(entries) = marking::table_gate(table, &mut index, source, tape, 65535, 131070)
+    else {
+        return;
+    };
+    tell_findings(
+        table,
+        &index,
+        entries,
+        source,
+        tape,
+        list,
+        r.written as usize,
+    );
+}
+
+fn exercise<'a>(table: &'a [u8], source: &'a [u8], tape: &[u8])
+    requires { ⌜ length (now source) ≤ 65536 ⌝ }
+{
+    let mut seen = numbers();
+    let mut opens = words();
+    let mut list = words();
+    match marking::check(table, source, tape, &mut seen, &mut opens, &mut list) {
+        Answer::Refused(number, place) => tell_refused(number, place),
+        Answer::Checked(r) => tell_checked(table, source, tape, r, &list),
+        Answer::Cut(r) => tell_checked(table, source, tape, r, &list),
+    }
+}
+
+fn main() {
+    let mut table = room();
+    let mut source = room();
+    let mut nodes = room();
+    let a = read(b"table.txt", &mut table);
+    let b = read(b"source.usfm", &mut source);
+    let c = read(b"nodes.bin", &mut nodes);
+    if 65536 < a {
+        tell_too_large();
+        return;
+    }
+    if 65536 < b {
+        tell_too_large();
+        return;
+    }
+    if 65536 < c {
+        tell_too_large();
+        return;
+    }
+    exercise(&table[..a], &source[..b], &nodes[..c]);
+}

@@ -1,0 +1,94 @@
+//! Folders of files for check-exercise, with what it prints.
+
+use crate::document::{Document, NODE_BYTES, Node, kind};
+use crate::refusals::DEEPEST;
+use crate::samples::{self, Sketch, entry, listing, read};
+
+/// A passage in several scripts, each check of a whole book somewhere in it.
+const GREEK: &str = "\\id JHN Κατὰ Ἰωάννην\n\\c 1\n\\p \\v 1 Ἐν ἀρχῇ ἦν ὁ λόγος, \\nd θεὸς\\nd*\n\\v 3 πάντα δι’ αὐτοῦ \\ft ἐγένετο\\ft* \\w λόγος|lemma=λόγος\\w*\n\\c 2\n\\v 01 Καὶ τῇ ἡμέρᾳ\n\\p \\v2 καὶ \\qt-s |who=\"Ἰησοῦς\"\\*τί ἐμοὶ\n";
+const ARABIC: &str = "\\id GEN سفر التكوين\n\\c 1\n\\p \\v 1 فِي ٱلْبَدْءِ \\add خلق\\add* \\v ٢ ٱللهُ\n\\v 2 وَكَانَتِ ٱلْأَرْضُ \\w خَرِبَةً|\\w* \\qt-e\\* \\va ٣\\va*\n";
+const TELLING: &str = "text \\id gen\n\\p early\n\\c 01\n\\s \\v 1 a\n\\p \\nd \\v 3 b\\nd* \\ft out\\ft*\n\\b full\n\\c\n\\c 5\n\\c 5\n\\p \\v \n\\fig |src=\"a\"\\fig* \\w \\w* \\rb word\\rb* \\w a|\\w* \\w b|x=\"\\w* \\w c|k v=\"1\"\\w* \\w d|v=\"\"\\w* \\w e|v=w\\w* \\nd f|g\\nd*\n\\tr \\tc2 h\n\\p \\cp 3\\cp* \\qt-s\\* \\zaln-e\\*\n\\id XYZ\n";
+
+/// The document of document 01's listing with another node at a place.
+fn with_node(place: usize, change: impl FnOnce(&mut Node)) -> Document {
+    let mut document = listing();
+    let mut node = document.node(place);
+    change(&mut node);
+    document.set_node(place, node);
+    document
+}
+
+fn refused() -> Vec<(&'static str, Document)> {
+    let mut table = listing();
+    table.table.truncate(table.table.len() - 1);
+    let mut source = listing();
+    source.source[23] = 0xE9;
+    let mut tape = listing();
+    tape.tape.pop();
+    let mut deep = Sketch::default();
+    for _ in 0..=DEEPEST {
+        deep.open(0, "\\p ");
+    }
+    let mut split = Sketch::default();
+    split.leaf(kind::VERSE, 0, "\\vé1 ", 1);
+    vec![
+        ("refused-1", table),
+        ("refused-3", source),
+        ("refused-4", tape),
+        ("refused-5", with_node(7, |node| node.kind = 9)),
+        ("refused-6", with_node(7, |node| node.len = 5)),
+        ("refused-7", with_node(5, |node| node.link = 7)),
+        ("refused-8", deep.under(&[entry("p", 3, 2)])),
+        ("refused-9", split.under(&[entry("vv", 2, 0)])),
+    ]
+}
+
+/// More findings than the listing holds.
+fn many() -> Document {
+    let mut sketch = Sketch::default();
+    for verse in 0..1_030 {
+        let text = format!("\\v {} \n", 3 * verse + 2);
+        sketch.leaf(kind::VERSE, 0, &text, 0);
+    }
+    sketch.under(&[entry("v", 2, 0)])
+}
+
+/// A book code that fills the source, so that its message is longer than the listing's room.
+fn long_message() -> Document {
+    let code = "x".repeat(65_530);
+    read(&format!("\\id {code}"))
+}
+
+/// Files of the largest size: blank text, and texts without a byte.
+fn full(extra: usize) -> Document {
+    let mut sketch = Sketch::default();
+    sketch.open(0, "\\id").text(" GEN").end();
+    while sketch.nodes.len() < 65_536 / NODE_BYTES {
+        sketch.text("");
+    }
+    sketch
+        .source
+        .push_str(&" ".repeat(65_536 + extra - sketch.source.len()));
+    sketch.under(&[entry("id", 0, 1)])
+}
+
+/// Every example by its name.
+pub fn examples() -> Vec<(&'static str, Document)> {
+    let mut list = refused();
+    list.extend([
+        ("listing", listing()),
+        ("greek", read(GREEK)),
+        ("arabic", read(ARABIC)),
+        ("telling", read(TELLING)),
+        ("many", many()),
+        ("long-message", long_message()),
+        ("full", full(0)),
+        ("too-large", full(1)),
+        ("empty", Document::default()),
+        (
+            "clean",
+            samples::read("\\id GEN\n\\c 1\n\\p \\v 1 a \\v 2 b\n"),
+        ),
+    ]);
+    list
+}

@@ -1,0 +1,81 @@
+//! The listing of document 01, plainly: from the published findings and the refusals.
+
+use std::fmt::Write;
+
+use crate::coverage::code_name;
+use crate::document::Document;
+use crate::judge::{Found, Judged, judge};
+use crate::refusals::refusal;
+
+const LARGEST_FILE: usize = 65_536;
+const MOST_FINDINGS: usize = 1_024;
+const LONGEST_MESSAGE: usize = 65_536;
+
+const SEVERITIES: [&str; 3] = ["error", "warning", "info"];
+
+/// Line and column of a place, both from 1; a column is a byte.
+fn place(source: &[u8], at: usize) -> (usize, usize) {
+    let before = &source[..at];
+    let lines = before.iter().filter(|&&byte| byte == b'\n').count();
+    let start = before.iter().rposition(|&byte| byte == b'\n');
+    (lines + 1, at - start.map_or(0, |start| start + 1) + 1)
+}
+
+fn finding(out: &mut String, source: &[u8], found: &Found) {
+    let (line, column) = place(source, found.start as usize);
+    let shown = found.message.len() <= LONGEST_MESSAGE;
+    let message = if shown { found.message.as_str() } else { "" };
+    let severity = SEVERITIES[found.severity as usize];
+    let code = code_name(found.code);
+    write!(
+        out,
+        "severity={severity}\ncode={code}\nline={line}\ncolumn={column}\nmessage={message}\n"
+    )
+    .expect("a string takes all");
+}
+
+/// What check-exercise prints for these three files.
+pub fn listing(document: &Document) -> String {
+    let files = [&document.table, &document.source, &document.tape];
+    if files.iter().any(|file| file.len() > LARGEST_FILE) {
+        return "verdict=toolarge\n".to_string();
+    }
+    if let Some((number, place)) = refusal(document, usize::MAX, usize::MAX) {
+        return format!("verdict=refused\nrefusal={number}\nplace={place}\n");
+    }
+    let Judged::Findings(list) = judge(document) else {
+        panic!("no sum of an example leaves 32 bits");
+    };
+    let count = |severity: u32| list.iter().filter(|f| f.severity == severity).count();
+    let mut out = format!(
+        "verdict=checked\nerrors={}\nwarnings={}\ninfos={}\nfindings={}\n",
+        count(0),
+        count(1),
+        count(2),
+        list.len()
+    );
+    for found in list.iter().take(MOST_FINDINGS) {
+        finding(&mut out, &document.source, found);
+    }
+    out
+}
+
+#[cfg(test)]
+mod tests {
+    use super::*;
+    use crate::samples;
+
+    #[test]
+    fn the_example_of_document_01() {
+        let expected = "verdict=checked\nerrors=0\nwarnings=1\ninfos=0\nfindings=1\nseverity=warning\ncode=InvalidVerseSequence\nline=4\ncolumn=1\nmessage=expected verse 1 but found 2\n";
+        assert_eq!(listing(&samples::listing()), expected);
+    }
+
+    #[test]
+    fn places_count_from_one() {
+        assert_eq!(place(b"a\nb", 0), (1, 1));
+        assert_eq!(place(b"a\nb", 1), (1, 2));
+        assert_eq!(place(b"a\nb", 2), (2, 1));
+        assert_eq!(place(b"a\nb", 3), (2, 2));
+    }
+}
