@@ -1,14 +1,9 @@
--- An answer as nine words, and words laid over a lent list.
+-- An answer as nine words.
 use Prim.Native.Nat.{ℕ}
 use mathlib.Core.Bool.{Bool, true, false}
-use mathlib.Core.List.{List, [], _∷_, _++_}
-use lib.ListN.{length, take, drop}
+use mathlib.Core.List.{List, [], _∷_}
 use Rattle.tape.specs.Reading.{Refusal}
 use Rattle.validate.specs.Outcome.{Answer, Checked, refused, checked}
-
--- the first words that fit, and the list beyond them
-abbrev pub laid : List ℕ → List ℕ → List ℕ
-laid words l = take (length l) words ++ drop (length words) l
 
 abbrev pub reportWords : ℕ → ℕ → ℕ → ℕ → ℕ → ℕ → ℕ → List ℕ
 reportWords verdict total written verses errors warnings infos =

@@ -4,11 +4,12 @@ use marking::Report;
 ghost use mathlib.Core.Path.{_≡_};
 ghost use Rattle.validate.specs.Outcome.{answer, listAfter, seenAfter, openAfter};
 ghost use Rattle.marking.specs.Entry.{answerOf, lent};
-ghost use Rattle.exports.specs.Words.{laid, answerWords, reportWords, refusalWords};
+ghost use Rattle.laying.specs.Over.{over};
+ghost use Rattle.exports.specs.Words.{answerWords, reportWords, refusalWords};
 
 // Words laid over a lent list, as far as there is room.
 fn lay(words: &[u64], out: &mut [u64])
-    ensures { λ r. ⌜ now (out .exit) ≡ laid (now (words .entry)) (now (out .entry)) ⌝ }
+    ensures { λ r. ⌜ now (out .exit) ≡ over (now (out .entry)) 0 (now (words .entry)) ⌝ }
 {
     let mut i: usize = 0;
     while i < words.len() && i < out.len() {
@@ -18,7 +19,7 @@ fn lay(words: &[u64], out: &mut [u64])
 }
 
 fn lay_report(verdict: u64, r: Report, out: &mut [u64])
-    ensures { λ q. ⌜ now (out .exit) ≡ laid (reportWords verdict (r .total) (r .written) (r .verses) (r .errors) (r .warnings) (r .infos)) (now (out .entry)) ⌝ }
+    ensures { λ q. ⌜ now (out .exit) ≡ over (now (out .entry)) 0 (reportWords verdict (r .total) (r .written) (r .verses) (r .errors) (r .warnings) (r .infos)) ⌝ }
 {
     let words = [
         verdict,
@@ -35,14 +36,14 @@ fn lay_report(verdict: u64, r: Report, out: &mut [u64])
 }
 
 fn lay_refusal(number: u64, place: u64, out: &mut [u64])
-    ensures { λ q. ⌜ now (out .exit) ≡ laid (refusalWords number place) (now (out .entry)) ⌝ }
+    ensures { λ q. ⌜ now (out .exit) ≡ over (now (out .entry)) 0 (refusalWords number place) ⌝ }
 {
     let words = [2, number, place, 0, 0, 0, 0, 0, 0];
     lay(&words, out);
 }
 
 fn lay_answer(a: Answer, out: &mut [u64])
-    ensures { λ r. ⌜ now (out .exit) ≡ laid (answerWords (answerOf a)) (now (out .entry)) ⌝ }
+    ensures { λ r. ⌜ now (out .exit) ≡ over (now (out .entry)) 0 (answerWords (answerOf a)) ⌝ }
 {
     match a {
         Answer::Checked(r) => lay_report(0, r, out),
@@ -63,7 +64,7 @@ pub extern "C" fn harkoxin_check(
     list: &mut [u64],
     out: &mut [u64],
 )
-    ensures answer { λ r. ⌜ now (out .exit) ≡ laid (answerWords (answer (lent (now (table .entry)) (now (source .entry)) (now (tape .entry)) (now (seen .entry)) (now (opens .entry)) (now (list .entry))))) (now (out .entry)) ⌝ }
+    ensures answer { λ r. ⌜ now (out .exit) ≡ over (now (out .entry)) 0 (answerWords (answer (lent (now (table .entry)) (now (source .entry)) (now (tape .entry)) (now (seen .entry)) (now (opens .entry)) (now (list .entry))))) ⌝ }
     ensures list { λ r. ⌜ now (list .exit) ≡ listAfter (lent (now (table .entry)) (now (source .entry)) (now (tape .entry)) (now (seen .entry)) (now (opens .entry)) (now (list .entry))) ⌝ }
     ensures seen { λ r. ⌜ now (seen .exit) ≡ seenAfter (lent (now (table .entry)) (now (source .entry)) (now (tape .entry)) (now (seen .entry)) (now (opens .entry)) (now (list .entry))) ⌝ }
     ensures opens { λ r. ⌜ now (opens .exit) ≡ openAfter (lent (now (table .entry)) (now (source .entry)) (now (tape .entry)) (now (seen .entry)) (now (opens .entry)) (now (list .entry))) ⌝ }

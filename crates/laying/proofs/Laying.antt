@@ -2,9 +2,9 @@
 -- Assumes nothing.
 use Prim.Native.Nat.{ℕ, suc, _+_, _<_, _≤_}
 use native.Mathlib.Omega.{arith}
-use native.Mathlib.Nat.{add-zero, add-assoc}
+use native.Mathlib.Nat.{add-zero, zero-add, add-assoc}
 use native.Mathlib.Numerals.{add-one}
-use mathlib.Core.Path.{_≡_, refl, sym, _∙_}
+use mathlib.Core.Path.{_≡_, refl, sym, subst, _∙_}
 use mathlib.Core.List.{List}
 use lib.ListN.{length, drop, set, getD, length-set, drop-of-length-le}
 use lib.Seq.{drop-cons}
@@ -34,3 +34,9 @@ module _ (s l₀ : List ℕ) (at : ℕ) (l : List ℕ) (i : ℕ) (y : Laying s l
 
   pub laying-end : length s ≤ i → l ≡ over l₀ at s
   laying-end h = sym (over-none l (at + i)) ∙ rw (drop-of-length-le s {i = i} h) at (y .whole)
+
+-- the same from the list's start
+pub laying-first : (s l₀ l : List ℕ) (i : ℕ) → Laying s l₀ 0 l i → i < length s → i < length l → Laying s l₀ 0 (set l i (getD s i 0)) (i + 1)
+laying-first s l₀ l i y h k =
+    let z : 0 + i ≡ i = zero-add i in
+    subst (λ (n : ℕ). Laying s l₀ 0 (set l n (getD s i 0)) (i + 1)) z (laying-on s l₀ 0 l i y h (rw z k))

@@ -23,7 +23,7 @@ use Rattle.marking.specs.declared.Gate.{Gate}
 use Rattle.marking.specs.declared.Gate.the-variants as gate
 use Rattle.marking.specs.Entry.{answerOf, gateOf, Passed, fromTable, fromTape, Fit, Finished, lent}
 
-or-assoc : (a b c : Option Refusal) → orElse (orElse a b) c ≡ orElse a (orElse b c)
+pub or-assoc : (a b c : Option Refusal) → orElse (orElse a b) c ≡ orElse a (orElse b c)
 or-assoc none b c = refl
 or-assoc (some r) b c = refl
 

@@ -34,7 +34,7 @@ use Rattle.validate.specs.Document.{textBefore, unclosed, closing, walked, runn
 use Rattle.validate.specs.Outcome.{Lent, refusal, listOf}
 use Rattle.validate.proofs.Demand3.{checked-accepted}
 use Rattle.texts.specs.Texts.{documentTexts, numberTexts, markerTexts, attributeTexts}
-use Rattle.texts.specs.Filled.{codes, codeOf, formOf}
+use Rattle.texts.specs.Filled.{allTexts, codeOf, formOf}
 use Rattle.messages.specs.Message.{askedOf, shownOf, textBy, messageText}
 use Rattle.messages.proofs.Every.{AllOf, all-append, all-without, WhenHeld, all-only, all-pick, all-given}
 use Rattle.messages.proofs.LowLetters.{next-low, breaks-some}
@@ -82,14 +82,14 @@ module _ (table s t : List ℕ) where
     label = labelOf e (x .text)
 
     -- a finding about it has its text if what the text shows is there; the text does not depend on the severity
-    said : (code form first second : ℕ) → isSome (textBy (shownOf table s t (askedOf (about x 0 code form first second)) e x) (codeOf codes code) form) ≡ true → Has (about x 0 code form first second)
+    said : (code form first second : ℕ) → isSome (textBy (shownOf table s t (askedOf (about x 0 code form first second)) e x) (codeOf allTexts code) form) ≡ true → Has (about x 0 code form first second)
     unfolding messageText
     said code form first second h =
         let q = askedOf (about x 0 code form first second) in
-        is-some (messageText table s t q) (rw (lt-ltb i (count t) low) (subst (λ (o : Option Entry). isSome (textBy (shownOf table s t q o x) (codeOf codes code) form) ≡ true) (sym entry) h))
+        is-some (messageText table s t q) (rw (lt-ltb i (count t) low) (subst (λ (o : Option Entry). isSome (textBy (shownOf table s t q o x) (codeOf allTexts code) form) ≡ true) (sym entry) h))
 
     number-checks : numbered (kindAt t i) ≡ true → (chapter : Bool) → AllOf (WhenHeld Has) (numberForm (pickNat chapter 0 1) e x)
-    unfolding codes documentTexts numberTexts codeOf formOf shownOf
+    unfolding allTexts documentTexts numberTexts codeOf formOf shownOf
     number-checks k chapter = (λ h. said 34 0 0 0 (rw (k, h)), (λ h. zeros chapter (longer-some (length label) _ h), tt))
       where
         zeros : (chapter : Bool) → not (eqb (length label) 0) ≡ true → Has (error x 15 (pickNat chapter 0 1))
@@ -97,12 +97,12 @@ module _ (table s t : List ℕ) where
         zeros false h = said 15 1 0 0 (rw (k, h))
 
     chapter-checks : numbered (kindAt t i) ≡ true → (st : State) → AllOf (WhenHeld Has) (chapterChecks e st x)
-    unfolding codes documentTexts numberTexts codeOf formOf shownOf
+    unfolding allTexts documentTexts numberTexts codeOf formOf shownOf
     chapter-checks k st =
         (λ h. said 18 0 0 0 refl, (λ h. said 10 0 (x .link) 0 refl, (λ h. said 9 0 (st .chapter) (x .link) refl, number-checks k true)))
 
     verse-checks : numbered (kindAt t i) ≡ true → (o : Around) (st : State) → letterByte (st .verse .letter) ≤ 127 → AllOf (WhenHeld Has) (verseChecks e o st x)
-    unfolding codes documentTexts numberTexts codeOf formOf shownOf
+    unfolding allTexts documentTexts numberTexts codeOf formOf shownOf
     verse-checks k o st l =
         (λ h. said 12 0 0 0 refl, (λ h. said 20 0 0 0 refl, (λ h. said 19 0 0 0 refl, (λ h. sequence (breaks-some label (st .verse) h), number-checks k false))))
       where
@@ -110,15 +110,15 @@ module _ (table s t : List ℕ) where
         sequence h = said 11 0 (st .verse .number) (letterByte (st .verse .letter)) (rw (le-leb (letterByte (st .verse .letter)) 127 l, k, h))
 
     text-said : Has (warning x 7 0)
-    unfolding codes documentTexts codeOf formOf shownOf
+    unfolding allTexts documentTexts codeOf formOf shownOf
     text-said = said 7 0 0 0 refl
 
     cell-said : (expected found : ℕ) → Has (outOfOrder x expected found)
-    unfolding codes documentTexts numberTexts markerTexts codeOf formOf shownOf
+    unfolding allTexts documentTexts numberTexts markerTexts codeOf formOf shownOf
     cell-said expected found = said 27 0 expected found refl
 
     attribute-said : (owner : ℕ) → 1 ≤ owner → owner < count t → OfAttributes (λ k. Has (about x 0 (k .code) (k .form) (pickNat (eqb (k .code) 32) owner 0) 0))
-    unfolding codes documentTexts numberTexts markerTexts attributeTexts codeOf formOf shownOf
+    unfolding allTexts documentTexts numberTexts markerTexts attributeTexts codeOf formOf shownOf
     attribute-said owner from below =
         record {
           empty-list = said 17 0 0 0 refl;
@@ -130,7 +130,7 @@ module _ (table s t : List ℕ) where
         }
 
     milestone-said : 1 ≤ i → either (isStart x) (isEnd x) ≡ true → Has (error x 16 0) × Has (error x 16 1)
-    unfolding codes documentTexts numberTexts markerTexts codeOf formOf shownOf
+    unfolding allTexts documentTexts numberTexts markerTexts codeOf formOf shownOf
     milestone-said from h = (said 16 0 0 0 (rw (ne-eqb i 0 (omega arith), h)), said 16 1 0 0 (rw (ne-eqb i 0 (omega arith), h)))
 
   -- the entry that the walk finds is the one that a text shows
@@ -209,7 +209,7 @@ module _ (table s t : List ℕ) where
     known = entry-is i ∙ entry
 
     open-checks : (name : List ℕ) (o : Around) (a : Option Anchor) (st st₁ : State) (f : Forest) → AllOf (WhenHeld Has) (idChecks (equal name idName) st (bookCode below) y ++ placeChecks name e o a st₁ y below f ++ contentChecks name y below)
-    unfolding codes documentTexts numberTexts markerTexts codeOf formOf shownOf
+    unfolding allTexts documentTexts numberTexts markerTexts codeOf formOf shownOf
     open-checks name o a st st₁ f =
         (λ h. tell 6 0 refl, (book (isBook (upper code)), (λ h. tell 13 0 refl, (λ h. tell 14 0 refl, (λ h. tell 24 0 refl, (number, (λ h. tell 21 0 refl, (λ h. tell 25 0 refl, (λ h. tell 23 0 refl, tt)))))))))
       where
@@ -219,7 +219,7 @@ module _ (table s t : List ℕ) where
         written : List ℕ
         written = nameOf (y .text)
 
-        tell : (n form : ℕ) → isSome (textBy (shownOf table s t (askedOf (about y 0 n form 0 0)) (some e) y) (codeOf codes n) form) ≡ true → Has (about y 0 n form 0 0)
+        tell : (n form : ℕ) → isSome (textBy (shownOf table s t (askedOf (about y 0 n form 0 0)) (some e) y) (codeOf allTexts n) form) ≡ true → Has (about y 0 n form 0 0)
         tell n form h = said i low (some e) known n form 0 0 h
 
         -- both forms show the code
@@ -317,7 +317,7 @@ module _ (table s t : List ℕ) where
   unclosed-all (x ∷ xs) h = all-append Has (unclosed xs) (error x 16 0 ∷ []) (unclosed-all xs (h .1)) (h .0, tt)
 
   closing-all : 0 < count t → (st : State) → Fit table s t st → AllOf Has (closing st)
-  unfolding closing codes documentTexts codeOf formOf shownOf
+  unfolding closing allTexts documentTexts codeOf formOf shownOf
   closing-all l st fit =
       all-append Has (unclosed (st .openStarts)) (given _) (unclosed-all (st .openStarts) (fit .starts))
       (all-given Has _ (λ h. said 0 l (infoAt table t 0) refl 4 0 0 0 refl, (λ h. said 0 l (infoAt table t 0) refl 8 0 0 0 refl, tt)))

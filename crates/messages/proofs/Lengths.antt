@@ -41,7 +41,7 @@ cut-short p s =
     let k = take-short (p .len) (drop (p .start) s) in
     omega arith
 
-pub label-short : (e : Option Entry) (text : List ℕ) → length (labelOf e text) ≤ length text
+label-short : (e : Option Entry) (text : List ℕ) → length (labelOf e text) ≤ length text
 unfolding labelOf
 label-short e text = go (isGlued e (nameOf text))
   where

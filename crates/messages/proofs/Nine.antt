@@ -17,9 +17,10 @@ use Rattle.tape.proofs.OneNumber.{accepted, neither, either-false, only-not}
 use Rattle.numbers.specs.Label.{labelRefusal}
 use Rattle.validate.specs.Outcome.{of1, of2, of3, ofTape, of9}
 use Rattle.marking.specs.Entry.{gateOf, listsRefusal, fromLabels, fromTape, fromSource, fromTable}
+use Rattle.marking.proofs.Whole.{or-assoc}
 use Rattle.marking.specs.declared.Gate.{Gate}
 use Rattle.marking.specs.declared.Gate.the-variants as gate
-use Rattle.texts.specs.Filled.{codes, codeOf, lengthOf, overBy}
+use Rattle.texts.specs.Filled.{allTexts, codeOf, lengthOf, overBy}
 use Rattle.texts.specs.Inner.{laidOf}
 use Rattle.texts.specs.declared.Laid.{Laid}
 use Rattle.texts.specs.declared.Laid.the-variants as laid-as
@@ -31,10 +32,6 @@ use Rattle.messages.specs.Told.{document, firstNine, byRoom, bytesBy, re
 or-none : (x : Option Refusal) → orElse x none ≡ x
 or-none none = refl
 or-none (some r) = refl
-
-or-assoc : (a b c : Option Refusal) → orElse (orElse a b) c ≡ orElse a (orElse b c)
-or-assoc none b c = refl
-or-assoc (some r) b c = refl
 
 module _ (table s t : List ℕ) where
   long-enough : (x : Option Refusal) → tapeRefusal s t ≡ x → orElse x (orElse (labelRefusal table s t) (listsRefusal (count t) 65535 131070)) ≡ orElse x (labelRefusal table s t)
@@ -105,7 +102,7 @@ module _ (table s t : List ℕ) (q : Asked) where
   unfolding messageText
   off-tape h = rw (le-ltb (q .node) (count t) h)
 
-  pub on-tape : q .node < count t → textBy (shown table s t q) (codeOf codes (q .code)) (q .form) ≡ messageText table s t q
+  pub on-tape : q .node < count t → textBy (shown table s t q) (codeOf allTexts (q .code)) (q .form) ≡ messageText table s t q
   unfolding messageText
   on-tape h = rw (lt-ltb (q .node) (count t) h)
 
@@ -117,7 +114,7 @@ over-empty (some s) = refl
 -- a text that was laid over no list, and then over the lent one
 module _ (table s t : List ℕ) (q : Asked) (on : q .node < count t) (out none-laid : List ℕ) (r : Laid) (e : LaidBy table s t q [] none-laid r) where
   abbrev o : Option (List ℕ)
-  o = textBy (shown table s t q) (codeOf codes (q .code)) (q .form)
+  o = textBy (shown table s t q) (codeOf allTexts (q .code)) (q .form)
 
   kept : none-laid ++ out ≡ out
   kept = ap (_++ out) (e .list-is ∙ over-empty o)

@@ -4,7 +4,6 @@ use Prim.Native.Nat.{ℕ, zero, suc, _+_, _≤_}
 use mathlib.Core.Path.{_≡_, refl}
 use mathlib.Core.Bool.{Bool, true, false}
 use mathlib.Core.List.{List, [], _∷_}
-use mathlib.Core.Option.{Option}
 use native.Mathlib.Omega.{arith}
 use lib.Dec.{eqb}
 use lib.ListN.{length}
@@ -13,23 +12,15 @@ use Rattle.text.specs.Words.{firstWord}
 use Rattle.tape.specs.Nodes.{span, nodeAt}
 use Rattle.tape.specs.Forest.{forest, Nested, done, one, inner}
 use Rattle.tape.proofs.Nest.{forest-done, forest-leaf, forest-node}
-use Rattle.table.specs.Entries.{Entry}
 use Rattle.cursor.specs.Inner.{Run}
-use Rattle.numbers.specs.Label.{labelOf, pickList}
+use Rattle.numbers.specs.Label.{pickList}
 use Rattle.validate.specs.Checks.{bookCode}
 use Rattle.messages.specs.Message.{letter}
-use Rattle.messages.proofs.Lengths.{cut-short, label-short}
+use Rattle.messages.proofs.Lengths.{cut-short}
 
 pick-short : (m : ℕ) (b : Bool) (x y : List ℕ) → length x ≤ m → length y ≤ m → length (pickList b x y) ≤ m
 pick-short m true x y h k = h
 pick-short m false x y h k = k
-
--- a node's label, or none
-pub label-inside : (s t : List ℕ) (i : ℕ) (e : Option Entry) (b : Bool) (label : List ℕ) → label ≡ pickList b (labelOf e (nodeAt s t i .text)) [] → length label ≤ length s
-label-inside s t i e b label is =
-    let l = label-short e (nodeAt s t i .text) in
-    let c = cut-short (span t i) s in
-    rw is (pick-short (length s) b (labelOf e (nodeAt s t i .text)) [] (omega (arith, l, c)) (omega arith))
 
 -- the book code of a run
 code-short : (s t : List ℕ) {d a b : ℕ} → Nested t d a b → length (bookCode (forest s t a b)) ≤ length s

@@ -11,7 +11,7 @@ use borrow.Author.Tests.{eqb-true}
 use types.Run.{OneOf}
 use Rattle.texts.specs.Texts.{Code, Hole, documentTexts, numberTexts, markerTexts, attributeTexts}
 use Rattle.texts.specs.Texts as texts
-use Rattle.texts.specs.Filled.{codes, codeOf, formOf, formIn, textIn, filledBy, pickCode, lengthOf, overBy}
+use Rattle.texts.specs.Filled.{allTexts, codeOf, formOf, formIn, textIn, filledBy, pickCode, lengthOf, overBy}
 use Rattle.texts.specs.Inner.{values}
 use Rattle.texts.specs.declared.Laid.{Laid}
 use Rattle.messages.specs.Message.{Asked, shown, shownOf, three, textBy}
@@ -31,8 +31,8 @@ abbrev AllPlain : List Code → Type 0
 AllPlain [] = Unit {0}
 AllPlain (c ∷ cs) = Plain c × AllPlain cs
 
-all-plain : AllPlain codes
-unfolding codes documentTexts numberTexts markerTexts attributeTexts
+all-plain : AllPlain allTexts
+unfolding allTexts documentTexts numberTexts markerTexts attributeTexts
 all-plain =
     (inr (refl, (refl, refl)), (inl (inl refl), (inr (refl, (refl, refl)), (inr (refl, (refl, refl)), (inr (refl, (refl, refl)), (inl (inr (inl refl)), (inl (inr (inr (inl refl))), (inl (inr (inr (inr (inl refl)))), (inr (refl, (refl, refl)), (inl (inr (inr (inr (inr (inr (inl refl)))))), (inr (refl, (refl, refl)), (inr (refl, (refl, refl)), (inr (refl, (refl, refl)), (inl (inr (inr (inr (inr (inr (inr (inr (inr (inr (inr (inr (refl)))))))))))), (inl (inr (inr (inr (inr (inl refl))))), (inr (refl, (refl, refl)), (inl (inr (inr (inr (inr (inr (inr (inl refl))))))), (inr (refl, (refl, refl)), (inr (refl, (refl, refl)), (inl (inr (inr (inr (inr (inr (inr (inr (inl refl)))))))), (inr (refl, (refl, refl)), (inl (inr (inr (inr (inr (inr (inr (inr (inr (inl refl))))))))), (inl (inr (inr (inr (inr (inr (inr (inr (inr (inr (inr (inl refl))))))))))), (inr (refl, (refl, refl)), (inr (refl, (refl, refl)), (inl (inr (inr (inr (inr (inr (inr (inr (inr (inr (inl refl)))))))))), tt))))))))))))))))))))))))))
 
@@ -64,5 +64,5 @@ none-of N k (j ∷ ks) n o (inr r) = none-of (N × (n ≡ k → ⊥)) j ks n o r
 pub laid-plain : (table s t : List ℕ) (q : Asked) → OtherThan (Unit {0}) special (q .code) → (l l′ : List ℕ) (r : Laid) → LaidWith q [] [] [] l l′ r → LaidBy table s t q l l′ r
 unfolding shownOf
 laid-plain table s t q other l l′ r h =
-    let z : textBy (shown table s t q) (codeOf codes (q .code)) (q .form) ≡ filledBy (textIn codes (q .code) (q .form)) (some (values [] [] [])) = found (shown table s t q) refl (q .code) (q .form) (none-of (Unit {0}) 5 others (q .code) other) codes all-plain in
+    let z : textBy (shown table s t q) (codeOf allTexts (q .code)) (q .form) ≡ filledBy (textIn allTexts (q .code) (q .form)) (some (values [] [] [])) = found (shown table s t q) refl (q .code) (q .form) (none-of (Unit {0}) 5 others (q .code) other) allTexts all-plain in
     record { length-is = h .length-is ∙ ap lengthOf (sym z); list-is = h .list-is ∙ ap (λ (o : Option (List ℕ)). overBy o l) (sym z) }

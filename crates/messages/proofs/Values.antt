@@ -6,7 +6,7 @@ use mathlib.Core.List.{List, [], _∷_}
 use mathlib.Core.Option.{Option, some, none}
 use Rattle.texts.specs.Texts.{Code, Hole, documentTexts, numberTexts, markerTexts, attributeTexts}
 use Rattle.texts.specs.Texts as texts
-use Rattle.texts.specs.Filled.{Values, codes, codeOf, formOf, textIn, formIn, filledBy, lengthOf, overBy}
+use Rattle.texts.specs.Filled.{Values, allTexts, codeOf, formOf, textIn, formIn, filledBy, lengthOf, overBy}
 use Rattle.texts.specs.Inner.{values, laidOf, LaidAs, LaidFrom}
 use Rattle.texts.specs.declared.Laid.{Laid}
 use Rattle.texts.specs.declared.Laid.the-variants as laid
@@ -20,7 +20,7 @@ unfilled (some f) = refl
 -- the three values of a code
 pub record Holes (n : ℕ) (h1 h2 h3 : Hole) : Type 0 where
   pub text : Code
-  pub is : codeOf codes n ≡ some text
+  pub is : codeOf allTexts n ≡ some text
   pub one : text .h1 ≡ h1
   pub two : text .h2 ≡ h2
   pub third : text .h3 ≡ h3
@@ -30,63 +30,63 @@ module _ (table s t : List ℕ) (q : Asked) (h1 h2 h3 : Hole) (k : Holes (q .cod
   abbrev vs : Option Values
   vs = three (shown table s t q h1) (shown table s t q h2) (shown table s t q h3)
 
-  asked : textBy (shown table s t q) (codeOf codes (q .code)) (q .form) ≡ filledBy (textIn codes (q .code) (q .form)) vs
+  asked : textBy (shown table s t q) (codeOf allTexts (q .code)) (q .form) ≡ filledBy (textIn allTexts (q .code) (q .form)) vs
   asked = rw (k .is, k .one, k .two, k .third)
 
   pub laid-with : (a b c : List ℕ) → vs ≡ some (values a b c) → (l l′ : List ℕ) (r : Laid) → LaidWith q a b c l l′ r → LaidBy table s t q l l′ r
   laid-with a b c e l l′ r h =
-      let z : textBy (shown table s t q) (codeOf codes (q .code)) (q .form) ≡ filledBy (textIn codes (q .code) (q .form)) (some (values a b c)) = asked ∙ ap (filledBy (textIn codes (q .code) (q .form))) e in
+      let z : textBy (shown table s t q) (codeOf allTexts (q .code)) (q .form) ≡ filledBy (textIn allTexts (q .code) (q .form)) (some (values a b c)) = asked ∙ ap (filledBy (textIn allTexts (q .code) (q .form))) e in
       record { length-is = h .length-is ∙ ap lengthOf (sym z); list-is = h .list-is ∙ ap (λ (o : Option (List ℕ)). overBy o l) (sym z) }
 
   pub laid-lacks : vs ≡ none → (l : List ℕ) → LaidBy table s t q l l laid.Lacks
   laid-lacks e l =
-      let z : textBy (shown table s t q) (codeOf codes (q .code)) (q .form) ≡ none = asked ∙ ap (filledBy (textIn codes (q .code) (q .form))) e ∙ unfilled (textIn codes (q .code) (q .form)) in
+      let z : textBy (shown table s t q) (codeOf allTexts (q .code)) (q .form) ≡ none = asked ∙ ap (filledBy (textIn allTexts (q .code) (q .form))) e ∙ unfilled (textIn allTexts (q .code) (q .form)) in
       record { length-is = sym (ap lengthOf z); list-is = sym (ap (λ (o : Option (List ℕ)). overBy o l) z) }
 
 pub holes-5 : (n : ℕ) → n ≡ 5 → Holes n texts.bookCode texts.empty texts.empty
-unfolding codes documentTexts numberTexts markerTexts attributeTexts codeOf
+unfolding allTexts documentTexts numberTexts markerTexts attributeTexts codeOf
 holes-5 n e = rw e (record { text = _; is = refl; one = refl; two = refl; third = refl })
 
 pub holes-9 : (n : ℕ) → n ≡ 9 → Holes n texts.first texts.second texts.empty
-unfolding codes documentTexts numberTexts markerTexts attributeTexts codeOf
+unfolding allTexts documentTexts numberTexts markerTexts attributeTexts codeOf
 holes-9 n e = rw e (record { text = _; is = refl; one = refl; two = refl; third = refl })
 
 pub holes-10 : (n : ℕ) → n ≡ 10 → Holes n texts.first texts.second texts.empty
-unfolding codes documentTexts numberTexts markerTexts attributeTexts codeOf
+unfolding allTexts documentTexts numberTexts markerTexts attributeTexts codeOf
 holes-10 n e = rw e (record { text = _; is = refl; one = refl; two = refl; third = refl })
 
 pub holes-11 : (n : ℕ) → n ≡ 11 → Holes n texts.position texts.label texts.empty
-unfolding codes documentTexts numberTexts markerTexts attributeTexts codeOf
+unfolding allTexts documentTexts numberTexts markerTexts attributeTexts codeOf
 holes-11 n e = rw e (record { text = _; is = refl; one = refl; two = refl; third = refl })
 
 pub holes-13 : (n : ℕ) → n ≡ 13 → Holes n texts.entryName texts.empty texts.empty
-unfolding codes documentTexts numberTexts markerTexts attributeTexts codeOf
+unfolding allTexts documentTexts numberTexts markerTexts attributeTexts codeOf
 holes-13 n e = rw e (record { text = _; is = refl; one = refl; two = refl; third = refl })
 
 pub holes-15 : (n : ℕ) → n ≡ 15 → Holes n texts.label texts.empty texts.empty
-unfolding codes documentTexts numberTexts markerTexts attributeTexts codeOf
+unfolding allTexts documentTexts numberTexts markerTexts attributeTexts codeOf
 holes-15 n e = rw e (record { text = _; is = refl; one = refl; two = refl; third = refl })
 
 pub holes-16 : (n : ℕ) → n ≡ 16 → Holes n texts.base texts.empty texts.empty
-unfolding codes documentTexts numberTexts markerTexts attributeTexts codeOf
+unfolding allTexts documentTexts numberTexts markerTexts attributeTexts codeOf
 holes-16 n e = rw e (record { text = _; is = refl; one = refl; two = refl; third = refl })
 
 pub holes-24 : (n : ℕ) → n ≡ 24 → Holes n texts.entryName texts.empty texts.empty
-unfolding codes documentTexts numberTexts markerTexts attributeTexts codeOf
+unfolding allTexts documentTexts numberTexts markerTexts attributeTexts codeOf
 holes-24 n e = rw e (record { text = _; is = refl; one = refl; two = refl; third = refl })
 
 pub holes-27 : (n : ℕ) → n ≡ 27 → Holes n texts.first texts.second texts.empty
-unfolding codes documentTexts numberTexts markerTexts attributeTexts codeOf
+unfolding allTexts documentTexts numberTexts markerTexts attributeTexts codeOf
 holes-27 n e = rw e (record { text = _; is = refl; one = refl; two = refl; third = refl })
 
 pub holes-32 : (n : ℕ) → n ≡ 32 → Holes n texts.ownerName texts.empty texts.empty
-unfolding codes documentTexts numberTexts markerTexts attributeTexts codeOf
+unfolding allTexts documentTexts numberTexts markerTexts attributeTexts codeOf
 holes-32 n e = rw e (record { text = _; is = refl; one = refl; two = refl; third = refl })
 
 pub holes-33 : (n : ℕ) → n ≡ 33 → Holes n texts.numberName texts.owner texts.unit
-unfolding codes documentTexts numberTexts markerTexts attributeTexts codeOf
+unfolding allTexts documentTexts numberTexts markerTexts attributeTexts codeOf
 holes-33 n e = rw e (record { text = _; is = refl; one = refl; two = refl; third = refl })
 
 pub holes-34 : (n : ℕ) → n ≡ 34 → Holes n texts.gluedName texts.bareName texts.gluedLabel
-unfolding codes documentTexts numberTexts markerTexts attributeTexts codeOf
+unfolding allTexts documentTexts numberTexts markerTexts attributeTexts codeOf
 holes-34 n e = rw e (record { text = _; is = refl; one = refl; two = refl; third = refl })

@@ -1,7 +1,6 @@
 -- What the functions that find a text's values promise.
 use Prim.Native.Nat.{ℕ, _<_, _≤_}
-use mathlib.Core.Path.{_≡_}
-use mathlib.Core.Bool.{Bool, true, false}
+use mathlib.Core.Bool.{Bool}
 use mathlib.Core.List.{List, []}
 use mathlib.Core.Option.{Option, some, none}
 use lib.Dec.{eqb}
@@ -9,9 +8,8 @@ use lib.ListN.{length}
 use Rattle.text.specs.Pick.{either, cut}
 use Rattle.tape.specs.Nodes.{count}
 use Rattle.tape.specs.Forest.{Accepted}
-use Rattle.tape.specs.Reading.{Refusal}
 use Rattle.table.specs.Entries.{Entry, Indexed}
-use Rattle.texts.specs.Filled.{codes, codeOf}
+use Rattle.texts.specs.Filled.{allTexts, codeOf}
 use Rattle.texts.specs.Inner.{LaidAs, LaidFrom}
 use Rattle.texts.specs.declared.Laid.{Laid}
 use Rattle.messages.specs.Message as message
@@ -39,11 +37,11 @@ pub record Readable (table words : List ℕ) (entries : ℕ) (s t : List ℕ) (n
 
 -- the text that is asked for is laid over the list, if there is one
 abbrev pub LaidBy : List ℕ → List ℕ → List ℕ → message.Asked → List ℕ → List ℕ → Laid → Type 0
-LaidBy table s t q l l′ r = LaidAs (textBy (shown table s t q) (codeOf codes (q .code)) (q .form)) l l′ r
+LaidBy table s t q l l′ r = LaidAs (textBy (shown table s t q) (codeOf allTexts (q .code)) (q .form)) l l′ r
 
 -- the text of the code and the form with these values is laid over the list, if there is one
 abbrev pub LaidWith : message.Asked → List ℕ → List ℕ → List ℕ → List ℕ → List ℕ → Laid → Type 0
-LaidWith q a b c l l′ r = LaidFrom codes (q .code) (q .form) a b c l l′ r
+LaidWith q a b c l l′ r = LaidFrom allTexts (q .code) (q .form) a b c l l′ r
 
 -- "`\fr` outside a note shows the table's name"
 abbrev pub isTables : ℕ → Bool

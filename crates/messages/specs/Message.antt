@@ -4,12 +4,11 @@ use mathlib.Core.Bool.{Bool, true, false, not}
 use mathlib.Core.List.{List, [], _∷_, _++_}
 use mathlib.Core.Option.{Option, some, none}
 use lib.Dec.{eqb, ltb, leb}
-use lib.ListN.{length, getD, take, drop}
-use Rattle.text.specs.Pick.{both, either, pickNat, cut}
+use lib.ListN.{length, getD, take}
+use Rattle.text.specs.Pick.{both, either, cut}
 use Rattle.text.specs.Literal.{ascii}
 use Rattle.tape.specs.Nodes.{Node, count, linkAt, isOpen, nodeAt}
 use Rattle.tape.specs.Forest.{forest}
-use Rattle.tape.specs.Reading.{Refusal, refuse, onlyIf, orElse}
 use Rattle.table.specs.Bytes.{oneOf}
 use Rattle.table.specs.Entries.{Entry}
 use Rattle.cursor.specs.Names.{nameOf}
@@ -21,7 +20,7 @@ use Rattle.validate.specs.Milestones.{isStart, isEnd, baseOf}
 use Rattle.laying.specs.Decimal.{decimal}
 use Rattle.texts.specs.Texts as texts
 use Rattle.texts.specs.Texts.{Hole, Code}
-use Rattle.texts.specs.Filled.{Values, codes, codeOf, formOf, filledBy}
+use Rattle.texts.specs.Filled.{Values, allTexts, codeOf, formOf, filledBy}
 
 -- what a text is asked for: of a finding's words, those that are looked at
 pub record Asked : Type 0 where
@@ -111,4 +110,4 @@ pickText false a b = b
 
 -- the text, or none: "code and form unknown to validate.rs, node or owner not on the tape, letter over 127, or the node lacks what the text needs"
 unfoldable pub messageText : List ℕ → List ℕ → List ℕ → Asked → Option (List ℕ)
-messageText table s t q = pickText (ltb (q .node) (count t)) (textBy (shown table s t q) (codeOf codes (q .code)) (q .form)) none
+messageText table s t q = pickText (ltb (q .node) (count t)) (textBy (shown table s t q) (codeOf allTexts (q .code)) (q .form)) none

@@ -23,7 +23,7 @@ ghost use Rattle.messages.specs.Message.{letter, unitOf, messageText};
 ghost use Rattle.messages.specs.Told as answers;
 ghost use Rattle.messages.specs.Told.{byRoom, bytesBy, bytesAfter};
 ghost use Rattle.messages.specs.Inner.{askedBy, toldOf, Readable, LaidBy, nameOr, isTables};
-ghost use Rattle.texts.specs.Filled.{codes};
+ghost use Rattle.texts.specs.Filled.{allTexts};
 ghost use Rattle.texts.specs.Inner.{LaidFrom};
 
 // Of a finding's words, those that a text is asked for with.
@@ -93,7 +93,7 @@ fn label_shown<'a, 'b, 'c, 'd>(
 
 // A text of two numbers.
 fn lay_numbers(code: u64, form: u64, first: u64, second: u64, out: &mut [u8]) -> Laid
-    ensures { λ r. ⌜ LaidFrom codes code form (decimal first) (decimal second) [] (now (out .entry)) (now (out .exit)) r ⌝ }
+    ensures { λ r. ⌜ LaidFrom allTexts code form (decimal first) (decimal second) [] (now (out .entry)) (now (out .exit)) r ⌝ }
 {
     let mut x = [0u8; 20];
     let mut y = [0u8; 20];
@@ -105,7 +105,7 @@ fn lay_numbers(code: u64, form: u64, first: u64, second: u64, out: &mut [u8]) ->
 // A text of a verse position, whose letter is a byte or none, and a label.
 fn lay_position(code: u64, form: u64, first: u64, second: u64, label: &[u8], out: &mut [u8]) -> Laid
     requires { ⌜ (second ≤ 127) × (length (now label) ≤ 1048576) ⌝ }
-    ensures { λ r. ⌜ LaidFrom codes code form (decimal first ++ letter second) (now (label .entry)) [] (now (out .entry)) (now (out .exit)) r ⌝ }
+    ensures { λ r. ⌜ LaidFrom allTexts code form (decimal first ++ letter second) (now (label .entry)) [] (now (out .entry)) (now (out .exit)) r ⌝ }
 {
     let mut x = [0u8; 21];
     let k = laying::put_decimal(&mut x, 0, first);
@@ -163,7 +163,7 @@ fn lay_label(
 // A name, the label that is glued to it, and what the name is without it.
 fn lay_parts(code: u64, form: u64, name: &[u8], label: &[u8], out: &mut [u8]) -> Laid
     requires { ⌜ (length (now label) ≤ length (now name)) × (length (now name) ≤ 1048576) ⌝ }
-    ensures { λ r. ⌜ LaidFrom codes code form (now (name .entry)) (take (length (now (name .entry)) - length (now (label .entry))) (now (name .entry))) (now (label .entry)) (now (out .entry)) (now (out .exit)) r ⌝ }
+    ensures { λ r. ⌜ LaidFrom allTexts code form (now (name .entry)) (take (length (now (name .entry)) - length (now (label .entry))) (now (name .entry))) (now (label .entry)) (now (out .entry)) (now (out .exit)) r ⌝ }
 {
     let end = name.len() - label.len();
     texts::lay_text(code, form, name, &name[..end], label, out)
@@ -281,7 +281,7 @@ fn lay_owner<'a>(
 // A name of an alternate or a published number, the letter of its owner's marker and what its owner is.
 fn lay_unit(code: u64, form: u64, name: &[u8], out: &mut [u8]) -> Laid
     requires { ⌜ (1 ≤ length (now name)) × (length (now name) ≤ 1048576) ⌝ }
-    ensures { λ r. ⌜ LaidFrom codes code form (now (name .entry)) (take 1 (now (name .entry))) (unitOf (eqb (getD (now (name .entry)) 0 0) 0x63)) (now (out .entry)) (now (out .exit)) r ⌝ }
+    ensures { λ r. ⌜ LaidFrom allTexts code form (now (name .entry)) (take 1 (now (name .entry))) (unitOf (eqb (getD (now (name .entry)) 0 0) 0x63)) (now (out .entry)) (now (out .exit)) r ⌝ }
 {
     if name[0] == b'c' {
         return texts::lay_text(code, form, name, &name[..1], b"chapter", out);

@@ -15,15 +15,13 @@ use borrow.Author.Tests.{eq-eqb, ne-eqb}
 use Rattle.text.specs.Pick.{pickNat}
 use Rattle.laying.specs.Over.{over}
 use Rattle.laying.proofs.Over.{length-over, over-again, set-over, getD-over}
-use Rattle.laying.proofs.Laying.{Laying, laying-on}
+use Rattle.laying.proofs.Laying.{Laying, laying-first}
 use Rattle.findings.specs.Finding.{codes}
 use Rattle.tally.specs.Tally.{codeAt, whole, withCode, countsFrom, tallyOf}
 
 -- one count more cleared
 pub clear-on : (l₀ l : List ℕ) (c : ℕ) → Laying (replicate codes 0) l₀ 0 l c → c < codes → c < length l → Laying (replicate codes 0) l₀ 0 (set l c 0) (c + 1)
-clear-on l₀ l c y h k =
-    let z = zero-add c in
-    rw (z, getD-replicate {A = ℕ} codes c 0 0 h) at (laying-on (replicate codes 0) l₀ 0 l c y (rw length-replicate h) (rw z k))
+clear-on l₀ l c y h k = rw (getD-replicate {A = ℕ} codes c 0 0 h) at (laying-first (replicate codes 0) l₀ l c y (rw length-replicate h) k)
 
 length-counts : (l : List ℕ) (c n : ℕ) → length (countsFrom l c n) ≡ n
 unfolding countsFrom

@@ -1,17 +1,17 @@
 -- The tally of the words of findings.
 -- Assumes nothing.
-use Prim.Native.Nat.{ℕ, zero, suc, _+_, _*_, _%_, _<_}
+use Prim.Native.Nat.{ℕ, zero, suc, _+_, _*_, _%_, _<_, _≤_}
 use native.Mathlib.Omega.{arith}
 use mathlib.Core.Path.{_≡_, refl, _∙_}
 use mathlib.Core.Bool.{false}
-use mathlib.Core.List.{List, [], _∷_, append-nil}
+use mathlib.Core.List.{List, [], _∷_}
 use mathlib.Core.Option.{none}
-use lib.ListN.{length, length-append, drop-of-length-le}
-use lib.Seq.{getD-append-add}
+use lib.ListN.{length, take, drop}
+use lib.Seq.{getD-append-add, take-at}
 use borrow.Author.Tests.{eq-eqb, lt-ltb, le-ltb}
 use Rattle.tape.proofs.OneNumber.{all-none}
 use Rattle.findings.specs.Finding.{Finding, codes, wordsOf}
-use Rattle.findings.specs.Written.{encode, overlay}
+use Rattle.findings.specs.Written.{encode}
 use Rattle.findings.proofs.Overlay.{overlay-is, encode-length}
 use Rattle.tape.specs.Forest.{top}
 use Rattle.validate.proofs.Counted.{Graded, graded}
@@ -37,10 +37,9 @@ encode-passes fs h =
 pub encode-sums : (fs : List Finding) → Graded fs → sum (tallyOf (encode fs)) ≡ length fs
 encode-sums fs h = tally-sums (encode fs) (encode-passes fs h) ∙ omega (arith, encode-length fs)
 
--- a list that has room for the findings and for nothing else holds their words
-exactly : (l : List ℕ) (fs : List Finding) → 8 * length fs ≡ length l → overlay l 0 fs ≡ encode fs
-exactly l fs n = overlay-is l 0 fs (omega arith) ∙ rw (drop-of-length-le l {i = 8 * (0 + length fs)} (omega arith)) (append-nil (encode fs))
-
--- a checked document's list, with room for its findings and for nothing else: the tally sums to their number
-pub tally-total : (l : Lent) → refusal l ≡ none → 8 * length (listOf l) ≡ length (l .list) → sum (tallyOf (listAfter l)) ≡ length (listOf l)
-tally-total l e n = rw (e, exactly (l .list) (listOf l) n) (encode-sums (listOf l) (graded (l .table) (top (l .source) (l .tape))))
+-- the words of a checked document's list, uncut: the tally sums to its total
+pub tally-total : (l : Lent) → refusal l ≡ none → 8 * length (listOf l) ≤ length (l .list) → sum (tallyOf (take (8 * length (listOf l)) (listAfter l))) ≡ length (listOf l)
+tally-total l e h =
+    let fs = listOf l in
+    let rest = drop (8 * (0 + length fs)) (l .list) in
+    rw (e, overlay-is (l .list) 0 fs (omega arith), take-at (encode fs) rest (8 * length fs) (encode-length fs)) (encode-sums fs (graded (l .table) (top (l .source) (l .tape))))

@@ -28,9 +28,9 @@ unfoldable pub joined : List (List ℕ) → List ℕ
 joined [] = []
 joined (p ∷ ps) = p ++ joined ps
 
--- all codes that have texts
-unfoldable pub codes : List Code
-codes = documentTexts ++ numberTexts ++ markerTexts ++ attributeTexts
+-- the texts of all codes that have one
+unfoldable pub allTexts : List Code
+allTexts = documentTexts ++ numberTexts ++ markerTexts ++ attributeTexts
 
 abbrev pub pickCode : Bool → Option Code → Option Code → Option Code
 pickCode true a b = a

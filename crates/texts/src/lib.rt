@@ -7,7 +7,7 @@ ghost use Rattle.text.specs.Pick.{within, pickNat};
 ghost use Rattle.validate.specs.Checks.{upper};
 ghost use Rattle.laying.specs.Over.{Put, limit};
 ghost use Rattle.texts.specs.Texts.{numberTexts, markerTexts, attributeTexts};
-ghost use Rattle.texts.specs.Filled.{byteOf, filled, codes};
+ghost use Rattle.texts.specs.Filled.{byteOf, filled, allTexts};
 ghost use Rattle.texts.specs.Inner.{values, Short, LaidFrom, LaidOf};
 
 // How long the text is that was laid, or that there is none.
@@ -117,7 +117,7 @@ fn four(
 // The codes of the document and its book, else those below.
 fn document_text(code: u64, form: u64, a: &[u8], b: &[u8], c: &[u8], out: &mut [u8]) -> Laid
     requires { ⌜ Short (now a) (now b) (now c) ⌝ }
-    ensures { λ r. ⌜ LaidFrom codes code form (now (a .entry)) (now (b .entry)) (now (c .entry)) (now (out .entry)) (now (out .exit)) r ⌝ }
+    ensures { λ r. ⌜ LaidFrom allTexts code form (now (a .entry)) (now (b .entry)) (now (c .entry)) (now (out .entry)) (now (out .exit)) r ⌝ }
 {
     match code {
         4 => {
@@ -236,7 +236,7 @@ fn attribute_text(code: u64, form: u64, a: &[u8], b: &[u8], c: &[u8], out: &mut 
 // The text that the code and the form have.
 pub fn lay_text(code: u64, form: u64, a: &[u8], b: &[u8], c: &[u8], out: &mut [u8]) -> Laid
     requires { ⌜ Short (now a) (now b) (now c) ⌝ }
-    ensures { λ r. ⌜ LaidFrom codes code form (now (a .entry)) (now (b .entry)) (now (c .entry)) (now (out .entry)) (now (out .exit)) r ⌝ }
+    ensures { λ r. ⌜ LaidFrom allTexts code form (now (a .entry)) (now (b .entry)) (now (c .entry)) (now (out .entry)) (now (out .exit)) r ⌝ }
 {
     document_text(code, form, a, b, c, out)
 }

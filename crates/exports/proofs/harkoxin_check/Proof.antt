@@ -2,7 +2,8 @@
 -- Assumes nothing.
 use mathlib.Core.Path.{ap, _∙_}
 use Rattle.validate.specs.Outcome.{Answer}
-use Rattle.exports.specs.Words.{laid, answerWords}
+use Rattle.laying.specs.Over.{over}
+use Rattle.exports.specs.Words.{answerWords}
 use borrow.Author.Needs.{needs}
 use Rattle.exports.proofs.harkoxin_check.Statement.{statement}
 use Rattle.exports.proofs.harkoxin_check.Tie as tie
@@ -29,7 +30,7 @@ returns : tie.Need-returns
 returns c =
     let a = c .before .before .before .before .before .before .before .before .before .before .before .before .before .before .before .before .before .before .before .before .before .args in
     let e = c .before .before .before .before .before .before .before .before .before .before .check .ensures in
-    (c .before .before .lay-answer .ensures ∙ ap (λ (x : Answer). laid (answerWords x) (a .out .now)) (e .0), e .1)
+    (c .before .before .lay-answer .ensures ∙ ap (λ (x : Answer). over (a .out .now) 0 (answerWords x)) (e .0), e .1)
 
 pub harkoxin-check-spec : {M : Type 1} → statement M
 harkoxin-check-spec =

@@ -1,24 +1,22 @@
 -- `exports::lay` meets its contract.
 -- Assumes nothing.
-use Prim.Native.Nat.{_-_, _<_, _≤_}
-use mathlib.Core.Path.{refl, _∙_}
+use Prim.Native.Nat.{_-_}
 use native.Mathlib.Omega.{arith}
-use lib.ListN.{length, length-set}
-use Rattle.exports.proofs.Laying.{Laying, one-more, all-laid, full-laid}
+use lib.ListN.{length}
+use Rattle.laying.proofs.Laying.{Laying, laying-start, laying-first, laying-full, laying-end}
 use borrow.Author.Needs.{needs}
 use borrow.Author.Tests.{ltb-true, ltb-false}
 use Rattle.exports.proofs.lay.Statement.{statement}
 use Rattle.exports.proofs.lay.Tie as tie
 
 abbrev Inv-loop : tie.InvT-loop
-Inv-loop words out₀ i₀ out i = Laying words out₀ out i
+Inv-loop words out₀ i₀ out i = Laying words out₀ 0 out i
 
 abbrev μ-loop : tie.MeasureT-loop
 μ-loop words out₀ i₀ out i = length words - i
 
 loop-holds : tie.Need-loop-holds Inv-loop μ-loop
-loop-holds c =
-    record { words-left = omega arith; room-left = omega arith; laid-yet = refl; same = refl }
+loop-holds c = laying-start _ _ _
 
 mul-out : tie.Need-mul-out Inv-loop μ-loop
 mul-out c = search needs
@@ -39,32 +37,19 @@ loop-less : tie.Need-loop-less Inv-loop μ-loop
 loop-less c = search needs
 
 loop-again : tie.Need-loop-again Inv-loop μ-loop
-loop-again c =
-    let v = c .before .before .before .loop .inv in
-    let k = c .before .before .loop-test .taken in
-    let l = c .before .before .before .loop in
-    let h : l .i < length (l .out) = ltb-true _ _ (c .before .if1 .taken) in
-    record {
-      words-left = omega arith;
-      room-left = omega (arith, h, v .same);
-      laid-yet = one-more _ _ _ _ (v .laid-yet) k (omega (arith, h, v .same));
-      same = simp length-set (v .same);
-    }
+loop-again c = laying-first _ _ _ _ (c .before .before .before .loop .inv) (c .before .before .loop-test .taken) (ltb-true _ _ (c .before .if1 .taken))
 
 same-length : tie.Need-same-length Inv-loop μ-loop
 same-length c = c .before .before .loop .inv .same
 
 returns : tie.Need-returns Inv-loop μ-loop
-returns c =
-    let l = c .before .before .loop in
-    let h : length (l .out) ≤ l .i = ltb-false _ _ (c .if1 .left) in
-    full-laid _ _ _ _ (l .inv) (omega (arith, h, l .inv .same))
+returns c = laying-full _ _ _ _ _ (c .before .before .loop .inv) (omega (arith, ltb-false))
 
 same-length-2 : tie.Need-same-length-2 Inv-loop μ-loop
 same-length-2 c = c .before .loop .inv .same
 
 returns-2 : tie.Need-returns-2 Inv-loop μ-loop
-returns-2 c = let v = c .before .loop .inv in all-laid _ _ _ _ v (omega arith)
+returns-2 c = laying-end _ _ _ _ _ (c .before .loop .inv) (omega arith)
 
 pub lay-spec : {M : Type 1} → statement M
 lay-spec =

@@ -1,7 +1,6 @@
 -- `messages::lay_verse` meets its contract.
 -- Assumes nothing.
 use mathlib.Core.List.{[], _++_}
-use native.Mathlib.Omega.{arith}
 use denote.Ref.{now}
 use borrow.Author.Needs.{needs}
 use Rattle.tape.specs.Nodes.{kindAt}
@@ -13,7 +12,7 @@ use Rattle.messages.specs.Message.{letter}
 use Rattle.messages.specs.Inner.{askedBy}
 use Rattle.messages.proofs.Values.{holes-11, laid-with, laid-lacks}
 use Rattle.messages.proofs.Shown.{far-letter, verse-lacks, verse-shown}
-use Rattle.messages.proofs.Parts.{label-inside}
+use Rattle.messages.proofs.Lengths.{label-fits}
 use Rattle.messages.proofs.lay_verse.Statement.{statement}
 use Rattle.messages.proofs.lay_verse.Tie as tie
 
@@ -41,8 +40,7 @@ lay-position-requires c κs =
     let s = n .before .before .before .before .before .before .before .before in
     let a = s .args in
     let q = askedBy (a .q) in
-    let l = label-inside (now (a .source)) (now (a .tape)) (q .node) (infoAt (now (a .table)) (now (a .tape)) (q .node)) (numbered (kindAt (now (a .tape)) (q .node))) (now (n .label-shown .result)) (n .label-shown .ensures) in
-    (n .before .if1 .left, omega (arith, l, s .pre .0 .short))
+    (n .before .if1 .left, label-fits (now (a .source)) (now (a .tape)) (q .node) (s .pre .0 .short) (numbered (kindAt (now (a .tape)) (q .node))) (infoAt (now (a .table)) (now (a .tape)) (q .node)) (now (n .label-shown .result)) (n .label-shown .ensures))
 
 same-length : tie.Need-same-length
 same-length c = search needs

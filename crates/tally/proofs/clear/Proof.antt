@@ -7,7 +7,6 @@ use native.Mathlib.Omega.{arith}
 use lib.ListN.{replicate}
 use Rattle.laying.proofs.Laying.{Laying, laying-start, laying-full, laying-end}
 use Rattle.findings.specs.Finding.{codes}
-use Rattle.tally.specs.Tally.{}
 use Rattle.tally.proofs.Counting.{clear-on}
 use Rattle.tally.proofs.clear.Statement.{statement}
 use Rattle.tally.proofs.clear.Tie as tie
