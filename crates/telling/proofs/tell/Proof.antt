@@ -1,0 +1,66 @@
+-- `telling::tell` meets its contract.
+-- Assumes nothing.
+use denote.Ref.{now}
+use Rattle.messages.proofs.Nine.{shut, passed, is-accepted, is-short}
+use borrow.Author.Needs.{needs}
+use Rattle.telling.proofs.tell.Statement.{statement}
+use Rattle.telling.proofs.tell.Tie as tie
+
+slice-aggregate-table-gate : tie.Need-slice-aggregate-table-gate
+slice-aggregate-table-gate c = search needs
+
+table-gate-requires : tie.Need-table-gate-requires
+table-gate-requires c κs = search needs
+
+enum-known-number : tie.Need-enum-known-number
+enum-known-number c = search needs
+
+enum-known-entries : tie.Need-enum-known-entries
+enum-known-entries c = search needs
+
+slice-aggregate-tell-in : tie.Need-slice-aggregate-tell-in
+slice-aggregate-tell-in c = search needs
+
+tell-in-requires : tie.Need-tell-in-requires
+tell-in-requires c κs =
+    let g = c .before .before .before .before .before .before .before .table-gate in
+    let a = c .before .before .before .before .before .before .before .before .before .before .before .before .before .before .before .args in
+    let m = c .before .before .before .before .entries .given in
+    (rw (m .1) at (g .ensures .1), is-accepted (now (a .table)) (now (a .source)) (now (a .tape)) (g .result) (g .ensures .0) (m .0 .0) (m .1), is-short (now (a .table)) (now (a .source)) (now (a .tape)) (g .result) (g .ensures .0) (m .0 .0) (m .1))
+
+returns : tie.Need-returns
+returns c =
+    let g = c .before .before .before .before .table-gate in
+    let a = c .before .before .before .before .before .before .before .before .before .before .before .before .args in
+    let z = shut (now (a .table)) (now (a .source)) (now (a .tape)) (g .result) (g .ensures .0) _ _ (c .before .number .given .1) in
+    (rw z, (rw z, rw z))
+
+same-length : tie.Need-same-length
+same-length c = search needs
+
+same-length-2 : tie.Need-same-length-2
+same-length-2 c = search needs
+
+returns-2 : tie.Need-returns-2
+returns-2 c =
+    let d = c .before .before .before .before .before in
+    let g = d .before .before .before .before .before .before .before .table-gate in
+    let a = d .before .before .before .before .before .before .before .before .before .before .before .before .before .before .before .args in
+    let m = d .before .before .before .before .entries .given in
+    let z = passed (now (a .table)) (now (a .source)) (now (a .tape)) (g .result) (g .ensures .0) (m .0 .0) (m .1) in
+    rw z (c .before .before .before .before .tell-in .ensures)
+
+pub tell-spec : {M : Type 1} → statement M
+tell-spec =
+    tie.close
+    (tie.spec
+    slice-aggregate-table-gate
+    table-gate-requires
+    enum-known-number
+    enum-known-entries
+    slice-aggregate-tell-in
+    tell-in-requires
+    returns
+    same-length
+    same-length-2
+    returns-2)
