@@ -14,6 +14,7 @@ use Rattle.tape.specs.Forest.{forest}
 use Rattle.tape.proofs.Nest.{forest-done}
 use Rattle.table.specs.Names.{defaultOf}
 use Rattle.cursor.specs.Inner.{Run}
+use Rattle.cursor.specs.Names.{nameOf}
 use Rattle.cursor.specs.Steps.{pastNode}
 use Rattle.cursor.proofs.Runs.{run-next, forest-at-leaf, forest-at-open}
 use Rattle.findings.specs.Finding.{Finding}
@@ -42,10 +43,13 @@ module _ (marker text b : List ℕ) (is : b ≡ body text) where
         test false = refl
 
 -- of a node that is an Attribute
-pub of-attribute : (owner : ℕ) (marker s t : List ℕ) (i a n : ℕ) (text : List ℕ) → kindAt t i ≡ 6 → a ≡ startAt t i → n ≡ lenAt t i → text ≡ cut (span t i) s → findingsAt a n i owner (attributeKinds marker text) ≡ ofNode owner marker (nodeAt s t i)
-of-attribute owner marker s t i a n text k e f g = rw (eq-eqb (kindAt t i) 6 k, e, f, g)
+pub of-attribute : (owner : ℕ) (marker s t : List ℕ) (i a n : ℕ) (text : List ℕ) → marker ≡ cut (span t owner) s → kindAt t i ≡ 6 → a ≡ startAt t i → n ≡ lenAt t i → text ≡ cut (span t i) s → findingsAt a n i owner (attributeKinds (nameOf marker) text) ≡ ofNode owner (nameOf (nodeAt s t owner .text)) (nodeAt s t i)
+of-attribute owner marker s t i a n text m k e f g = rw (m, eq-eqb (kindAt t i) 6 k, e, f, g)
 
-module _ (owner : ℕ) (marker s t : List ℕ) where
+module _ (owner : ℕ) (s t : List ℕ) where
+  abbrev marker : List ℕ
+  marker = nameOf (nodeAt s t owner .text)
+
   abbrev pub among : ℕ → ℕ → List Finding
   among a b = attributesFindings owner marker (forest s t a b)
 

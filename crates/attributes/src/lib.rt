@@ -15,6 +15,7 @@ ghost use Rattle.text.specs.Scans.{Ended};
 ghost use Rattle.text.specs.Characters.{chars, find};
 ghost use Rattle.tape.specs.Nodes.{nodeAt};
 ghost use Rattle.tape.specs.Forest.{forest};
+ghost use Rattle.cursor.specs.Names.{nameOf};
 ghost use Rattle.cursor.specs.Inner.{Run, Spanned};
 ghost use Rattle.findings.specs.Finding.{findingOf, severityOf};
 ghost use Rattle.findings.specs.Written.{Wrote, Room};
@@ -155,7 +156,7 @@ fn scan_list(body: &[u8], w: Where, list: &mut [u64], counts: Counts) -> Counts
     c
 }
 
-// The findings of one Attribute's text, of a marker with the name.
+// The findings of one Attribute's text. `marker` is the text of its owner, whose name only a bare value asks for.
 pub fn validate_attribute(
     text: &[u8],
     marker: &[u8],
@@ -163,8 +164,8 @@ pub fn validate_attribute(
     list: &mut [u64],
     c: Counts,
 ) -> Counts
-    requires { ⌜ Room c (findingsAt (w .start) (w .len) (w .node) (w .owner) (attributeKinds (now marker) (now text))) ⌝ }
-    ensures { λ r. ⌜ Wrote (findingsAt (w .start) (w .len) (w .node) (w .owner) (attributeKinds (now (marker .entry)) (now (text .entry)))) (now (list .entry)) c (now (list .exit)) r ⌝ }
+    requires { ⌜ Room c (findingsAt (w .start) (w .len) (w .node) (w .owner) (attributeKinds (nameOf (now marker)) (now text))) ⌝ }
+    ensures { λ r. ⌜ Wrote (findingsAt (w .start) (w .len) (w .node) (w .owner) (attributeKinds (nameOf (now (marker .entry))) (now (text .entry)))) (now (list .entry)) c (now (list .exit)) r ⌝ }
 {
     let body = text::trim(after_bar(text));
     if body.len() == 0 {
@@ -174,7 +175,7 @@ pub fn validate_attribute(
     if text::find_byte(body, b'=') < body.len() {
         return scan_list(body, w, list, c);
     }
-    let known = has_default(table::default_attribute(marker));
+    let known = has_default(table::default_attribute(cursor::name_of(marker)));
     let bare = finding(
         w,
         Severity::Error,
@@ -191,12 +192,11 @@ fn attribute_at(
     tape: &[u8],
     i: usize,
     owner: usize,
-    marker: &[u8],
     list: &mut [u64],
     c: Counts,
 ) -> Counts
-    requires { ⌜ (Spanned (now source) (now tape) i) × Room c (ofNode owner (now marker) (nodeAt (now source) (now tape) i)) ⌝ }
-    ensures { λ r. ⌜ Wrote (ofNode owner (now (marker .entry)) (nodeAt (now (source .entry)) (now (tape .entry)) i)) (now (list .entry)) c (now (list .exit)) r ⌝ }
+    requires { ⌜ (Spanned (now source) (now tape) i) × (Spanned (now source) (now tape) owner) × Room c (ofNode owner (nameOf (nodeAt (now source) (now tape) owner .text)) (nodeAt (now source) (now tape) i)) ⌝ }
+    ensures { λ r. ⌜ Wrote (ofNode owner (nameOf (nodeAt (now (source .entry)) (now (tape .entry)) owner .text)) (nodeAt (now (source .entry)) (now (tape .entry)) i)) (now (list .entry)) c (now (list .exit)) r ⌝ }
 {
     if tape::kind_at(tape, i) != 6 {
         return c;
@@ -208,27 +208,27 @@ fn attribute_at(
         node: i as u64,
         owner: owner as u64,
     };
+    let marker = cursor::text(source, tape, owner);
     validate_attribute(cursor::text(source, tape, i), marker, w, list, c)
 }
 
-// The findings of all Attributes among the children of a marker: the nodes from one up to another.
+// The findings of all Attributes among the children of a marker, its owner: the nodes from one up to another.
 pub fn validate_attributes(
     source: &[u8],
     tape: &[u8],
     from: usize,
     to: usize,
     owner: usize,
-    marker: &[u8],
     list: &mut [u64],
     c: Counts,
 ) -> Counts
-    requires { ⌜ (Run (now source) (now tape) from to) × Room c (attributesFindings owner (now marker) (forest (now source) (now tape) from to)) ⌝ }
-    ensures { λ r. ⌜ Wrote (attributesFindings owner (now (marker .entry)) (forest (now (source .entry)) (now (tape .entry)) from to)) (now (list .entry)) c (now (list .exit)) r ⌝ }
+    requires { ⌜ (Run (now source) (now tape) from to) × (Spanned (now source) (now tape) owner) × Room c (attributesFindings owner (nameOf (nodeAt (now source) (now tape) owner .text)) (forest (now source) (now tape) from to)) ⌝ }
+    ensures { λ r. ⌜ Wrote (attributesFindings owner (nameOf (nodeAt (now (source .entry)) (now (tape .entry)) owner .text)) (forest (now (source .entry)) (now (tape .entry)) from to)) (now (list .entry)) c (now (list .exit)) r ⌝ }
 {
     let mut r = c;
     let mut i = from;
     while i < to {
-        r = attribute_at(source, tape, i, owner, marker, list, r);
+        r = attribute_at(source, tape, i, owner, list, r);
         i = cursor::past_node(tape, i);
     }
     r

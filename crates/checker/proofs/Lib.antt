@@ -1,4 +1,5 @@
 pub mod Steps
 pub mod Going
+pub mod Quiet
 pub mod Visiting
 pub mod Entries

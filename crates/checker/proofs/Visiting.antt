@@ -3,7 +3,7 @@
 use Prim.Native.Nat.{ℕ, zero, suc, _+_, _-_, _*_, _%_, _<_, _≤_}
 use native.Mathlib.Omega.{arith}
 use mathlib.Core.Path.{_≡_, refl, sym, ap, ap₂, subst, _∙_}
-use mathlib.Core.Bool.{not}
+use mathlib.Core.Bool.{true, not}
 use lib.Dec.{eqb}
 use borrow.Author.Tests.{ltb-false}
 use mathlib.Core.List.{List, [], _∷_, _++_}
@@ -17,7 +17,7 @@ use Rattle.table.specs.Entries.{Entry, Indexed}
 use Rattle.cursor.specs.Inner.{Run, Spanned}
 use Rattle.cursor.specs.Steps.{pastNode}
 use Rattle.cursor.proofs.Around.{spanned}
-use Rattle.cursor.proofs.Runs.{past-open, open-later}
+use Rattle.cursor.proofs.Runs.{past-open, open-later, run-children}
 use Rattle.findings.specs.Finding.{Finding}
 use Rattle.findings.specs.declared.Counts.{Counts}
 use Rattle.findings.specs.Written.{Wrote, Room}
@@ -34,7 +34,8 @@ use Rattle.running.specs.Running.{stateOf, countsOf, anchorOf, withCounts, with
 use Rattle.running.specs.declared.Record.{Record}
 use Rattle.opens.specs.Own.{isId, childrenAt, ownAt, Marked}
 use Rattle.milestones.specs.Steps.{Stepped}
-use Rattle.checker.specs.Walking.{Anchored, nowhere, walkAt, Ready, Went, Walked, toldAt, below, visitFindings, visitState, Visited, Visitable}
+use Rattle.checker.specs.Walking.{Anchored, nowhere, walkAt, Ready, Went, Walked, toldAt, below, visitFindings, visitState, Visited, Visitable, quiet}
+use Rattle.checker.proofs.Quiet.{quiet-walked}
 
 -- an accepted tape has at most 65,535 nodes
 pub count-low : (s t : List ℕ) → Accepted s t → count t ≤ 65535
@@ -82,6 +83,9 @@ module _ {table words : List ℕ} {entries : ℕ} {s t : List ℕ} {depth : ℕ}
 
   pub visit-run : Run s t i to
   visit-run = record { accepted = v .ready .accepted; depth = depth; nested = v .ready .nested; from = v .ready .start; inside = v .ready .within }
+
+  pub visit-children : Run s t (i + 1) (linkAt t i)
+  visit-children = run-children s t i to visit-run (v .able .more) (v .able .opened)
 
   pub visit-below : i < count t
   visit-below = let m = v .able .more in let w = v .ready .within in omega arith
@@ -213,6 +217,10 @@ module _ {table words : List ℕ} {entries : ℕ} {s t : List ℕ} {depth : ℕ}
                   };
               anchor = refl;
             }
+
+        -- where the children are quiet there is nothing to walk
+        pub visited-quiet : quiet c ≡ true → Visited table s t o e i to seen opens l r seen opens₂ l₂ (withAnchor r₂ (r .anchor))
+        visited-quiet h = visited (inside o e) seen opens₂ l₂ (withAnchor r₂ 0) refl (quiet-walked (inside o e) l₂ children-ready refl h)
 
 pub visit-with : {table words : List ℕ} {entries : ℕ} {s t : List ℕ} {depth i to : ℕ} {numbers : Attached} {seen opens : List ℕ} {r : Record} (o : state.Around) (e : Entry) (l : List ℕ) → Ready table words entries s t depth i to seen opens r → Visitable s t i to numbers r → Room (countsOf r) (visitFindings table s t o e i to seen opens r) → Visit table words entries s t depth o i to e numbers seen opens l r
 visit-with o e l ready able room = record { ready = ready; able = able; room = room }

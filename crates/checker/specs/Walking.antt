@@ -1,18 +1,19 @@
 -- What the walk and the visit ask for and promise.
 use Prim.Native.Nat.{ℕ, zero, suc, _+_, _-_, _*_, _<_, _≤_}
 use mathlib.Core.Path.{_≡_}
-use mathlib.Core.Bool.{true}
+use mathlib.Core.Bool.{Bool, true, false}
 use mathlib.Core.List.{List, [], _++_}
 use mathlib.Core.Option.{Option, some, none}
 use lib.ListN.{length}
 use Rattle.tape.specs.Nodes.{count, nodeAt, kindAt, linkAt, isOpen}
-use Rattle.tape.specs.Forest.{Forest, forest, Nested, Accepted}
+use Rattle.tape.specs.Forest.{Forest, end, leaf, node, forest, Nested, Accepted}
 use Rattle.table.specs.Entries.{Entry, Indexed}
 use Rattle.cursor.specs.Steps.{pastNode}
 use Rattle.findings.specs.Finding.{Finding}
 use Rattle.findings.specs.Written.{Wrote, Room}
 use Rattle.text.specs.Pick.{pickNat}
 use Rattle.numbers.specs.Label.{pickList, numbered}
+use Rattle.numbers.specs.Verse.{pickBool}
 use Rattle.validate.specs.Checks.{leafTold}
 use Rattle.attachment.specs.Attached.{startsOf, starts, attachedNumbers}
 use Rattle.attachment.specs.declared.Attached.{Attached}
@@ -104,3 +105,9 @@ pub record LeafPassed (table s t : List ℕ) (o : state.Around) (i : ℕ) (seen 
 -- the numbers attached after a leaf
 abbrev pub numbersAfter : List ℕ → List ℕ → ℕ → ℕ → ℕ → List ℕ → List ℕ
 numbersAfter s t i next to before = pickList (numbered (kindAt t i)) (starts (attachedNumbers (kindAt t i) (forest s t next to))) before
+
+-- a run of which the walk says nothing and learns nothing: no marker, no Chapter and no Verse
+unfoldable pub quiet : Forest → Bool
+quiet end = true
+quiet (leaf x r) = pickBool (numbered (x .kind)) false (quiet r)
+quiet (node x c r) = false

@@ -17,7 +17,7 @@ ghost use Rattle.findings.specs.Written.{Room};
 ghost use Rattle.attachment.specs.Attached.{startsOf};
 ghost use Rattle.validate.specs.Checks.{leafTold};
 ghost use Rattle.running.specs.Running.{stateOf, aroundOf, anchorOf, startsFor, countsOf, Sane};
-ghost use Rattle.checker.specs.Walking.{Ready, Walked, Visited, Visitable, Anchored, walkAt, visitFindings, LeafPassed, numbersAfter};
+ghost use Rattle.checker.specs.Walking.{Ready, Walked, Visited, Visitable, Anchored, walkAt, visitFindings, LeafPassed, numbersAfter, quiet};
 
 // The numbers attached to an anchor, among the siblings up to `to`; none without an anchor.
 fn anchored(
@@ -103,6 +103,28 @@ fn leaf(
     r
 }
 
+// Whether a run has no marker, no chapter and no verse. Most markers hold such a run, and the walk of it is spared.
+fn is_quiet(source: &[u8], tape: &[u8], from: usize, to: usize) -> bool
+    requires { ⌜ Run (now source) (now tape) from to ⌝ }
+    ensures { λ r. ⌜ r ≡ quiet (forest (now (source .entry)) (now (tape .entry)) from to) ⌝ }
+{
+    let mut i = from;
+    while i < to {
+        let kind = tape::kind_at(tape, i);
+        if kind == 1 {
+            return false;
+        }
+        if kind == 3 {
+            return false;
+        }
+        if kind == 4 {
+            return false;
+        }
+        i = cursor::past_node(tape, i);
+    }
+    true
+}
+
 fn visit(
     table: &[u8],
     words: &[u64],
@@ -127,14 +149,19 @@ fn visit(
     let r1 = opens::visit_marker(table, m, source, tape, i, to, around, numbers, rec, list);
     let c = milestones::milestone_findings(m, source, tape, i, opens, r1, list);
     let r2 = milestones::after_milestone(m, source, tape, i, opens, running::with_counts(r1, c));
+    let from = i + 1;
+    let link = tape::link_at(tape, i) as usize;
+    if is_quiet(source, tape, from, link) {
+        return running::with_anchor(r2, anchor);
+    }
     let r3 = walk(
         table,
         words,
         count,
         source,
         tape,
-        i + 1,
-        tape::link_at(tape, i) as usize,
+        from,
+        link,
         depth - 1,
         running::inside(around, m),
         running::with_anchor(r2, 0),

@@ -89,8 +89,10 @@ module _ (s t : List ℕ) (i link : ℕ) (short : length s ≤ 1048576) (holds :
   pub row-total : (l l′ : List ℕ) (c : Counts) → Wrote (rowFindings inner) l nothing l′ c → total c ≤ limit
   row-total = few-counted (rowFindings inner) (row-few 1 inner)
 
-  pub attributes-asked : (marker : List ℕ) → Run s t (i + 1) link × Room nothing (attributesFindings i marker inner)
-  attributes-asked marker = asked (attributesFindings i marker inner) (attributes-few i marker inner)
+  pub attributes-asked : (marker : List ℕ) → Child s t i → Run s t (i + 1) link × Spanned s t i × Room nothing (attributesFindings i marker inner)
+  attributes-asked marker child =
+      let a = asked (attributesFindings i marker inner) (attributes-few i marker inner) in
+      (a .0, child-spanned s t i child, a .1)
 
   pub attributes-total : (marker l l′ : List ℕ) (c : Counts) → Wrote (attributesFindings i marker inner) l nothing l′ c → total c ≤ limit
   attributes-total marker = few-counted (attributesFindings i marker inner) (attributes-few i marker inner)

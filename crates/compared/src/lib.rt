@@ -661,13 +661,12 @@ pub extern "C" fn compared_attributes(
         return 4294967296;
     }
     let link = tape::link_at(tape, i) as usize;
-    let name = cursor::marker_name(source, tape, i);
     let none = Counts {
         errors: 0,
         warnings: 0,
         infos: 0,
     };
-    total_of(attributes::validate_attributes(source, tape, i + 1, link, i, name, list, none))
+    total_of(attributes::validate_attributes(source, tape, i + 1, link, i, list, none))
 }
 
 // Where the siblings after a node of a run begin, or 0 if the node isn't one of its siblings.

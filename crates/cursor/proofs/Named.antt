@@ -2,17 +2,24 @@
 -- Assumes nothing.
 use mathlib.Core.Path.{_≡_, refl, sym, ap, _∙_}
 use mathlib.Core.Bool.{Bool, true, false}
+use mathlib.Core.Logic.{inr}
 use mathlib.Core.List.{List, [], _∷_}
 use Prim.Native.Nat.{ℕ, zero, suc, _+_, _-_, _<_, _≤_}
+use native.Mathlib.Decide.{decLt}
 use native.Mathlib.Omega.{arith}
 use lib.Dec.{eqb}
 use lib.ListN.{length, getD, take, drop, List·getD-eq-default}
-use borrow.Author.Tests.{eq-eqb, ne-eqb}
-use Rattle.text.specs.Pick.{either, cut}
+use borrow.Author.Tests.{eq-eqb, ne-eqb, eqb-true}
+use Rattle.text.specs.Pick.{pickNat, end}
 use Rattle.text.specs.Blank.{blank}
 use Rattle.text.specs.Characters.{find}
+use Rattle.text.proofs.Blank.{low-not-blank}
+use Rattle.text.proofs.Find.{past-ascii}
+use Rattle.text.proofs.Hits.{find-on}
+use Rattle.tape.proofs.OneNumber.{either-false}
+use Rattle.cursor.specs.declared.NameSpan.{NameSpan}
 use Rattle.cursor.specs.Names.{pastOne, endsName, namePart, nameOf}
-use Rattle.cursor.specs.Inner.{Reached, Ended}
+use Rattle.cursor.specs.Inner.{Reached, Plain, Named}
 
 module _ (s : List ℕ) (i b : ℕ) where
   pub one-end : b < 256 → length s ≤ i → i ≤ length s → Reached s (pastOne b s i) i
@@ -32,6 +39,17 @@ module _ (s : List ℕ) (i b : ℕ) where
   pub one-miss : i < length s → (getD s i 0 ≡ b → ⊥) → Reached s (pastOne b s i) i
   one-miss h e = record { is = rw (same-byte h, ne-eqb (getD s i 0) b e); inside = omega arith }
 
+  -- a byte that does not pass a test is passed over
+  over-one : (p : ℕ → Bool) → b < 0x80 → p b ≡ false → i + find p (drop i s) ≡ pastOne b s i + find p (drop (pastOne b s i) s)
+  over-one p l y = go (eqb (getD s i 256) b) refl (decLt i (length s))
+    where
+      go : (v : Bool) → eqb (getD s i 256) b ≡ v → Dec (i < length s) → i + find p (drop i s) ≡ pickNat v (i + 1) i + find p (drop (pickNat v (i + 1) i) s)
+      go false e h = refl
+      go true e (no h) = let o : length s ≤ i = omega arith in absurd (omega (arith, eqb-true (getD s i 256) b e, List·getD-eq-default s 256 o))
+      go true e (yes h) =
+          let z : getD s i 0 ≡ b = sym (same-byte h) ∙ eqb-true (getD s i 256) b e in
+          past-ascii p s i h (omega arith) (ap p z ∙ y)
+
 -- the test of a code point, by the tests that the code takes
 module _ (c : ℕ) (x : Bool) (is-blank : x ≡ blank c) where
   pub ends-blank : x ≡ true → true ≡ endsName c
@@ -46,8 +64,33 @@ module _ (c : ℕ) (x : Bool) (is-blank : x ≡ blank c) where
   pub ends-slash : x ≡ false → (c ≡ 0x2A → ⊥) → (c ≡ 0x7C → ⊥) → eqb c 0x5C ≡ endsName c
   ends-slash y n m = rw (← is-blank, y, ne-eqb c 0x2A n, ne-eqb c 0x7C m)
 
-pub name-cut : (s : List ℕ) (a b e : ℕ) → a ≡ pastOne 0x5C s 0 → b ≡ pastOne 0x2B s a → e ≡ b + find endsName (drop b s) → take (e - b) (drop b s) ≡ nameOf s
+ascii-solid : (b : ℕ) → 0x20 < b → b < 0x80 → blank b ≡ false
+ascii-solid b h k = low-not-blank b (omega arith) (λ e. omega arith) (inr (omega arith))
+
+pub is-plain : (b : ℕ) → 0x2A < b → b < 0x7C → (b ≡ 0x5C → ⊥) → Plain b
+is-plain b h k n =
+    record {
+      ascii = omega arith;
+      goes-on = rw (ascii-solid b (omega arith) (omega arith), ne-eqb b 0x2A (λ e. omega arith), ne-eqb b 0x7C (λ e. omega arith), ne-eqb b 0x5C n);
+    }
+
+pub name-starts : (s : List ℕ) (a b : ℕ) → a ≡ pastOne 0x5C s 0 → b ≡ pastOne 0x2B s a → b ≡ namePart s .start
 unfolding namePart
-name-cut s a b e p q r =
-    let n : e - b ≡ find endsName (drop b s) = omega arith in
-    rw (n, q, p)
+name-starts s a b p q = q ∙ rw p
+
+pub name-ends : (s : List ℕ) (b e : ℕ) → b ≡ namePart s .start → e ≡ b + find endsName (drop b s) → e ≡ end (namePart s)
+unfolding namePart
+name-ends s b e p q = q ∙ rw p
+
+pub name-cut : (s : List ℕ) (r : NameSpan) → Named s r → take (r .end - r .start) (drop (r .start) s) ≡ nameOf s
+name-cut s r h =
+    let n : r .end - r .start ≡ namePart s .len = omega (arith, h .begins, h .stops) in
+    rw (n, h .begins)
+
+-- nothing before the end of the name is blank
+pub name-solid : (s : List ℕ) → 0 + find blank s ≡ end (namePart s) + find blank (drop (end (namePart s)) s)
+unfolding namePart
+name-solid s =
+    over-one s 0 0x5C blank (omega arith) (ascii-solid 0x5C (omega arith) (omega arith))
+    ∙ over-one s (pastOne 0x5C s 0) 0x2B blank (omega arith) (ascii-solid 0x2B (omega arith) (omega arith))
+    ∙ find-on blank endsName (λ c y. either-false (blank c) _ y .0) s (pastOne 0x2B s (pastOne 0x5C s 0))

@@ -1,10 +1,14 @@
 -- What the functions of the crate ask for, and what the inner ones promise.
 use Prim.Native.Nat.{ℕ, _+_, _<_, _≤_}
 use mathlib.Core.Path.{_≡_}
+use mathlib.Core.Bool.{false}
 use mathlib.Core.List.{List}
 use lib.ListN.{length}
+use Rattle.text.specs.Pick.{end}
 use Rattle.tape.specs.Nodes.{count, startAt, lenAt}
 use Rattle.tape.specs.Forest.{Nested, Accepted}
+use Rattle.cursor.specs.declared.NameSpan.{NameSpan}
+use Rattle.cursor.specs.Names.{endsName, namePart}
 
 -- a node of the tape whose span lies in the source; of an accepted tape, every node but the root
 pub record Spanned (s t : List ℕ) (i : ℕ) : Type 0 where
@@ -28,3 +32,14 @@ pub record Ended (s : List ℕ) (from n r : ℕ) : Type 0 where
 pub record Reached (s : List ℕ) (place r : ℕ) : Type 0 where
   pub is : r ≡ place
   pub inside : r ≤ length s
+
+-- an ASCII byte that does not end a name
+pub record Plain (b : ℕ) : Type 0 where
+  pub ascii : b < 0x80
+  pub goes-on : endsName b ≡ false
+
+-- where the name stands in the text
+pub record Named (s : List ℕ) (r : NameSpan) : Type 0 where
+  pub begins : r .start ≡ namePart s .start
+  pub stops : r .end ≡ end (namePart s)
+  pub inside : r .end ≤ length s

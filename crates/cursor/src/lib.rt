@@ -2,22 +2,29 @@
 use table::Info;
 use table::MarkerId;
 ghost use mathlib.Core.Path.{_≡_};
+ghost use mathlib.Core.Bool.{true};
 ghost use Prim.Native.Nat.{_<_, _≤_};
 ghost use lib.ListN.{length, drop};
 ghost use Rattle.text.specs.Pick.{cut};
 ghost use Rattle.text.specs.Characters.{find};
 ghost use Rattle.tape.specs.Nodes.{count, startAt, lenAt, kindAt, linkAt};
 ghost use Rattle.tape.specs.Nodes as nodes;
-ghost use Rattle.cursor.specs.Names.{pastOne, endsName, nameOf};
+ghost use Rattle.cursor.specs.Names.{pastOne, endsName, namePart, nameOf};
 ghost use Rattle.cursor.specs.Steps.{firstChild, nextSibling, numberAt, holdsNodes, placeOf, valueOf};
 ghost use Rattle.table.specs.Entries.{Indexed, infoOf};
 ghost use Rattle.cursor.specs.Info.{hasMarker, infoAt};
-ghost use Rattle.cursor.specs.Inner.{Spanned, Ended, Reached};
+ghost use Rattle.cursor.specs.Inner.{Spanned, Ended, Reached, Plain, Named};
 
 // Where a node's text stands in the source.
 pub struct NodeSpan {
     pub start: u32,
     pub len: u32,
+}
+
+// Where the name stands in a node's text.
+pub struct NameSpan {
+    pub start: usize,
+    pub end: usize,
 }
 
 // A node's number, if there is such a node.
@@ -74,6 +81,16 @@ fn ends_name(cp: u32) -> bool
     if cp == 0x7C { true } else { cp == 0x5C }
 }
 
+// Whether few tests show that a name goes on past a byte. They do for letters and digits, which most names are made of.
+fn is_plain(b: u8) -> bool
+    ensures { λ r. ⌜ (r ≡ true → Plain b) ⌝ }
+{
+    if b <= 0x2A {
+        return false;
+    }
+    if b < 0x7C { b != 0x5C } else { false }
+}
+
 // The place of the first character from a place on that ends a name, or the length.
 fn name_end(s: &[u8], from: usize) -> usize
     requires { ⌜ from ≤ length (now s) ⌝ }
@@ -81,6 +98,10 @@ fn name_end(s: &[u8], from: usize) -> usize
 {
     let mut i = from;
     while i < s.len() {
+        if is_plain(s[i]) {
+            i += 1;
+            continue;
+        }
         let d = text::decode_at(s, i);
         if ends_name(d.cp) {
             return i;
@@ -90,13 +111,31 @@ fn name_end(s: &[u8], from: usize) -> usize
     i
 }
 
+// Where the name begins in a node's text.
+pub fn name_start(s: &[u8]) -> usize
+    ensures { λ r. ⌜ Reached (now (s .entry)) (namePart (now (s .entry)) .start) r ⌝ }
+{
+    let a = past_one(s, 0, 0x5C);
+    past_one(s, a, 0x2B)
+}
+
+pub fn name_span(s: &[u8]) -> NameSpan
+    ensures { λ r. ⌜ Named (now (s .entry)) r ⌝ }
+{
+    let b = name_start(s);
+    NameSpan {
+        start: b,
+        end: name_end(s, b),
+    }
+}
+
 // The name that a node's text begins with: a part of it.
 pub fn name_of(s: &[u8]) -> &[u8]
     ensures { λ r. ⌜ now r ≡ nameOf (now (s .entry)) ⌝ }
 {
-    let a = past_one(s, 0, 0x5C);
-    let b = past_one(s, a, 0x2B);
-    let e = name_end(s, b);
+    let at = name_span(s);
+    let b = at.start;
+    let e = at.end;
     &s[b..e]
 }
 

@@ -2,20 +2,22 @@
 -- Assumes nothing.
 use Prim.Native.Nat.{ℕ, _+_, _<_, _≤_}
 use mathlib.Core.Path.{_≡_, refl, sym, ap, ap₂, _∙_}
-use mathlib.Core.Bool.{Bool, true, not}
+use mathlib.Core.Bool.{Bool, true, false, not}
 use mathlib.Core.List.{List, [], _∷_}
 use mathlib.Core.Option.{Option}
 use native.Mathlib.Omega.{arith}
+use lib.Dec.{eqb}
 use lib.ListN.{length, set}
 use borrow.Author.Tests.{eq-eqb, ne-eqb}
 use Rattle.text.specs.Pick.{either, cut}
 use Rattle.tape.specs.Nodes.{nodeAt, kindAt, linkAt, span}
+use Rattle.tape.proofs.OneNumber.{either-false}
 use Rattle.table.specs.Entries.{Entry}
 use Rattle.cursor.specs.Info.{infoAt}
 use Rattle.findings.specs.declared.Counts.{Counts}
 use Rattle.findings.specs.Written.{Wrote, Room}
 use Rattle.findings.proofs.Overlay.{wrote-none}
-use Rattle.numbers.specs.Label.{labelOf}
+use Rattle.numbers.specs.Label.{labelOf, numbered}
 use Rattle.numbers.specs.Verse.{Position, positionOf, versePart}
 use Rattle.numbers.specs.declared.VersePart.{VersePart}
 use Rattle.numbers.specs.declared.Suffix.the-variants as suffix
@@ -156,14 +158,17 @@ module _ (table s t : List ℕ) (o : state.Around) (i k : ℕ) (is-kind : k ≡ 
             anchor = p .anchor;
           }
 
-    module _ (no-chapter : k ≡ 3 → ⊥) (a-verse : k ≡ 4) where
+    module _ (number : numbered k ≡ true) (no-chapter : k ≡ 3 → ⊥) where
+      is-four : eqb (kindAt t i) 4 ≡ true
+      is-four = rw (← is-kind) (rw (ne-eqb k 3 no-chapter) at number)
+
       pub told-verse : (st : State) → leafTold table o st (nodeAt s t i) .findings ≡ given (verseChecks e o st (nodeAt s t i))
       unfolding leafTold infoAt
-      told-verse st = rw (ne-eqb (kindAt t i) 3 (λ z. no-chapter (is-kind ∙ z)), eq-eqb (kindAt t i) 4 (sym is-kind ∙ a-verse), is-entry) refl
+      told-verse st = rw (ne-eqb (kindAt t i) 3 (λ z. no-chapter (is-kind ∙ z)), is-four, is-entry) refl
 
       state-verse : (st : State) → leafTold table o st (nodeAt s t i) .state ≡ afterVerse e o st (nodeAt s t i)
       unfolding leafTold infoAt
-      state-verse st = rw (ne-eqb (kindAt t i) 3 (λ z. no-chapter (is-kind ∙ z)), eq-eqb (kindAt t i) 4 (sym is-kind ∙ a-verse), is-entry) refl
+      state-verse st = rw (ne-eqb (kindAt t i) 3 (λ z. no-chapter (is-kind ∙ z)), is-four, is-entry) refl
 
       pub room-verse : (st : State) (c : Counts) → Room c (leafTold table o st (nodeAt s t i) .findings) → Room c (given (verseChecks e o st (nodeAt s t i)))
       room-verse st c h = rw (told-verse st) at h
@@ -182,18 +187,16 @@ module _ (table s t : List ℕ) (o : state.Around) (i k : ℕ) (is-kind : k ≡ 
             anchor = p .anchor;
           }
 
-  module _ (no-chapter : k ≡ 3 → ⊥) (no-verse : k ≡ 4 → ⊥) where
-    pub visited-other : (seen l : List ℕ) (r : Record) → Sane r → LeafVisited table s t o i seen l r seen l r
-    unfolding leafTold given
-    visited-other seen l r h =
-        let a = ne-eqb (kindAt t i) 3 (λ z. no-chapter (is-kind ∙ z)) in
-        let b = ne-eqb (kindAt t i) 4 (λ z. no-verse (is-kind ∙ z)) in
-        record {
-          wrote = rw (a, b) (wrote-none l (countsOf r));
-          state = λ opens. rw (a, b) refl;
-          sane = h;
-          seen-few = omega arith;
-          verses-few = omega arith;
-          opens = refl;
-          anchor = refl;
-        }
+  pub visited-other : numbered k ≡ false → (seen l : List ℕ) (r : Record) → Sane r → LeafVisited table s t o i seen l r seen l r
+  unfolding leafTold given
+  visited-other no-number seen l r h =
+      let z = either-false (eqb (kindAt t i) 3) (eqb (kindAt t i) 4) (ap numbered (sym is-kind) ∙ no-number) in
+      record {
+        wrote = rw (z .0, z .1) (wrote-none l (countsOf r));
+        state = λ opens. rw (z .0, z .1) refl;
+        sane = h;
+        seen-few = omega arith;
+        verses-few = omega arith;
+        opens = refl;
+        anchor = refl;
+      }

@@ -2,13 +2,15 @@
 -- Assumes nothing.
 use Prim.Native.Nat.{ℕ, zero, suc, _+_, _-_, _<_, _≤_}
 use mathlib.Core.Path.{_≡_, refl, ap}
-use mathlib.Core.Bool.{true, false}
+use mathlib.Core.Bool.{Bool, true, false, _||_}
 use mathlib.Core.List.{List, _∷_}
 use native.Mathlib.Omega.{arith}
 use native.Mathlib.Numerals.{add-one}
+use lib.Dec.{eqb}
 use lib.ListN.{length, getD, set}
 use lib.Seq.{getD-set-same, getD-set-other}
 use borrow.Author.Tests.{eq-eqb, ne-eqb}
+use Rattle.text.specs.Pick.{either}
 use Rattle.attachment.specs.Attached.{among}
 use Rattle.running.specs.Running.{latest}
 
@@ -28,6 +30,18 @@ module _ (words : List ℕ) (n : ℕ) where
   pub seen-none : (i : ℕ) → i ≤ 0 → among n (latest words i) ≡ false
   unfolding among latest
   seen-none i h = let e : i ≡ 0 = omega arith in rw e refl
+
+or-either : (a b c d : Bool) → either a c ≡ d → either (a || b) c ≡ either b d
+or-either true true c d e = refl
+or-either true false c d e = e
+or-either false b c d e = ap (either b) e
+
+-- a block that is looked at word by word, with what is known of the words before it
+pub block-more : (words : List ℕ) (n at i : ℕ) (found : Bool) → either found (among n (latest words at)) ≡ among n (latest words (at + i)) → either (found || eqb (getD words (at + i) 0) n) (among n (latest words at)) ≡ among n (latest words (at + (i + 1)))
+unfolding among latest
+block-more words n at i found e =
+    let s : at + (i + 1) ≡ suc (at + i) = omega arith in
+    rw s (or-either found (eqb (getD words (at + i) 0) n) _ _ e)
 
 latest-set : (words : List ℕ) (j v k : ℕ) → k ≤ j → latest (set words j v) k ≡ latest words k
 unfolding latest

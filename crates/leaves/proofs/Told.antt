@@ -1,21 +1,24 @@
 -- The checks of a Chapter and of a Verse by name, and their conditions as the code finds them.
 -- Assumes nothing.
-use Prim.Native.Nat.{ℕ}
+use Prim.Native.Nat.{ℕ, _-_}
 use mathlib.Core.Path.{_≡_, ap, _∙_}
 use mathlib.Core.Bool.{Bool, not}
 use mathlib.Core.List.{List}
 use mathlib.Core.Option.{Option}
 use lib.Dec.{eqb, ltb}
-use lib.ListN.{length, getD}
+use lib.ListN.{length, getD, take, drop}
 use Rattle.text.specs.Pick.{both}
 use Rattle.tape.specs.Nodes.{Node}
 use Rattle.table.specs.Entries.{Entry}
 use Rattle.cursor.specs.Names.{nameOf}
+use Rattle.numbers.specs.declared.LabelSpan.{LabelSpan}
 use Rattle.numbers.specs.Label.{isGlued, labelOf}
+use Rattle.numbers.specs.Inner.{Labelled}
 use Rattle.numbers.specs.Verse.{versePart}
 use Rattle.attachment.specs.Attached.{among}
 use Rattle.validate.specs.State.{State, Around}
 use Rattle.validate.specs.Checks.{Check, when, about, error, warning, isEmpty, breaks, letterByte}
+use Rattle.leaves.specs.Inner.{LabelRead}
 
 abbrev pub label : Option Entry → Node → List ℕ
 label e x = labelOf e (x .text)
@@ -51,23 +54,20 @@ bareVerse e x = when (isEmpty (label e x)) (error x 19 0)
 abbrev pub amiss : Option Entry → State → Node → Check
 amiss e st x = when (breaks (versePart (label e x)) (st .verse)) (about x 1 11 0 (st .verse .number) (letterByte (st .verse .letter)))
 
--- the node's text and its label as the code has them
-module _ (e : Option Entry) (x : Node) (text : List ℕ) (is-text : text ≡ x .text) where
-  pub is-spaced : (b : Bool) → b ≡ isGlued e (nameOf text) → b ≡ spaced e x .holds
-  is-spaced b h = h ∙ ap (λ (s : List ℕ). isGlued e (nameOf s)) is-text
+-- the label by its places in the node's text
+pub label-read : (e : Option Entry) (x : Node) (text : List ℕ) (at : LabelSpan) → text ≡ x .text → Labelled e text at → LabelRead e x (take (at .end - at .start) (drop (at .start) text)) (at .glued)
+label-read e x text at is-text h = record { is-label = h .is-label ∙ ap (labelOf e) is-text; is-glued = h .is-glued ∙ ap (λ (s : List ℕ). isGlued e (nameOf s)) is-text }
 
-  module _ (l : List ℕ) (is-label : l ≡ labelOf e text) where
-    pub the-label : l ≡ label e x
-    the-label = is-label ∙ ap (labelOf e) is-text
+-- the label as the code has it
+module _ (e : Option Entry) (x : Node) (l : List ℕ) (is-label : l ≡ label e x) where
+  pub is-led : (b : Bool) → b ≡ led l → b ≡ led (label e x)
+  is-led b h = h ∙ ap led is-label
 
-    pub is-led : (b : Bool) → b ≡ led l → b ≡ led (label e x)
-    is-led b h = h ∙ ap led the-label
+  pub is-bare : eqb (length l) 0 ≡ isEmpty (label e x)
+  is-bare = ap isEmpty is-label
 
-    pub is-bare : eqb (length l) 0 ≡ isEmpty (label e x)
-    is-bare = ap isEmpty the-label
-
-    pub is-amiss : (st : State) (b : Bool) → b ≡ breaks (versePart l) (st .verse) → b ≡ amiss e st x .holds
-    is-amiss st b h = h ∙ ap (λ (s : List ℕ). breaks (versePart s) (st .verse)) the-label
+  pub is-amiss : (st : State) (b : Bool) → b ≡ breaks (versePart l) (st .verse) → b ≡ amiss e st x .holds
+  is-amiss st b h = h ∙ ap (λ (s : List ℕ). breaks (versePart s) (st .verse)) is-label
 
 -- the chapter's number as the code has it
 module _ (st : State) (x : Node) (n : ℕ) (is : n ≡ x .link) where

@@ -1,10 +1,13 @@
 -- What the inner functions promise.
 use Prim.Native.Nat.{ℕ, _+_, _≤_}
 use mathlib.Core.Path.{_≡_}
+use mathlib.Core.Bool.{Bool}
 use mathlib.Core.List.{List}
 use mathlib.Core.Option.{Option}
-use Rattle.tape.specs.Nodes.{nodeAt}
+use Rattle.tape.specs.Nodes.{Node, nodeAt}
 use Rattle.table.specs.Entries.{Entry}
+use Rattle.cursor.specs.Names.{nameOf}
+use Rattle.numbers.specs.Label.{isGlued, labelOf}
 use Rattle.numbers.specs.declared.PartRead.{PartRead}
 use Rattle.numbers.specs.declared.PartRead.the-variants as read
 use Rattle.validate.specs.State as state
@@ -16,6 +19,11 @@ use Rattle.running.specs.declared.Record.{Record}
 abbrev pub LowRead : PartRead → Type 0
 LowRead (read.Is p) = p .num ≤ 4294967296
 LowRead read.NotRead = Unit {0}
+
+-- the label of a node, and whether it stands in the marker's name
+pub record LabelRead (e : Option Entry) (x : Node) (label : List ℕ) (glued : Bool) : Type 0 where
+  pub is-label : label ≡ labelOf e (x .text)
+  pub is-glued : glued ≡ isGlued e (nameOf (x .text))
 
 -- the record after the Chapter of node i, and the chapters seen; neither the source nor the open starts matter
 pub record PassedChapter (t : List ℕ) (i : ℕ) (seen : List ℕ) (r : Record) (seen′ : List ℕ) (q : Record) : Type 0 where

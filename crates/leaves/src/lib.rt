@@ -19,7 +19,7 @@ use table::Info;
 ghost use mathlib.Core.Path.{_≡_};
 ghost use mathlib.Core.Bool.{not};
 ghost use mathlib.Core.List.{[]};
-ghost use Prim.Native.Nat.{_<_, _≤_};
+ghost use Prim.Native.Nat.{_+_, _<_, _≤_};
 ghost use lib.Dec.{eqb, ltb};
 ghost use lib.ListN.{length, getD};
 ghost use Rattle.text.specs.Pick.{both, either};
@@ -33,11 +33,11 @@ ghost use Rattle.attachment.specs.Attached.{among};
 ghost use Rattle.validate.specs.Checks;
 ghost use Rattle.validate.specs.Checks.{about, error, given, numberForm, chapterChecks, verseChecks, letterByte, nextBy, leafTold};
 ghost use Rattle.running.specs.Running.{latest, stateOf, aroundOf, countsOf, Sane};
-ghost use Rattle.leaves.specs.Inner.{LowRead, PassedChapter, PassedVerse};
+ghost use Rattle.leaves.specs.Inner.{LowRead, LabelRead, PassedChapter, PassedVerse};
 ghost use Rattle.leaves.specs.Leaves.{LeafVisited};
 
-// Whether a number is among the first k words.
-fn is_seen(seen: &[u32], k: usize, num: u32) -> bool
+// Whether a number is among the first k words, a word at a time.
+fn is_among_few(seen: &[u32], k: usize, num: u32) -> bool
     requires { ⌜ k ≤ length (now seen) ⌝ }
     ensures { λ r. ⌜ r ≡ among num (latest (now (seen .entry)) k) ⌝ }
 {
@@ -49,6 +49,36 @@ fn is_seen(seen: &[u32], k: usize, num: u32) -> bool
         i -= 1;
     }
     false
+}
+
+// Whether a number is among 16 words from a place, or known to be among those before it. No word ends the loop, so that it
+// becomes vector code.
+fn is_in_block(seen: &[u32], at: usize, num: u32) -> bool
+    requires { ⌜ at + 16 ≤ length (now seen) ⌝ }
+    ensures { λ r. ⌜ either r (among num (latest (now (seen .entry)) at)) ≡ among num (latest (now (seen .entry)) (at + 16)) ⌝ }
+{
+    let mut found = false;
+    let mut i: usize = 0;
+    while i < 16 {
+        found = found | (seen[at + i] == num);
+        i += 1;
+    }
+    found
+}
+
+// Whether a number is among the first k words.
+fn is_seen(seen: &[u32], k: usize, num: u32) -> bool
+    requires { ⌜ k ≤ length (now seen) ⌝ }
+    ensures { λ r. ⌜ r ≡ among num (latest (now (seen .entry)) k) ⌝ }
+{
+    let mut i = k;
+    while 16 <= i {
+        i -= 16;
+        if is_in_block(seen, i, num) {
+            return true;
+        }
+    }
+    is_among_few(seen, i, num)
 }
 
 fn neither(a: bool, b: bool) -> bool
@@ -112,24 +142,26 @@ fn number_form(
     form: u64,
     info: Info,
     label: &[u8],
+    glued: bool,
     source: &[u8],
     tape: &[u8],
     i: usize,
     list: &mut [u64],
     c: Counts,
 ) -> Counts
-    requires { ⌜ (Spanned (now source) (now tape) i) × (now label ≡ labelOf (infoOf info) (nodeAt (now source) (now tape) i .text)) × Room c (given (numberForm form (infoOf info) (nodeAt (now source) (now tape) i))) ⌝ }
+    requires { ⌜ (i < count (now tape)) × LabelRead (infoOf info) (nodeAt (now source) (now tape) i) (now label) glued × Room c (given (numberForm form (infoOf info) (nodeAt (now source) (now tape) i))) ⌝ }
     ensures { λ r. ⌜ Wrote (given (numberForm form (infoOf info) (nodeAt (now (source .entry)) (now (tape .entry)) i))) (now (list .entry)) c (now (list .exit)) r ⌝ }
 {
-    let glued = numbers::is_glued(info, cursor::text(source, tape, i));
     let zeros = leading_zeros(label);
     let d = warn_if(tape, i, MISSING_SPACE_BEFORE_NUMBER, 0, 0, glued, list, c);
     error_if(tape, i, LEADING_ZEROS, form, zeros, list, d)
 }
 
-// The findings of a Chapter, by the chapters seen so far. Its number is its link.
+// The findings of a Chapter, by its label and the chapters seen so far. Its number is its link.
 fn chapter_findings(
     info: Info,
+    label: &[u8],
+    glued: bool,
     source: &[u8],
     tape: &[u8],
     i: usize,
@@ -137,10 +169,9 @@ fn chapter_findings(
     rec: Record,
     list: &mut [u64],
 ) -> Counts
-    requires { ⌜ (Spanned (now source) (now tape) i) × (rec .seen ≤ length (now seen)) × Room (countsOf rec) (given (chapterChecks (infoOf info) (stateOf (now source) (now tape) (now seen) [] rec) (nodeAt (now source) (now tape) i))) ⌝ }
+    requires { ⌜ (i < count (now tape)) × LabelRead (infoOf info) (nodeAt (now source) (now tape) i) (now label) glued × (rec .seen ≤ length (now seen)) × Room (countsOf rec) (given (chapterChecks (infoOf info) (stateOf (now source) (now tape) (now seen) [] rec) (nodeAt (now source) (now tape) i))) ⌝ }
     ensures { λ r. ⌜ Wrote (given (chapterChecks (infoOf info) (stateOf (now (source .entry)) (now (tape .entry)) (now (seen .entry)) [] rec) (nodeAt (now (source .entry)) (now (tape .entry)) i))) (now (list .entry)) (countsOf rec) (now (list .exit)) r ⌝ }
 {
-    let label = numbers::number_label(info, cursor::text(source, tape, i));
     let bare = label.len() == 0;
     let number = tape::link_at(tape, i);
     let n = number as u64;
@@ -151,7 +182,7 @@ fn chapter_findings(
     let d = error_if(tape, i, MISSING_CHAPTER_NUMBER, 0, bare, list, c);
     let e = warn_if(tape, i, DUPLICATE_CHAPTER, n, 0, twice, list, d);
     let g = warn_if(tape, i, INVALID_CHAPTER_SEQUENCE, next, n, leaps, list, e);
-    number_form(0, info, label, source, tape, i, list, g)
+    number_form(0, info, label, glued, source, tape, i, list, g)
 }
 
 // Whether what is read of a label breaks the sequence of verses.
@@ -180,6 +211,7 @@ fn letter_byte(v: VersePart) -> u64
 fn verse_findings(
     info: Info,
     label: &[u8],
+    glued: bool,
     read: PartRead,
     source: &[u8],
     tape: &[u8],
@@ -188,7 +220,7 @@ fn verse_findings(
     rec: Record,
     list: &mut [u64],
 ) -> Counts
-    requires { ⌜ (Spanned (now source) (now tape) i) × (now label ≡ labelOf (infoOf info) (nodeAt (now source) (now tape) i .text)) × (readOf read ≡ versePart (now label)) × Sane rec × Room (countsOf rec) (given (verseChecks (infoOf info) (aroundOf around) (stateOf (now source) (now tape) [] [] rec) (nodeAt (now source) (now tape) i))) ⌝ }
+    requires { ⌜ (i < count (now tape)) × LabelRead (infoOf info) (nodeAt (now source) (now tape) i) (now label) glued × (readOf read ≡ versePart (now label)) × Sane rec × Room (countsOf rec) (given (verseChecks (infoOf info) (aroundOf around) (stateOf (now source) (now tape) [] [] rec) (nodeAt (now source) (now tape) i))) ⌝ }
     ensures { λ r. ⌜ Wrote (given (verseChecks (infoOf info) (aroundOf around) (stateOf (now (source .entry)) (now (tape .entry)) [] [] rec) (nodeAt (now (source .entry)) (now (tape .entry)) i))) (now (list .entry)) (countsOf rec) (now (list .exit)) r ⌝ }
 {
     let bare = label.len() == 0;
@@ -203,7 +235,7 @@ fn verse_findings(
     let e = error_if(tape, i, CHAR_CROSSES_VERSE_BOUNDARY, 0, crosses, list, d);
     let g = error_if(tape, i, MISSING_VERSE_NUMBER, 0, bare, list, e);
     let h = warn_if(tape, i, INVALID_VERSE_SEQUENCE, n, letter, amiss, list, g);
-    number_form(1, info, label, source, tape, i, list, h)
+    number_form(1, info, label, glued, source, tape, i, list, h)
 }
 
 // The record after a Chapter, which is among those seen from now on.
@@ -312,19 +344,23 @@ pub fn visit_leaf(
     ensures { λ r. ⌜ LeafVisited (now (table .entry)) (now (source .entry)) (now (tape .entry)) (aroundOf around) i (now (seen .entry)) (now (list .entry)) rec (now (seen .exit)) (now (list .exit)) r ⌝ }
 {
     let kind = tape::kind_at(tape, i);
+    if !numbers::is_numbered(kind) {
+        return rec;
+    }
+    let info = cursor::marker_info(table, words, count, tape, i);
+    let text = cursor::text(source, tape, i);
+    let at = numbers::label_span(info, text);
+    let from = at.start;
+    let to = at.end;
+    let label = &text[from..to];
+    let glued = at.glued;
     if kind == 3 {
-        let info = cursor::marker_info(table, words, count, tape, i);
-        let c = chapter_findings(info, source, tape, i, seen, rec, list);
+        let c = chapter_findings(info, label, glued, source, tape, i, seen, rec, list);
         let q = after_chapter(tape, i, rec, seen);
         return running::with_counts(q, c);
     }
-    if kind == 4 {
-        let info = cursor::marker_info(table, words, count, tape, i);
-        let label = numbers::number_label(info, cursor::text(source, tape, i));
-        let read = numbers::parse_verse_part(label);
-        let c = verse_findings(info, label, read, source, tape, i, around, rec, list);
-        let q = after_verse(info, label, read, source, tape, i, around, rec);
-        return running::with_counts(q, c);
-    }
-    rec
+    let read = numbers::parse_verse_part(label);
+    let c = verse_findings(info, label, glued, read, source, tape, i, around, rec, list);
+    let q = after_verse(info, label, read, source, tape, i, around, rec);
+    running::with_counts(q, c)
 }

@@ -6,8 +6,8 @@ use mathlib.Core.Path.{_≡_, refl, sym, _∙_}
 use mathlib.Core.Bool.{Bool, true, false}
 use mathlib.Core.List.{List, [], _∷_}
 use lib.Dec.{eqb}
-use lib.ListN.{length, getD, take, drop, length-drop, drop-of-length-le}
-use lib.Seq.{length-take-le}
+use lib.ListN.{length, getD, take, drop, length-take, length-drop, drop-of-length-le}
+use lib.Seq.{length-take-le, take-take}
 use denote.Enum.Declared.{tagOf}
 use types.Run.{OneOf, miss}
 use borrow.Author.Tests.{eq-eqb, ne-eqb}
@@ -21,7 +21,8 @@ use Rattle.table.specs.declared.Category.{Category}
 use Rattle.table.specs.declared.Category.the-variants.{Identification, Chapter, Verse, Paragraph, Character, Note, Milestone, Other}
 use Rattle.table.proofs.Category as declared
 use Rattle.table.proofs.Words.{equal-apart}
-use Rattle.cursor.specs.Names.{nameOf}
+use Rattle.cursor.specs.Names.{namePart, nameOf}
+use Rattle.cursor.specs.Inner.{Reached}
 use Rattle.validate.specs.Milestones.{endsIn, baseOf}
 use Rattle.milestones.specs.Inner.{baseIn, named, Measured}
 
@@ -79,12 +80,27 @@ module _ (s t : List ℕ) (node len : ℕ) (m : Measured s t node len) where
   pub apart : (base : List ℕ) → (len ≡ length base → ⊥) → false ≡ equal (baseOf (nodeAt s t node)) base
   apart base h = sym (equal-apart (baseOf (nodeAt s t node)) base (λ e. h (m .is ∙ e)))
 
-  module _ (name : List ℕ) (is : name ≡ nameOf (cut (span t node) s)) where
-    own-length : len ≡ length name - 2
-    own-length = m .is ∙ rw (← is) (length-take-le (length name - 2) name (omega arith))
+  module _ (x : List ℕ) (is : x ≡ cut (span t node) s) where
+    own-length : len ≡ length (nameOf x) - 2
+    own-length = m .is ∙ rw (← is) (length-take-le (length (nameOf x) - 2) (nameOf x) (omega arith))
 
-    pub own-inside : len ≤ length name
-    own-inside = omega (arith, own-length)
+    module _ (b : ℕ) (h : Reached x (namePart x .start) b) where
+      name-inside : (length (nameOf x) ≤ namePart x .len) × (length (nameOf x) ≤ length x - b)
+      name-inside =
+          let e = length-take (namePart x .len) (drop (namePart x .start) x) in
+          let d = length-drop (namePart x .start) x in
+          let h = h .is in
+          (omega arith, omega arith)
 
-    pub own-base : (base : List ℕ) (r : Bool) → r ≡ equal (take len name) base → r ≡ equal (baseOf (nodeAt s t node)) base
-    own-base base r e = e ∙ rw (own-length, is)
+      pub own-inside : b + len ≤ length x
+      own-inside = omega (arith, own-length, name-inside .1, h .inside)
+
+      pub own-measure : length (take (b + len - b) (drop b x)) ≡ len
+      own-measure = omega (arith, length-take (b + len - b) (drop b x), length-drop b x, own-inside)
+
+      -- the base stands where the name begins
+      pub own-base : (base : List ℕ) (r : Bool) → r ≡ equal (take (b + len - b) (drop b x)) base → r ≡ equal (baseOf (nodeAt s t node)) base
+      own-base base r e =
+          let z : b + len - b ≡ length (nameOf x) - 2 = omega (arith, own-length) in
+          let f = take-take (length (nameOf x) - 2) (namePart x .len) (drop (namePart x .start) x) (omega (arith, name-inside .0)) in
+          e ∙ rw (z, h .is, sym f, is)

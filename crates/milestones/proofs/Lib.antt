@@ -1,4 +1,5 @@
 pub mod Endings
+pub mod Blocks
 pub mod Search
 pub mod Moves
 pub mod Kept

@@ -8,7 +8,7 @@ ghost use mathlib.Core.Path.{_≡_};
 ghost use mathlib.Core.Bool.{not};
 ghost use mathlib.Core.List.{[]};
 ghost use Prim.Native.Nat.{_+_, _*_, _<_, _≤_};
-ghost use lib.ListN.{length};
+ghost use lib.ListN.{length, drop};
 ghost use Rattle.text.specs.Pick.{both};
 ghost use Rattle.tape.specs.Nodes.{nodeAt};
 ghost use Rattle.table.specs.Bytes.{equal};
@@ -67,6 +67,37 @@ fn is_milestone(m: MarkerInfo, name: &[u8]) -> bool
     }
 }
 
+// Whether eight bytes of two lists are the same, if what stands behind them is. No byte ends the loop, so that it becomes one
+// comparison.
+fn same_8(a: &[u8], b: &[u8], at: usize) -> bool
+    requires { ⌜ (at + 8 ≤ length (now a)) × (at + 8 ≤ length (now b)) ⌝ }
+    ensures { λ r. ⌜ both r (equal (drop (at + 8) (now (a .entry))) (drop (at + 8) (now (b .entry)))) ≡ equal (drop at (now (a .entry))) (drop at (now (b .entry))) ⌝ }
+{
+    let mut same = true;
+    let mut k: usize = 0;
+    while k < 8 {
+        same = same & (a[at + k] == b[at + k]);
+        k += 1;
+    }
+    same
+}
+
+// Whether two bases of one length are equal. Bases that differ may be long and differ late.
+fn same_base(a: &[u8], b: &[u8]) -> bool
+    requires { ⌜ length (now a) ≡ length (now b) ⌝ }
+    ensures { λ r. ⌜ r ≡ equal (now (a .entry)) (now (b .entry)) ⌝ }
+{
+    let n = a.len();
+    let mut i: usize = 0;
+    while 8 <= n - i {
+        if !same_8(a, b, i) {
+            return false;
+        }
+        i += 8;
+    }
+    table::same(&a[i..], &b[i..])
+}
+
 // Whether a node has the base; the length of its own is known, and most differ by it.
 fn has_base(source: &[u8], tape: &[u8], node: usize, len: usize, base: &[u8]) -> bool
     requires { ⌜ Measured (now source) (now tape) node len ⌝ }
@@ -75,9 +106,10 @@ fn has_base(source: &[u8], tape: &[u8], node: usize, len: usize, base: &[u8]) ->
     if len != base.len() {
         return false;
     }
-    let name = cursor::marker_name(source, tape, node);
-    let own = &name[..len];
-    table::same(own, base)
+    let text = cursor::text(source, tape, node);
+    let start = cursor::name_start(text);
+    let end = start + len;
+    same_base(&text[start..end], base)
 }
 
 // The latest of the first k entries with the base.

@@ -1,23 +1,37 @@
 -- Laws about labels, and about number 9.
 -- Assumes nothing.
-use Prim.Native.Nat.{ℕ, _-_}
+use Prim.Native.Nat.{ℕ, zero, suc, _+_, _-_, _<_, _≤_}
 use mathlib.Core.Path.{_≡_, refl, sym, ap, _∙_}
 use mathlib.Core.Bool.{Bool, true, false, not}
 use mathlib.Core.List.{List}
 use mathlib.Core.Option.{Option}
-use borrow.Author.Tests.{not-true, not-false}
+use native.Mathlib.Decide.{decLt}
+use native.Mathlib.Nat.{le-refl}
+use native.Mathlib.Omega.{arith}
+use borrow.Author.Tests.{not-true, not-false, lt-ltb, le-ltb}
 use lib.Dec.{ltb}
-use lib.ListN.{length, drop}
-use Rattle.text.specs.Pick.{both, cut}
-use Rattle.text.specs.Characters.{starts}
-use Rattle.text.specs.Words.{secondWord}
+use lib.ListN.{length, getD, take, drop, length-take, length-drop}
+use lib.Seq.{length-take-le, take-add, drop-at, drop-drop, getD-take, getD-drop}
+use Rattle.text.specs.Pick.{both, cut, end, within}
+use Rattle.text.specs.Utf8.{decode}
+use Rattle.text.specs.Blank.{blank}
+use Rattle.text.specs.Characters.{find, starts}
+use Rattle.text.specs.Words.{solid, wordFrom, firstWord, secondWord}
+use Rattle.text.proofs.Boundary.{inside}
+use Rattle.text.proofs.Chars.{stops}
+use Rattle.text.proofs.Cuts.{word-cut}
 use Rattle.tape.specs.Nodes.{count, kindAt, span}
 use Rattle.tape.specs.Reading.{firstBad}
 use Rattle.table.specs.Entries.{Entry, infoOf}
+use Rattle.table.specs.declared.MarkerInfo.{MarkerInfo}
 use Rattle.table.specs.declared.Info.{Info}
 use Rattle.table.specs.declared.Info.the-variants as info
-use Rattle.cursor.specs.Names.{nameOf}
+use Rattle.cursor.specs.declared.NameSpan.{NameSpan}
+use Rattle.cursor.specs.Names.{namePart, nameOf}
 use Rattle.cursor.specs.Info.{infoAt}
+use Rattle.cursor.specs.Inner.{Named}
+use Rattle.cursor.proofs.Named.{name-cut, name-solid}
+use Rattle.numbers.specs.Inner.{splitAt, Labelled}
 use Rattle.numbers.specs.Label.{baseLen, isGlued, pickList, labelOf, splits, numbered, badLabel, labelRefusal}
 
 pub base-own : (m : Info) (name : List ℕ) → m ≡ info.Missing → length name ≡ baseLen (infoOf m) name
@@ -27,13 +41,95 @@ module _ (e : Option Entry) (text name : List ℕ) (base : ℕ) (named : name �
   pub glued-by : ltb base (length name) ≡ isGlued e (nameOf text)
   glued-by = rw (based, named)
 
-  pub label-by : (v : Bool) → ltb base (length name) ≡ v → pickList v (drop base name) (cut (secondWord text) text) ≡ labelOf e text
+  label-by : (v : Bool) → ltb base (length name) ≡ v → pickList v (drop base name) (cut (secondWord text) text) ≡ labelOf e text
   unfolding labelOf
   label-by v h = rw (← h, based, named)
 
-  pub split-by : (v : Bool) → ltb base (length name) ≡ v → both v (not (starts name base)) ≡ splits e text
-  unfolding splits
-  split-by v h = rw (← h, based, named)
+-- the end of the first word, by that of the name
+pub first-end : (s : List ℕ) (e : ℕ) → e ≡ end (namePart s) → 0 < e → e ≤ length s → e + find blank (drop e s) ≡ end (firstWord s)
+unfolding wordFrom
+first-end s e is some h =
+    let on : 0 + find blank s ≡ e + find blank (drop e s) = name-solid s ∙ rw is in
+    let z : 0 + find solid s ≡ 0 = stops solid s 0 (omega arith) (ap not (go (blank (decode s .cp)) refl on)) in
+    sym (rw z on)
+  where
+    go : (v : Bool) → blank (decode s .cp) ≡ v → 0 + find blank s ≡ e + find blank (drop e s) → blank (decode s .cp) ≡ false
+    go false y on = y
+    go true y on = absurd (omega (arith, stops blank s 0 (omega arith) y))
+
+-- the part of a part, from the place k on
+part-from : (s : List ℕ) (b e k : ℕ) → k ≤ e - b → e ≤ length s → take (e - (b + k)) (drop (b + k) s) ≡ drop k (take (e - b) (drop b s))
+part-from s b e k h i =
+    let n : e - b ≡ k + (e - (b + k)) = omega arith in
+    let m = length-take-le k (drop b s) (omega (arith, length-drop b s)) in
+    rw (n, take-add k (e - (b + k)) (drop b s), drop-at (take k (drop b s)) (take (e - (b + k)) (drop k (drop b s))) k m, drop-drop k b s)
+
+-- the places of the label: in the name, and past the first word
+module _ (e : Option Entry) (s : List ℕ) (at : NameSpan) (base : ℕ) (named : Named s at) (based : base ≡ baseLen e (take (at .end - at .start) (drop (at .start) s))) where
+  abbrev name : List ℕ
+  name = take (at .end - at .start) (drop (at .start) s)
+
+  pub in-name : base < length name → Labelled e s (record { start = at .start + base; end = at .end; glued = true })
+  in-name h =
+      let l = length-take-le (at .end - at .start) (drop (at .start) s) (omega (arith, named .inside, length-drop (at .start) s)) in
+      let v = lt-ltb base (length name) h in
+      record {
+        is-glued = sym v ∙ glued-by e s name base (name-cut s at named) based;
+        is-label = part-from s (at .start) (at .end) base (omega arith) (named .inside) ∙ label-by e s name base (name-cut s at named) based true v;
+        ordered = omega arith;
+        inside = named .inside;
+      }
+
+  pub past-name : (f a z : ℕ) → length name ≤ base → f ≡ end (firstWord s) → a ≡ f + find solid (drop f s) → z ≡ a + find blank (drop a s) → z ≤ length s → Labelled e s (record { start = a; end = z; glued = false })
+  past-name f a z h is-first is-start is-end inside =
+      let v = le-ltb base (length name) h in
+      record {
+        is-glued = sym v ∙ glued-by e s name base (name-cut s at named) based;
+        is-label = word-cut s f a z is-start is-end ∙ ap (λ (i : ℕ). cut (wordFrom i s) s) is-first ∙ label-by e s name base (name-cut s at named) based false v;
+        ordered = omega arith;
+        inside = inside;
+      }
+
+-- where a name would be split, by the text that it stands in
+module _ (s : List ℕ) (b base : ℕ) (is-start : b ≡ namePart s .start) where
+  short : length (nameOf s) ≤ length s - b
+  short = omega (arith, length-take (namePart s .len) (drop (namePart s .start) s), length-drop (namePart s .start) s)
+
+  pub split-past : length s - b ≤ base → false ≡ splitAt (nameOf s) base
+  split-past h = rw (le-ltb base (length (nameOf s)) (omega (arith, short)))
+
+  name-starts : (n : ℕ) → n < length (nameOf s) → starts s (b + n) ≡ true → starts (nameOf s) n ≡ true
+  name-starts zero l h = refl
+  name-starts (suc k) l h =
+      let in-part : suc k < namePart s .len = omega (arith, length-take (namePart s .len) (drop (namePart s .start) s)) in
+      let byte : getD (nameOf s) (suc k) 0 ≡ getD s (b + suc k) 0 = getD-take (namePart s .len) (drop (namePart s .start) s) (suc k) 0 in-part ∙ getD-drop (namePart s .start) s (suc k) 0 ∙ rw is-start in
+      inside (nameOf s) (suc k) (λ z. omega arith) l
+      ∙ ap (λ (x : ℕ). not (within 0x80 0xBF x)) byte
+      ∙ sym (inside s (b + suc k) (λ z. omega arith) (omega (arith, short)))
+      ∙ h
+
+  pub split-none : starts s (b + base) ≡ true → false ≡ splitAt (nameOf s) base
+  split-none h = go (decLt base (length (nameOf s)))
+    where
+      whole : (v t : Bool) → t ≡ true → false ≡ both v (not t)
+      whole true t e = rw e
+      whole false t e = refl
+
+      go : Dec (base < length (nameOf s)) → false ≡ splitAt (nameOf s) base
+      go (yes l) = whole (ltb base (length (nameOf s))) (starts (nameOf s) base) (name-starts base l h)
+      go (no l) = rw (le-ltb base (length (nameOf s)) (omega arith))
+
+-- by its own bytes
+pub split-by : (s name : List ℕ) (base : ℕ) → name ≡ nameOf s → (v : Bool) → ltb base (length name) ≡ v → both v (not (starts name base)) ≡ splitAt (nameOf s) base
+split-by s name base named v h = rw (← h, named)
+
+pub split-known : (m : MarkerInfo) (i : Info) (s : List ℕ) → i ≡ info.Known m → splitAt (nameOf s) (m .«name_len») ≡ splits (infoOf i) s
+unfolding splits
+split-known m i s h = rw h
+
+pub split-missing : (i : Info) (s : List ℕ) → i ≡ info.Missing → false ≡ splits (infoOf i) s
+unfolding splits
+split-missing i s h = rw (h, le-ltb (length (nameOf s)) (length (nameOf s)) (le-refl (length (nameOf s))))
 
 -- whether a node turns the tape back
 module _ (table s t : List ℕ) (i k : ℕ) (x : Bool) (kind-is : k ≡ kindAt t i) (numbered-is : x ≡ numbered k) where

@@ -1,2 +1,3 @@
 pub mod Verse
 pub mod Label
+pub mod Inner

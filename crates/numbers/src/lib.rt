@@ -1,13 +1,17 @@
 // Chapter and verse numbers: labels, verse positions, and the order of verses.
+use cursor::NameSpan;
 use table::Info;
 use text::Parsed;
 ghost use mathlib.Core.Path.{_≡_};
 ghost use Prim.Native.Nat.{_≤_};
+ghost use Rattle.text.specs.Pick.{end};
+ghost use Rattle.text.specs.Words.{firstWord};
 ghost use Rattle.tape.specs.Forest.{Accepted};
 ghost use Rattle.table.specs.Entries.{Indexed, infoOf};
 ghost use Rattle.cursor.specs.Names.{nameOf};
-ghost use Rattle.cursor.specs.Inner.{Spanned};
+ghost use Rattle.cursor.specs.Inner.{Spanned, Named, Reached};
 ghost use Rattle.numbers.specs.Label.{baseLen, isGlued, labelOf, splits, numbered, badLabel, labelRefusal, refusalOf};
+ghost use Rattle.numbers.specs.Inner.{splitAt, Labelled};
 ghost use Rattle.numbers.specs.Verse.{versePart, verseEnd, next, inSequence, letterOf, noEarlier, otherNumber, suffixOf, positionOf, readOf, Readable};
 
 // The letter of a verse position, `9a`, or none.
@@ -24,6 +28,13 @@ pub struct VersePart {
 pub enum PartRead {
     Is(VersePart),
     NotRead,
+}
+
+// Where a label stands in its node's text, and whether that is in the marker's name.
+pub struct LabelSpan {
+    pub start: usize,
+    pub end: usize,
+    pub glued: bool,
 }
 
 // What the check of the labels finds: nothing, or the node whose name is cut inside a character (number 9).
@@ -50,27 +61,80 @@ pub fn is_glued(info: Info, text: &[u8]) -> bool
     base_len(info, name) < name.len()
 }
 
+// Where the first word ends. Nothing before the name's end is blank, so that it is looked for from there on, unless that is the
+// text's start.
+fn first_word_end(text: &[u8], at: NameSpan) -> usize
+    requires { ⌜ Named (now text) at ⌝ }
+    ensures { λ r. ⌜ Reached (now (text .entry)) (end (firstWord (now (text .entry)))) r ⌝ }
+{
+    let e = at.end;
+    if e == 0 {
+        let a = text::find_from(text, 0, false);
+        return text::find_from(text, a, true);
+    }
+    text::find_from(text, e, true)
+}
+
+// The label by its places, for a caller that asks whether it is glued, too: the name is read once.
+pub fn label_span(info: Info, text: &[u8]) -> LabelSpan
+    ensures { λ r. ⌜ Labelled (infoOf info) (now (text .entry)) r ⌝ }
+{
+    let at = cursor::name_span(text);
+    let b = at.start;
+    let e = at.end;
+    let name = &text[b..e];
+    let base = base_len(info, name);
+    if base < name.len() {
+        return LabelSpan {
+            start: b + base,
+            end: e,
+            glued: true,
+        };
+    }
+    let a = text::find_from(text, first_word_end(text, at), false);
+    LabelSpan {
+        start: a,
+        end: text::find_from(text, a, true),
+        glued: false,
+    }
+}
+
 // The number of a chapter or a verse as written: a part of the node's text.
 pub fn number_label(info: Info, text: &[u8]) -> &[u8]
     ensures { λ r. ⌜ now r ≡ labelOf (infoOf info) (now (text .entry)) ⌝ }
 {
-    let name = cursor::name_of(text);
-    let base = base_len(info, name);
-    if base < name.len() {
-        return &name[base..];
+    let at = label_span(info, text);
+    let a = at.start;
+    let e = at.end;
+    &text[a..e]
+}
+
+// Whether a name is longer than so many bytes and cut inside a character there. Mostly the text's end or its byte at that place
+// rules this out, whatever the name is: only otherwise is the name read.
+fn is_split(text: &[u8], base: usize) -> bool
+    ensures { λ r. ⌜ r ≡ splitAt (nameOf (now (text .entry))) base ⌝ }
+{
+    let b = cursor::name_start(text);
+    if text.len() - b <= base {
+        return false;
     }
-    text::second_word(text)
+    if text::is_char_boundary(text, b + base) {
+        return false;
+    }
+    let name = cursor::name_of(text);
+    if base < name.len() {
+        return !text::is_char_boundary(name, base);
+    }
+    false
 }
 
 fn label_splits(info: Info, text: &[u8]) -> bool
     ensures { λ r. ⌜ r ≡ splits (infoOf info) (now (text .entry)) ⌝ }
 {
-    let name = cursor::name_of(text);
-    let base = base_len(info, name);
-    if base < name.len() {
-        return !text::is_char_boundary(name, base);
+    match info {
+        Info::Known(m) => is_split(text, m.name_len),
+        Info::Missing => false,
     }
-    false
 }
 
 pub fn is_numbered(kind: u8) -> bool

@@ -482,7 +482,6 @@ pub fn visit_marker(
     c = place_findings(name, m, source, tape, i, to, around, numbers, next, list, c);
     c = content_findings(name, source, tape, i, link, list, c);
     c = row_findings(name, source, tape, from, link, list, c);
-    let written = cursor::marker_name(source, tape, i);
-    c = attributes::validate_attributes(source, tape, from, link, i, written, list, c);
+    c = attributes::validate_attributes(source, tape, from, link, i, list, c);
     running::with_counts(next, c)
 }

@@ -5,6 +5,7 @@ pub mod Parts
 pub mod Finding
 pub mod Unpack
 pub mod Values
+pub mod Heads
 pub mod Steps
 pub mod Filling
 pub mod NumberOne

@@ -12,10 +12,9 @@ use Rattle.table.specs.declared.DefaultAttribute.the-variants.{Lemma, Gl
 use Rattle.table.specs.Entries.{categoryOf, roleOf}
 use Rattle.text.specs.Pick.{either, pickOption}
 use Rattle.table.specs.Bytes.{equal, oneOf, starting}
-use Rattle.table.specs.Lines.{roleKey, roles}
 use Rattle.table.specs.Names.{lemmaNames, rb, xt, ref, jmp, periph, qt, pickDefault, defaultOf}
 use Rattle.table.specs.Books.{codeFrom}
-use Rattle.table.specs.Inner.{attributeAt, attributeBy, categoryAt, roleAt, lineValue, wordValue}
+use Rattle.table.specs.Inner.{attributeAt, attributeBy, categoryAt, roleAt, stepOf}
 
 pub category-rest : (n : ℕ) → (n ≡ 0 → ⊥) → (n ≡ 1 → ⊥) → (n ≡ 2 → ⊥) → (n ≡ 3 → ⊥) → (n ≡ 4 → ⊥) → (n ≡ 5 → ⊥) → (n ≡ 6 → ⊥) → Other ≡ categoryAt n
 category-rest zero a b c d e f g = absurd (a refl)
@@ -88,7 +87,8 @@ unfolding defaultOf oneOf lemmaNames codeFrom owners
 default-is s =
     default-by (equal (119 ∷ []) s) (equal (119 ∷ 97 ∷ []) s) (equal (119 ∷ 103 ∷ []) s) (equal (119 ∷ 104 ∷ []) s) (equal rb s) (equal xt s) (equal ref s) (equal jmp s) (equal periph s) (starting qt s)
 
-pub role-line : (j : ℕ) (s : List ℕ) → (j ≡ 0 → ⊥) → (j ≡ 1 → ⊥) → wordValue roleKey roles s ≡ lineValue j s
-role-line zero s a b = absurd (a refl)
-role-line (suc zero) s a b = absurd (b refl)
-role-line (suc (suc j)) s a b = refl
+pub role-line : (j at : ℕ) (l : List ℕ) → (j ≡ 0 → ⊥) → (j ≡ 1 → ⊥) → stepOf 2 at l ≡ stepOf j at l
+unfolding stepOf
+role-line zero at l a b = absurd (a refl)
+role-line (suc zero) at l a b = absurd (b refl)
+role-line (suc (suc j)) at l a b = refl

@@ -9,39 +9,33 @@ use native.Mathlib.Omega.{arith}
 use lib.Dec.{ltb}
 use lib.ListN.{length, take, drop, length-drop}
 use lib.Seq.{length-take-le}
-use borrow.Author.Tests.{lt-ltb, le-ltb, ltb-true, ltb-false, ne-eqb}
+use borrow.Author.Tests.{lt-ltb, ltb-true, ltb-false, ne-eqb}
 use Rattle.text.specs.Pick.{both}
 use Rattle.text.proofs.Cuts.{rest-all}
 use Rattle.text.proofs.Rows.{both-false}
+use Rattle.table.specs.declared.Step.{Step}
 use Rattle.table.specs.declared.Step.the-variants as step
 use Rattle.table.specs.declared.Marker.the-variants as marker
 use Rattle.table.specs.Lines.{lines, goodBody, badFrom, categoryKey, categories, roleKey, roles}
 use Rattle.table.specs.Entries.{Entry, entryOf, entriesOf}
 use Rattle.table.specs.Inner.{known, lineValue, stepBy, stepOf, Marked}
-use Rattle.table.proofs.Parts.{width, first, line-there, line-none, break-le, break-at}
+use Rattle.table.proofs.Parts.{width, first, line-there, line-none}
 use Rattle.table.proofs.Values.{good-known, Named, name-says, shorter, Worded, word-says}
 use Rattle.table.proofs.Words.{every}
 
--- the line at a place, by the steps that the code takes
-module _ (t : List ℕ) (at j n : ℕ) (h : at ≤ length t) (is : n ≡ width (take (length t - at) (drop at t))) where
-  abbrev rest : List ℕ
-  rest = take (length t - at) (drop at t)
+-- the line at the head of what stands at a place, its end counted from the start of the text
+abbrev pub further : ℕ → Step → Step
+further at (step.Good v n) = step.Good v (at + n)
+further at step.Bad = step.Bad
 
-  all : rest ≡ drop at t
-  all = rest-all t at
-
-  here : n ≡ width (drop at t)
-  here = break-at t at n is h
-
-  pub line-open : n ≡ length rest → step.Bad ≡ stepOf j at (drop at t)
-  unfolding stepOf
-  line-open e = rw (← here, le-ltb n (length (drop at t)) (omega (arith, ap length all)))
-
-  pub line-by : (n ≡ length rest → ⊥) → (o : Option ℕ) → o ≡ lineValue j (take n rest) → stepBy true o (at + n + 1) ≡ stepOf j at (drop at t)
-  unfolding stepOf
-  line-by e o f =
-      let l : n < length (drop at t) = omega (arith, break-le t at n is, ap length all, e) in
-      rw (← here, lt-ltb n (length (drop at t)) l, f, all)
+pub line-moved : (t : List ℕ) (at j : ℕ) (r : Step) → r ≡ stepOf j 0 (take (length t - at) (drop at t)) → further at r ≡ stepOf j at (drop at t)
+unfolding stepOf
+line-moved t at j r e = rw (e, rest-all t at) (go (ltb (width (drop at t)) (length (drop at t))) (lineValue j (take (width (drop at t)) (drop at t))))
+  where
+    go : (b : Bool) (o : Option ℕ) → further at (stepBy b o (0 + width (drop at t) + 1)) ≡ stepBy b o (at + width (drop at t) + 1)
+    go true (some v) = ap (step.Good v) (omega arith)
+    go true none = refl
+    go false o = refl
 
 -- past a good line
 pub record Stepped (t : List ℕ) (at j v next : ℕ) : Type 0 where

@@ -13,7 +13,7 @@ use lib.Seq.{drop-drop}
 use borrow.Author.Tests.{eq-eqb, ne-eqb, eqb-true}
 use Rattle.text.specs.Pick.{both, either, pickNat, pickOption}
 use Rattle.text.proofs.Rows.{both-left, both-right, place}
-use Rattle.table.specs.Bytes.{equal, all, oneOf, starting, beyond}
+use Rattle.table.specs.Bytes.{equal, oneOf, starting, beyond}
 use Rattle.table.specs.Entries.{position}
 use Rattle.table.specs.Names.{noteOnly}
 use Rattle.table.specs.Books.{codeFrom}
@@ -55,20 +55,6 @@ module _ (a b : List ℕ) (i : ℕ) where
   pub equal-ends : length a ≤ i → length b ≤ i → equal (drop i a) (drop i b) ≡ true
   unfolding equal
   equal-ends h k = rw (drop-of-length-le a h, drop-of-length-le b k)
-
--- the same of a test of every byte
-module _ (p : ℕ → Bool) (s : List ℕ) (i : ℕ) where
-  pub all-past : i < length s → p (getD s i 0) ≡ true → all p (drop i s) ≡ all p (drop (i + 1) s)
-  unfolding all
-  all-past h e = rw (place s i h, e)
-
-  pub all-stops : i < length s → p (getD s i 0) ≡ false → all p (drop i s) ≡ false
-  unfolding all
-  all-stops h e = rw (place s i h, e)
-
-  pub all-ends : length s ≤ i → all p (drop i s) ≡ true
-  unfolding all
-  all-ends h = rw (drop-of-length-le s h)
 
 -- the first word that equals the list, and the words before it
 module _ (k : ℕ) (s : List ℕ) where

@@ -6,10 +6,10 @@ use mathlib.Core.List.{List, [], _∷_}
 use mathlib.Core.Option.{Option, some, none}
 use lib.Dec.{eqb, ltb}
 use lib.ListN.{length, take, drop}
-use Rattle.text.specs.Pick.{pickOption}
+use Rattle.text.specs.Pick.{both, within, pickOption}
 use Rattle.text.specs.Characters.{findByte}
-use Rattle.table.specs.Bytes.{starting, beyond}
-use Rattle.table.specs.Lines.{lines, nameKey, categoryKey, roleKey, categories, roles, goodName, badFrom}
+use Rattle.table.specs.Bytes.{all, starting, beyond}
+use Rattle.table.specs.Lines.{lines, nameKey, categoryKey, roleKey, categories, roles, nameByte, badFrom}
 use Rattle.table.specs.Entries.{Entry, entriesOf, pack, Sound}
 use Rattle.table.specs.declared.Value.{Value}
 use Rattle.table.specs.declared.Value.the-variants as value
@@ -44,16 +44,17 @@ triples (a ∷ b ∷ []) = []
 triples (a ∷ b ∷ c ∷ l) = (a ∷ b ∷ c ∷ []) ∷ triples l
 
 -- what a good line says behind its key: the name's length, or the position of the word among the words
-abbrev pub nameValue : List ℕ → Option ℕ
-nameValue s = pickOption (goodName s) (some (length (beyond nameKey s))) none
+abbrev pub nameOf : List ℕ → Option ℕ
+nameOf s = pickOption (both (within 1 16 (length s)) (all nameByte s)) (some (length s)) none
 
-abbrev pub wordValue : List ℕ → List (List ℕ) → List ℕ → Option ℕ
-wordValue key ws s = pickOption (starting key s) (codeFrom 0 ws (beyond key s)) none
+-- what a line says that begins with a key
+abbrev pub keyed : List ℕ → (List ℕ → Option ℕ) → List ℕ → Option ℕ
+keyed key value s = pickOption (starting key s) (value (beyond key s)) none
 
 abbrev pub lineValue : ℕ → List ℕ → Option ℕ
-lineValue zero s = nameValue s
-lineValue (suc zero) s = wordValue categoryKey categories s
-lineValue (suc (suc j)) s = wordValue roleKey roles s
+lineValue zero s = keyed nameKey nameOf s
+lineValue (suc zero) s = keyed categoryKey (codeFrom 0 categories) s
+lineValue (suc (suc j)) s = keyed roleKey (codeFrom 0 roles) s
 
 abbrev pub known : Option ℕ → Bool
 known (some n) = true
@@ -69,8 +70,19 @@ stepBy true (some v) next = step.Good v next
 stepBy true none next = step.Bad
 stepBy false o next = step.Bad
 
+abbrev pub stepWith : (List ℕ → Option ℕ) → ℕ → List ℕ → Step
+stepWith value at l = stepBy (ltb (findByte (eqb 10) l) (length l)) (value (take (findByte (eqb 10) l) l)) (at + findByte (eqb 10) l + 1)
+
 unfoldable pub stepOf : ℕ → ℕ → List ℕ → Step
-stepOf j at l = stepBy (ltb (findByte (eqb 10) l) (length l)) (lineValue j (take (findByte (eqb 10) l) l)) (at + findByte (eqb 10) l + 1)
+stepOf j at l = stepWith (lineValue j) at l
+
+-- what follows a key that a text begins with, or nothing
+abbrev pub behindBy : Bool → List ℕ → List ℕ
+behindBy true l = l
+behindBy false l = []
+
+abbrev pub behindKey : List ℕ → List ℕ → List ℕ
+behindKey key l = behindBy (starting key l) (beyond key l)
 
 -- the three lines of marker number m at a place: they are good, and what follows them gives what is left
 pub record Passed (t : List ℕ) (at : ℕ) (w next : ℕ) : Type 0 where

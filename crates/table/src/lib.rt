@@ -1,14 +1,16 @@
 // The marker table: its layout, its entries, and what is looked up in it.
 ghost use mathlib.Core.Path.{_≡_};
 ghost use Prim.Native.Nat.{_+_, _<_, _≤_};
+ghost use mathlib.Core.Bool.{not};
 ghost use lib.ListN.{length, drop, take};
 ghost use Rattle.text.specs.Pick.{within, cut};
-ghost use Rattle.table.specs.Bytes.{equal, all, oneOf, starting};
-ghost use Rattle.table.specs.Lines.{nameByte, badTable};
+ghost use Rattle.text.specs.Characters.{findByte};
+ghost use Rattle.table.specs.Bytes.{equal, oneOf, starting};
+ghost use Rattle.table.specs.Lines.{nameByte, categories, roles, badTable};
 ghost use Rattle.table.specs.Entries.{entries, nth, infoOf, entryOfInfo, Indexed, placeOf, leaves};
 ghost use Rattle.table.specs.Names.{undigited, strippedLength, tailOff, named, lookedUp, foundOf, defaultOf, frontMatter, noteOnly, glued};
 ghost use Rattle.table.specs.Books.{codeFrom, bookOf, idOf};
-ghost use Rattle.table.specs.Inner.{wordsOf, triples, known, nameValue, wordValue, lineValue, valueOf, stepOf, Marked, attributeAt, categoryAt, roleAt, stripped, unglued};
+ghost use Rattle.table.specs.Inner.{wordsOf, triples, known, nameOf, valueOf, stepWith, behindKey, stepOf, Marked, attributeAt, categoryAt, roleAt, stripped, unglued};
 
 // A place in the marker table.
 pub struct MarkerId(pub u16);
@@ -294,61 +296,104 @@ fn is_name_byte(b: u8) -> bool
     }
 }
 
-fn name_bytes(s: &[u8]) -> bool
-    ensures { λ r. ⌜ r ≡ all nameByte (now (s .entry)) ⌝ }
+// How many name bytes stand at the head.
+fn name_len(s: &[u8]) -> usize
+    ensures { λ r. ⌜ r ≡ findByte (λ b. not (nameByte b)) (now (s .entry)) ⌝ }
 {
     let mut i: usize = 0;
     while i < s.len() {
         if !is_name_byte(s[i]) {
-            return false;
+            return i;
         }
         i += 1;
     }
-    true
+    i
 }
 
-fn name_value(line: &[u8]) -> Value
-    ensures { λ r. ⌜ valueOf r ≡ nameValue (now (line .entry)) ⌝ }
+// What a name's line says, from behind its key on. No name byte is byte 10, so that its end is found on the way.
+fn name_step(s: &[u8]) -> Step
+    ensures { λ r. ⌜ r ≡ stepWith nameOf 5 (now (s .entry)) ⌝ }
 {
-    if !starts_with(line, b"name=") {
-        return Value::Unknown;
+    let n = name_len(s);
+    if n == s.len() {
+        return Step::Bad;
     }
-    let n = line.len() - 5;
-    if n == 0 {
-        return Value::Unknown;
+    if s[n] != 10 {
+        return Step::Bad;
     }
-    if 16 < n {
-        return Value::Unknown;
-    }
-    if name_bytes(&line[5..]) {
-        Value::Known(n)
-    } else {
-        Value::Unknown
+    match n {
+        1..=16 => Step::Good(n, n + 6),
+        _ => Step::Bad,
     }
 }
 
-fn word_value(line: &[u8], key: &[u8], words: &[u8]) -> Value
-    ensures { λ r. ⌜ valueOf r ≡ wordValue (now (key .entry)) (wordsOf (now (words .entry))) (now (line .entry)) ⌝ }
+// The same of a category's. The second number counts the key, the word and byte 10.
+// Compared with byte 10 behind it, a word needs no search for the end of the line.
+fn category_step(s: &[u8]) -> Step
+    ensures { λ r. ⌜ r ≡ stepWith (codeFrom 0 categories) 9 (now (s .entry)) ⌝ }
 {
-    if !starts_with(line, key) {
-        return Value::Unknown;
+    if starts_with(s, b"identification\n") {
+        return Step::Good(0, 24);
     }
-    let from = key.len();
-    word_in(words, &line[from..])
+    if starts_with(s, b"chapter\n") {
+        return Step::Good(1, 17);
+    }
+    if starts_with(s, b"verse\n") {
+        return Step::Good(2, 15);
+    }
+    if starts_with(s, b"paragraph\n") {
+        return Step::Good(3, 19);
+    }
+    if starts_with(s, b"character\n") {
+        return Step::Good(4, 19);
+    }
+    if starts_with(s, b"note\n") {
+        return Step::Good(5, 14);
+    }
+    if starts_with(s, b"milestone\n") {
+        return Step::Good(6, 19);
+    }
+    if starts_with(s, b"other\n") {
+        return Step::Good(7, 15);
+    }
+    Step::Bad
 }
 
-// What line number j of a marker says.
-fn line_value(line: &[u8], j: u8) -> Value
-    ensures { λ r. ⌜ valueOf r ≡ lineValue j (now (line .entry)) ⌝ }
+// The same of a role's.
+fn role_step(s: &[u8]) -> Step
+    ensures { λ r. ⌜ r ≡ stepWith (codeFrom 0 roles) 5 (now (s .entry)) ⌝ }
+{
+    if starts_with(s, b"content\n") {
+        return Step::Good(0, 13);
+    }
+    if starts_with(s, b"excluded\n") {
+        return Step::Good(1, 14);
+    }
+    if starts_with(s, b"boundary\n") {
+        return Step::Good(2, 14);
+    }
+    Step::Bad
+}
+
+// What follows a key, or nothing where the text does not begin with it, since an empty text has no good line.
+fn behind<'a>(s: &'a [u8], key: &[u8]) -> &'a [u8]
+    ensures { λ r. ⌜ now r ≡ behindKey (now (key .entry)) (now (s .entry)) ⌝ }
+{
+    if starts_with(s, key) {
+        let from = key.len();
+        return &s[from..];
+    }
+    &s[..0]
+}
+
+// Line number j of a marker, at the head of a text.
+fn first_line(s: &[u8], j: u8) -> Step
+    ensures { λ r. ⌜ r ≡ stepOf j 0 (now (s .entry)) ⌝ }
 {
     match j {
-        0 => name_value(line),
-        1 => word_value(
-            line,
-            b"category=",
-            b"identification\nchapter\nverse\nparagraph\ncharacter\nnote\nmilestone\nother\n",
-        ),
-        _ => word_value(line, b"role=", b"content\nexcluded\nboundary\n"),
+        0 => name_step(behind(s, b"name=")),
+        1 => category_step(behind(s, b"category=")),
+        _ => role_step(behind(s, b"role=")),
     }
 }
 
@@ -356,14 +401,9 @@ fn line_at(table: &[u8], at: usize, j: u8) -> Step
     requires { ⌜ at ≤ length (now table) ⌝ }
     ensures { λ r. ⌜ r ≡ stepOf j at (drop at (now (table .entry))) ⌝ }
 {
-    let rest = &table[at..];
-    let n = text::find_byte(rest, 10);
-    if n == rest.len() {
-        return Step::Bad;
-    }
-    match line_value(&rest[..n], j) {
-        Value::Known(v) => Step::Good(v, at + n + 1),
-        Value::Unknown => Step::Bad,
+    match first_line(&table[at..], j) {
+        Step::Good(v, n) => Step::Good(v, at + n),
+        Step::Bad => Step::Bad,
     }
 }
 

@@ -10,7 +10,7 @@ use native.Mathlib.Omega.{arith}
 use lib.Dec.{leb, ltb, eqb}
 use lib.ListN.{length, getD, drop, length-append, List·getD-append}
 use lib.Seq.{drop-append-seam, getD-append-add}
-use borrow.Author.Tests.{eq-eqb, ne-eqb, le-leb, lt-leb, lt-ltb, le-ltb, eqb-false, leb-true, leb-false}
+use borrow.Author.Tests.{eq-eqb, ne-eqb, le-leb, lt-leb, lt-ltb, le-ltb, eqb-true, eqb-false, leb-true, leb-false}
 use Rattle.text.specs.Pick.{Range, both, either, within}
 use Rattle.text.specs.Utf8.{table, widthOf, fits, Made, nothing, more, decoded, decode}
 use Rattle.text.specs.Characters.{chars, between, starts}
@@ -22,14 +22,18 @@ use Rattle.text.proofs.Shape.{row-first, row-further}
 pub at-zero : (s : List ℕ) (at : ℕ) → at ≡ 0 → starts s at ≡ true
 at-zero s at e = rw (eq-eqb at 0 e)
 
-pub past-end : (s : List ℕ) (at : ℕ) → (at ≡ 0 → ⊥) → length s ≤ at → starts s at ≡ eqb at (length s)
-past-end s at n h = rw (ne-eqb at 0 n) (go (eqb at (length s)) refl)
+pub past-end : (s : List ℕ) (at : ℕ) → length s ≤ at → starts s at ≡ eqb at (length s)
+past-end s at h = zero-or (eqb at 0) refl
   where
     go : (t : Bool) → eqb at (length s) ≡ t → either t (both (leb at (length s)) (not (within 0x80 0xBF (getD s at 0)))) ≡ t
     go true e = refl
     go false e = let m = eqb-false at (length s) e in rw (lt-leb at (length s) (omega arith))
 
-inside : (s : List ℕ) (at : ℕ) → (at ≡ 0 → ⊥) → at < length s → starts s at ≡ not (within 0x80 0xBF (getD s at 0))
+    zero-or : (t : Bool) → eqb at 0 ≡ t → starts s at ≡ eqb at (length s)
+    zero-or true e = rw (e, eq-eqb at (length s) (omega (arith, eqb-true at 0 e)))
+    zero-or false e = rw e (go (eqb at (length s)) refl)
+
+pub inside : (s : List ℕ) (at : ℕ) → (at ≡ 0 → ⊥) → at < length s → starts s at ≡ not (within 0x80 0xBF (getD s at 0))
 inside s at n h = let m : at ≡ length s → ⊥ = λ e. omega arith in rw (ne-eqb at 0 n, ne-eqb at (length s) m, le-leb at (length s) (omega arith))
 
 pub inside-low : (s : List ℕ) (at : ℕ) → at < length s → getD s at 0 < 0x80 → starts s at ≡ true

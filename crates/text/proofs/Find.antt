@@ -19,7 +19,7 @@ use Rattle.text.specs.Characters.{chars, before, find, findByte}
 use Rattle.text.proofs.Rows.{both-false, both-left, both-right, within-lo, within-hi, row-short}
 use Rattle.text.proofs.Scan.{ascii-one}
 use Rattle.text.proofs.Decode.{decode-1, decode-width}
-use Rattle.text.proofs.Chars.{chars-nil, chars-cons}
+use Rattle.text.proofs.Chars.{chars-nil, chars-cons, tested-by, past}
 use Rattle.text.proofs.Exact.{Found, found, begins-fits, fits-length}
 use Rattle.text.proofs.Shape.{row-further}
 use Rattle.text.proofs.Induction.{by-length}
@@ -104,6 +104,12 @@ high-bytes b s (suc k) h l = go (widthOf (b ∷ s)) refl (rw (decode-is b s) at 
 -- an ASCII byte is a character of its own
 pub low-decode : (b : ℕ) (s : List ℕ) → b < 0x80 → decode (b ∷ s) ≡ record { cp = b; width = 1 }
 low-decode b s h = sym (decode-1 (b ∷ s) 0 (omega arith) (ascii-one (b ∷ s) 0 (omega arith) h))
+
+-- past one that does not pass the test
+pub past-ascii : (p : ℕ → Bool) (s : List ℕ) (i : ℕ) → i < length s → getD s i 0 < 0x80 → p (getD s i 0) ≡ false → i + find p (drop i s) ≡ i + 1 + find p (drop (i + 1) s)
+past-ascii p s i h l y =
+    let d = decode-1 s i h (ascii-one s i h l) in
+    past p s i 1 h (ap (λ (x : Decoded). x .width) d) (tested-by p s i _ (p (getD s i 0)) false d refl y)
 
 module _ (p : ℕ → Bool) (flat : (c d : ℕ) → 0x80 ≤ c → 0x80 ≤ d → p c ≡ p d) where
   -- bytes that do not pass are passed over

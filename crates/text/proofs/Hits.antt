@@ -17,7 +17,7 @@ use Rattle.text.specs.Blank.{blank}
 use Rattle.text.specs.Characters.{chars, before, find}
 use Rattle.text.specs.Words.{solid, keptBy, kept, trim, blankText}
 use Rattle.text.proofs.Induction.{by-length}
-use Rattle.text.proofs.Chars.{chars-nil, chars-cons, chars-at, in-text}
+use Rattle.text.proofs.Chars.{chars-nil, chars-cons, chars-at, in-text, past, stops, ends}
 use Rattle.text.proofs.Decode.{decode-width}
 use Rattle.text.proofs.Kept.{find-le}
 
@@ -42,6 +42,31 @@ module _ (p : ℕ → Bool) where
 
   pub find-hits : (l : List ℕ) → Hits l
   find-hits l = by-length Hits hit-step l
+
+-- a search for less goes on where a search for more ends
+module _ (p q : ℕ → Bool) (less : (c : ℕ) → q c ≡ false → p c ≡ false) (s : List ℕ) where
+  abbrev On : ℕ → Type 0
+  On i = i + find p (drop i s) ≡ i + find q (drop i s) + find p (drop (i + find q (drop i s)) s)
+
+  on-here : (i : ℕ) → i + find q (drop i s) ≡ i → On i
+  on-here i z = rw z
+
+  on-by : (n i : ℕ) → length s ≤ i + n → On i
+  on-by zero i h = on-here i (ends q s i (omega arith))
+  on-by (suc n) i h = turn (decLt i (length s)) (q (decode (drop i s) .cp)) refl (on-by n (i + decode (drop i s) .width))
+    where
+      w : ℕ
+      w = decode (drop i s) .width
+
+      turn : Dec (i < length s) → (v : Bool) → q (decode (drop i s) .cp) ≡ v → (length s ≤ i + w + n → On (i + w)) → On i
+      turn (no l) v y r = on-here i (ends q s i (omega arith))
+      turn (yes l) true y r = on-here i (stops q s i l y)
+      turn (yes l) false y r =
+          let d = in-text s i l in
+          rw (past q s i w l refl y) (past p s i w l refl (less (decode (drop i s) .cp) y) ∙ r (omega arith))
+
+  pub find-on : (i : ℕ) → On i
+  find-on i = on-by (length s) i (omega arith)
 
 kept-some : (s : List ℕ) (i : ℕ) → i < length s → blank (decode (drop i s) .cp) ≡ false → eqb (kept (chars (drop i s))) 0 ≡ false
 unfolding kept

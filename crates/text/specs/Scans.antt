@@ -1,5 +1,5 @@
 -- What the functions inside the crate promise of a place that they reach.
-use Prim.Native.Nat.{ℕ, _+_, _<_, _≤_}
+use Prim.Native.Nat.{ℕ, _+_, _*_, _<_, _≤_}
 use mathlib.Core.Path.{_≡_}
 use mathlib.Core.Bool.{Bool}
 use mathlib.Core.List.{List}
@@ -35,6 +35,10 @@ pub record Passed (s : List ℕ) (at r : ℕ) : Type 0 where
 -- the bytes from one place to another are ASCII
 abbrev pub Ascii : List ℕ → ℕ → ℕ → Type 0
 Ascii s from to = (k : ℕ) → from ≤ k → k < to → getD s k 0 < 0x80
+
+-- four bytes as a number, the first the lowest
+abbrev pub fourBytes : List ℕ → ℕ → ℕ
+fourBytes s at = getD s at 0 + 256 * getD s (at + 1) 0 + 65536 * getD s (at + 2) 0 + 16777216 * getD s (at + 3) 0
 
 -- the place lies n bytes past another, inside the text or at its end
 pub record Ended (s : List ℕ) (from n r : ℕ) : Type 0 where

@@ -11,7 +11,7 @@ ghost use Rattle.text.specs.Blank.{blank};
 ghost use Rattle.text.specs.Characters.{chars, before, find, findByte, starts};
 ghost use Rattle.text.specs.Words.{blankText, trimStart, trim, kept, firstWord, secondWord};
 ghost use Rattle.text.specs.Number.{digit, digits, parsed, numberOf};
-ghost use Rattle.text.specs.Scans.{Ascii, Ended, Led, Passed, secondLow, secondHigh, blankIs};
+ghost use Rattle.text.specs.Scans.{Ascii, fourBytes, Ended, Led, Passed, secondLow, secondHigh, blankIs};
 
 // Whether a text is well formed, or where its first ill-formed sequence starts.
 pub enum Utf8 {
@@ -144,18 +144,58 @@ fn width_at(s: &[u8], at: usize) -> usize
     if four_at(s, at) { 4 } else { 0 }
 }
 
-// The bitwise or of 32 bytes from a place: none of them is above it. A loop of fixed length, so that it becomes vector code.
-fn or32(s: &[u8], at: usize) -> u8
-    requires { ⌜ at + 32 ≤ length (now s) ⌝ }
-    ensures { λ r. ⌜ ((k : ℕ) → k < 32 → getD (now (s .entry)) (at + k) 0 ≤ r) ⌝ }
+fn byte(s: &[u8], k: usize) -> u64
+    requires { ⌜ k < length (now s) ⌝ }
+    ensures { λ r. ⌜ (r ≡ getD (now (s .entry)) k 0) × (r < 256) ⌝ }
 {
-    let mut x: u8 = 0;
-    let mut k: usize = 0;
-    while k < 32 {
-        x = x | s[at + k];
-        k += 1;
+    s[k] as u64
+}
+
+// Four bytes, the first the lowest. The sum is one load.
+fn four_bytes(s: &[u8], at: usize) -> u64
+    requires { ⌜ at + 4 ≤ length (now s) ⌝ }
+    ensures { λ r. ⌜ (r ≡ fourBytes (now (s .entry)) at) × (r < 4294967296) ⌝ }
+{
+    byte(s, at) + 256 * byte(s, at + 1) + 65536 * byte(s, at + 2) + 16777216 * byte(s, at + 3)
+}
+
+// The highest bits of 8 bytes: 0 only where all are ASCII.
+fn high8(s: &[u8], at: usize) -> u64
+    requires { ⌜ at + 8 ≤ length (now s) ⌝ }
+    ensures { λ r. ⌜ (r ≡ 0 → Ascii (now (s .entry)) at (at + 8)) ⌝ }
+{
+    (four_bytes(s, at) + 4294967296 * four_bytes(s, at + 4)) & 0x8080808080808080
+}
+
+// The highest bits of 16 bytes.
+fn high16(s: &[u8], at: usize) -> u64
+    requires { ⌜ at + 16 ≤ length (now s) ⌝ }
+    ensures { λ r. ⌜ (r ≡ 0 → Ascii (now (s .entry)) at (at + 16)) ⌝ }
+{
+    high8(s, at) | high8(s, at + 8)
+}
+
+// How long the run of ASCII is at a place, by the length of the one behind it.
+fn ascii_run(s: &[u8], at: usize, rest: usize) -> usize
+    requires { ⌜ (at + 1 + rest ≤ length (now s)) × Ascii (now s) (at + 1) (at + 1 + rest) ⌝ }
+    ensures { λ r. ⌜ (r ≤ rest + 1) × Ascii (now (s .entry)) at (at + r) ⌝ }
+{
+    if s[at] < 0x80 { rest + 1 } else { 0 }
+}
+
+// How many of 16 bytes the run of ASCII at a place takes. Going backwards makes each byte a choice of two numbers and no jump,
+// which in a text with few bytes above ASCII would often be foretold wrongly.
+fn ascii_of_16(s: &[u8], at: usize) -> usize
+    requires { ⌜ at + 16 ≤ length (now s) ⌝ }
+    ensures { λ r. ⌜ (r ≤ 16) × Ascii (now (s .entry)) at (at + r) ⌝ }
+{
+    let mut run: usize = 0;
+    let mut k: usize = 16;
+    while 0 < k {
+        k -= 1;
+        run = ascii_run(s, at + k, run);
     }
-    x
+    run
 }
 
 // Where a run of ASCII ends that starts at a place.
@@ -165,11 +205,11 @@ fn ascii_end(s: &[u8], from: usize) -> usize
 {
     let n = s.len();
     let mut i = from;
-    while 32 <= n - i {
-        if 0x80 <= or32(s, i) {
-            break;
+    while 16 <= n - i {
+        if high16(s, i) != 0 {
+            return i + ascii_of_16(s, i);
         }
-        i += 32;
+        i += 16;
     }
     while i < n {
         if 0x80 <= s[i] {
@@ -311,14 +351,15 @@ fn decode_in(s: &[u8], at: usize) -> Decoded
 pub fn is_char_boundary(s: &[u8], at: usize) -> bool
     ensures { λ r. ⌜ r ≡ starts (now (s .entry)) at ⌝ }
 {
-    if at == 0 {
-        return true;
-    }
     if s.len() <= at {
         return at == s.len();
     }
+    // At most places an ASCII byte stands, which settles it.
     let b = s[at];
-    if b < 0x80 { true } else { 0xBF < b }
+    if b < 0x80 {
+        return true;
+    }
+    if at == 0 { true } else { 0xBF < b }
 }
 
 // Whether a code point is one of the property's, by its ranges.

@@ -7,23 +7,27 @@ use mathlib.Core.Path.{_≡_, sym, _∙_}
 use Rattle.attributes.proofs.Whole.{of-attribute}
 use Rattle.attributes.specs.Attributes.{findingsAt, attributeKinds}
 use Rattle.attributes.specs.Inner.{ofNode}
+use Rattle.cursor.specs.Names.{nameOf}
 use Rattle.findings.proofs.Overlay.{wrote-none}
 use Rattle.tape.specs.Nodes.{kindAt, nodeAt}
 use Rattle.attributes.proofs.attribute_at.Statement.{statement}
 use Rattle.attributes.proofs.attribute_at.Tie as tie
 
-is-node : (c : tie.After-text) → findingsAt (c .before .before .before .span .result .start) (c .before .before .before .span .result .len) (c .before .before .before .before .before .before .before .before .before .before .args .i) (c .before .before .before .before .before .before .before .before .before .before .args .owner) (attributeKinds (now (c .before .before .before .before .before .before .before .before .before .before .args .marker)) (now (c .text .result))) ≡ ofNode (c .before .before .before .before .before .before .before .before .before .before .args .owner) (now (c .before .before .before .before .before .before .before .before .before .before .args .marker)) (nodeAt (now (c .before .before .before .before .before .before .before .before .before .before .args .source)) (now (c .before .before .before .before .before .before .before .before .before .before .args .tape)) (c .before .before .before .before .before .before .before .before .before .before .args .i))
+is-node : (c : tie.After-text2) →
+    let a = c .before .before .before .before .before .before .before .before .before .before .args in
+    let s = c .before .before .before .before .span in
+    findingsAt (s .result .start) (s .result .len) (a .i) (a .owner) (attributeKinds (nameOf (now (c .before .text .result))) (now (c .text2 .result))) ≡ ofNode (a .owner) (nameOf (nodeAt (now (a .source)) (now (a .tape)) (a .owner) .text)) (nodeAt (now (a .source)) (now (a .tape)) (a .i))
 is-node c =
     let a = c .before .before .before .before .before .before .before .before .before .before .args in
-    let s = c .before .before .before .span in
-    of-attribute (a .owner) (now (a .marker)) (now (a .source)) (now (a .tape)) (a .i) (s .result .start) (s .result .len) (now (c .text .result)) (sym (c .before .before .before .before .before .kind-at .ensures) ∙ c .before .before .before .before .if1 .left) (s .ensures .0) (s .ensures .1) (c .text .ensures)
+    let s = c .before .before .before .before .span in
+    of-attribute (a .owner) (now (c .before .text .result)) (now (a .source)) (now (a .tape)) (a .i) (s .result .start) (s .result .len) (now (c .text2 .result)) (c .before .text .ensures) (sym (c .before .before .before .before .before .before .kind-at .ensures) ∙ c .before .before .before .before .before .if1 .left) (s .ensures .0) (s .ensures .1) (c .text2 .ensures)
 
 kind-at-requires : tie.Need-kind-at-requires
 kind-at-requires c κs = search needs
 
 returns : tie.Need-returns
 returns c =
-    let a = c .before .before .before .before .before .before .args in
+    let a = c .before .before .before .before .before .args in
     rw (ne-eqb (kindAt (now (a .tape)) (a .i)) 6 (λ e. c .if1 .taken (c .before .kind-at .ensures ∙ e))) (wrote-none (now (a .list)) (a .c))
 
 span-requires : tie.Need-span-requires
@@ -38,8 +42,11 @@ cast-t13 c = search needs
 text-requires : tie.Need-text-requires
 text-requires c κs = search needs
 
+text-requires-2 : tie.Need-text-requires-2
+text-requires-2 c κs = search needs
+
 validate-attribute-requires : tie.Need-validate-attribute-requires
-validate-attribute-requires c κs = rw (is-node (c .before)) (c .before .before .before .before .before .before .before .before .before .before .before .pre .1)
+validate-attribute-requires c κs = rw (is-node (c .before)) (c .before .before .before .before .before .before .before .before .before .before .before .pre .2)
 
 same-length : tie.Need-same-length
 same-length c = search needs
@@ -57,6 +64,7 @@ attribute-at-spec =
     cast-t12
     cast-t13
     text-requires
+    text-requires-2
     validate-attribute-requires
     same-length
     returns-2)

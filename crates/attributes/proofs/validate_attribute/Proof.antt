@@ -8,7 +8,9 @@ use mathlib.Core.Path.{_≡_, ap, _∙_}
 use Rattle.attributes.proofs.Owed.{at, Owing, owing-start, owing-as, owing-room, owing-wrote, owing-end}
 use Rattle.attributes.proofs.Whole.{kinds-none, kinds-scan, kinds-bare}
 use Rattle.attributes.specs.Attributes.{emptyList, noDefault, between, scan, body, pickKinds, hasDefault, attributeKinds}
+use Rattle.cursor.specs.Names.{nameOf}
 use Rattle.findings.specs.Finding.{Kind, findingOf}
+use Rattle.table.specs.Names.{defaultOf}
 use Rattle.text.specs.Characters.{chars}
 use Rattle.text.specs.Pick.{cut}
 use Rattle.text.specs.Words.{trim}
@@ -21,28 +23,28 @@ is-body c = c .trim .ensures ∙ ap (λ (s : List _). cut (trim s) s) (c .before
 abbrev Due : tie.Start → List Kind → Type 0
 Due c ks =
     let a = c .args in
-    Owing (a .w) (at (a .w) (attributeKinds (now (a .marker)) (now (a .text)))) (now (a .list)) (a .c) ks (now (a .list)) (a .c)
+    Owing (a .w) (at (a .w) (attributeKinds (nameOf (now (a .marker))) (now (a .text)))) (now (a .list)) (a .c) ks (now (a .list)) (a .c)
 
-due-all : (c : tie.Start) → Due c (attributeKinds (now (c .args .marker)) (now (c .args .text)))
+due-all : (c : tie.Start) → Due c (attributeKinds (nameOf (now (c .args .marker))) (now (c .args .text)))
 due-all c =
     let a = c .args in
-    owing-start (a .w) (attributeKinds (now (a .marker)) (now (a .text))) (now (a .list)) (a .c) (c .pre)
+    owing-start (a .w) (attributeKinds (nameOf (now (a .marker))) (now (a .text))) (now (a .list)) (a .c) (c .pre)
 
 due-none : (c : tie.Then1) → Due (c .before .before .before .before .before .before) (emptyList ∷ [])
 due-none c =
     let a = c .before .before .before .before .before .before .args in
-    owing-as (kinds-none (now (a .marker)) (now (a .text)) (now (c .before .trim .result)) (is-body (c .before)) (c .if1 .taken)) (due-all (c .before .before .before .before .before .before))
+    owing-as (kinds-none (nameOf (now (a .marker))) (now (a .text)) (now (c .before .trim .result)) (is-body (c .before)) (c .if1 .taken)) (due-all (c .before .before .before .before .before .before))
 
-is-scan : (c : tie.Then2) → attributeKinds (now (c .before .before .before .before .before .before .before .before .args .marker)) (now (c .before .before .before .before .before .before .before .before .args .text)) ≡ scan between (chars (now (c .before .before .before .trim .result)))
+is-scan : (c : tie.Then2) → attributeKinds (nameOf (now (c .before .before .before .before .before .before .before .before .args .marker))) (now (c .before .before .before .before .before .before .before .before .args .text)) ≡ scan between (chars (now (c .before .before .before .trim .result)))
 is-scan c =
     let a = c .before .before .before .before .before .before .before .before .args in
-    kinds-scan (now (a .marker)) (now (a .text)) (now (c .before .before .before .trim .result)) (is-body (c .before .before .before)) (c .before .before .if1 .left) (c .before .find-byte .result) (c .before .find-byte .ensures) (c .if2 .taken)
+    kinds-scan (nameOf (now (a .marker))) (now (a .text)) (now (c .before .before .before .trim .result)) (is-body (c .before .before .before)) (c .before .before .if1 .left) (c .before .find-byte .result) (c .before .find-byte .ensures) (c .if2 .taken)
 
-due-bare : (c : tie.After-has-default) → Due (c .before .before .before .before .before .before .before .before .before .before) (pickKinds (not (c .has-default .result)) (noDefault ∷ []) [] ++ [])
+due-bare : (c : tie.After-has-default) → Due (c .before .before .before .before .before .before .before .before .before .before .before) (pickKinds (not (c .has-default .result)) (noDefault ∷ []) [] ++ [])
 due-bare c =
-    let a = c .before .before .before .before .before .before .before .before .before .before .args in
-    let e = c .before .before in
-    owing-as (kinds-bare (now (a .marker)) (now (a .text)) (now (e .before .before .before .trim .result)) (is-body (e .before .before .before)) (e .before .before .if1 .left) (e .before .find-byte .result) (e .before .find-byte .ensures) (c .has-default .result) (c .has-default .ensures ∙ ap hasDefault (c .before .default-attribute .ensures)) (e .if2 .left)) (due-all (c .before .before .before .before .before .before .before .before .before .before))
+    let a = c .before .before .before .before .before .before .before .before .before .before .before .args in
+    let e = c .before .before .before in
+    owing-as (kinds-bare (nameOf (now (a .marker))) (now (a .text)) (now (e .before .before .before .trim .result)) (is-body (e .before .before .before)) (e .before .before .if1 .left) (e .before .find-byte .result) (e .before .find-byte .ensures) (c .has-default .result) (c .has-default .ensures ∙ ap hasDefault (c .before .default-attribute .ensures ∙ ap defaultOf (c .before .before .name-of .ensures))) (e .if2 .left)) (due-all (c .before .before .before .before .before .before .before .before .before .before .before))
 
 after-bar-requires : tie.Need-after-bar-requires
 after-bar-requires c κs = search needs
@@ -73,6 +75,9 @@ same-length-2 c = search needs
 
 returns-2 : tie.Need-returns-2
 returns-2 c = rw (is-scan (c .before .before .before .before)) (c .before .before .scan-list .ensures)
+
+name-of-requires : tie.Need-name-of-requires
+name-of-requires c κs = search needs
 
 default-attribute-requires : tie.Need-default-attribute-requires
 default-attribute-requires c κs = search needs
@@ -106,6 +111,7 @@ validate-attribute-spec =
     scan-list-requires
     same-length-2
     returns-2
+    name-of-requires
     default-attribute-requires
     has-default-requires
     finding-requires-2

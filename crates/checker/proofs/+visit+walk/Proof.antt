@@ -9,7 +9,7 @@ use Rattle.running.specs.Running.{aroundOf}
 use Rattle.checker.specs.Walking.{walkAt}
 use Rattle.table.specs.Entries.{entryOfInfo}
 use Rattle.checker.proofs.Going.{Going, going-start, going-end, going-below, going-spanned, going-later, going-run, leaf-room, leaf-seen, leaf-verses, going-leaf, going-skip, visit-room, visit-able, going-open}
-use Rattle.checker.proofs.Visiting.{visit-with, visit-run, visit-below as visit-inside, visit-low, visit-spanned, own-room, visit-deep, milestone-opens, milestone-room, step-opens, step-room, children-ready, children-room, visited}
+use Rattle.checker.proofs.Visiting.{visit-with, visit-run, visit-below as visit-inside, visit-low, visit-spanned, own-room, visit-deep, milestone-opens, milestone-room, step-opens, step-room, visit-children, children-ready, children-room, visited, visited-quiet}
 use Rattle.checker.proofs.Entries.{no-open, is-open, entry-none, entry-some, entry-inside}
 use borrow.Author.Needs.{needs}
 use Prim.Native.Nat.{ℕ, _<_}
@@ -21,14 +21,15 @@ use Rattle.checker.proofs.+visit+walk.Lts-visit as visit-lts
 use Rattle.checker.proofs.walk.Reads as walk
 use Rattle.checker.proofs.walk.Kinds as walk-kinds
 use Rattle.checker.proofs.+visit+walk.Lts-walk as walk-lts
-use Rattle.milestones.proofs.after_milestone.Reads as after-milestone-reads
 use Rattle.checker.proofs.anchored.Reads as anchored-reads
+use Rattle.checker.proofs.is_quiet.Reads as is-quiet-reads
 use Rattle.checker.proofs.leaf.Reads as leaf-reads
-use Rattle.milestones.proofs.milestone_findings.Reads as milestone-findings-reads
 use Rattle.checker.proofs.numbers_after.Reads as numbers-after-reads
-use Rattle.opens.proofs.visit_marker.Reads as visit-marker-reads
 use Rattle.cursor.proofs.marker_info.Reads as marker-info-reads
 use Rattle.cursor.proofs.past_node.Reads as past-node-reads
+use Rattle.milestones.proofs.after_milestone.Reads as after-milestone-reads
+use Rattle.milestones.proofs.milestone_findings.Reads as milestone-findings-reads
+use Rattle.opens.proofs.visit_marker.Reads as visit-marker-reads
 use Rattle.running.proofs.inside.Reads as inside-reads
 use Rattle.running.proofs.with_anchor.Reads as with-anchor-reads
 use Rattle.running.proofs.with_counts.Reads as with-counts-reads
@@ -66,10 +67,12 @@ visit-visit-marker-requires : (t : ℕ) → visit-lts.Need-visit-marker-requires
   after-milestone-reads.Learnt,
   link-at-reads.Asked,
   link-at-reads.Learnt,
-  inside-reads.Asked,
-  inside-reads.Learnt,
+  is-quiet-reads.Asked,
+  is-quiet-reads.Learnt,
   with-anchor-reads.Asked,
   with-anchor-reads.Learnt,
+  inside-reads.Asked,
+  inside-reads.Learnt,
   walk-below t,
   walk.Post,
 ) (visit-at t) visit.Post
@@ -90,10 +93,12 @@ visit-milestone-findings-requires : (t : ℕ) → visit-lts.Need-milestone-findi
   after-milestone-reads.Learnt,
   link-at-reads.Asked,
   link-at-reads.Learnt,
-  inside-reads.Asked,
-  inside-reads.Learnt,
+  is-quiet-reads.Asked,
+  is-quiet-reads.Learnt,
   with-anchor-reads.Asked,
   with-anchor-reads.Learnt,
+  inside-reads.Asked,
+  inside-reads.Learnt,
   walk-below t,
   walk.Post,
 ) (visit-at t) visit.Post
@@ -116,10 +121,12 @@ visit-with-counts-requires : (t : ℕ) → visit-lts.Need-with-counts-requires (
   after-milestone-reads.Learnt,
   link-at-reads.Asked,
   link-at-reads.Learnt,
-  inside-reads.Asked,
-  inside-reads.Learnt,
+  is-quiet-reads.Asked,
+  is-quiet-reads.Learnt,
   with-anchor-reads.Asked,
   with-anchor-reads.Learnt,
+  inside-reads.Asked,
+  inside-reads.Learnt,
   walk-below t,
   walk.Post,
 ) (visit-at t) visit.Post
@@ -136,10 +143,12 @@ visit-after-milestone-requires : (t : ℕ) → visit-lts.Need-after-milestone-re
   after-milestone-reads.Learnt,
   link-at-reads.Asked,
   link-at-reads.Learnt,
-  inside-reads.Asked,
-  inside-reads.Learnt,
+  is-quiet-reads.Asked,
+  is-quiet-reads.Learnt,
   with-anchor-reads.Asked,
   with-anchor-reads.Learnt,
+  inside-reads.Asked,
+  inside-reads.Learnt,
   walk-below t,
   walk.Post,
 ) (visit-at t) visit.Post
@@ -154,7 +163,7 @@ visit-after-milestone-requires t c κs =
     let wc = c .with-counts in
     rw (wc .ensures) (visit-spanned v, step-opens v l1 (m1 .result) (m1 .ensures) l2 (mf .result) (mf .ensures), step-room v l1 (m1 .result) (m1 .ensures) l2 (mf .result) (mf .ensures))
 
-visit-add-walk : (t : ℕ) → visit-lts.Need-add-walk (
+visit-add-from : (t : ℕ) → visit-lts.Need-add-from (
   visit-marker-reads.Asked,
   visit-marker-reads.Learnt,
   milestone-findings-reads.Asked,
@@ -165,14 +174,16 @@ visit-add-walk : (t : ℕ) → visit-lts.Need-add-walk (
   after-milestone-reads.Learnt,
   link-at-reads.Asked,
   link-at-reads.Learnt,
-  inside-reads.Asked,
-  inside-reads.Learnt,
+  is-quiet-reads.Asked,
+  is-quiet-reads.Learnt,
   with-anchor-reads.Asked,
   with-anchor-reads.Learnt,
+  inside-reads.Asked,
+  inside-reads.Learnt,
   walk-below t,
   walk.Post,
 ) (visit-at t) visit.Post
-visit-add-walk t c =
+visit-add-from t c =
     let p = c .before .before .before .before .before .before .before .before .before .before .before .before .before .before .before .before .before .before .before .before .before .pre .1 in
     let a = c .before .before .before .before .before .before .before .before .before .before .before .before .before .before .before .before .before .before .before .before .before .args in
     let v = visit-with (aroundOf (a .around)) (entryOfInfo (a .m)) (now (a .list)) (p .0) (p .1) (p .3) in
@@ -190,10 +201,12 @@ visit-link-at-requires : (t : ℕ) → visit-lts.Need-link-at-requires (
   after-milestone-reads.Learnt,
   link-at-reads.Asked,
   link-at-reads.Learnt,
-  inside-reads.Asked,
-  inside-reads.Learnt,
+  is-quiet-reads.Asked,
+  is-quiet-reads.Learnt,
   with-anchor-reads.Asked,
   with-anchor-reads.Learnt,
+  inside-reads.Asked,
+  inside-reads.Learnt,
   walk-below t,
   walk.Post,
 ) (visit-at t) visit.Post
@@ -203,7 +216,7 @@ visit-link-at-requires t c κs =
     let v = visit-with (aroundOf (a .around)) (entryOfInfo (a .m)) (now (a .list)) (p .0) (p .1) (p .3) in
     visit-inside v
 
-visit-cast-walk : (t : ℕ) → visit-lts.Need-cast-walk (
+visit-cast-link : (t : ℕ) → visit-lts.Need-cast-link (
   visit-marker-reads.Asked,
   visit-marker-reads.Learnt,
   milestone-findings-reads.Asked,
@@ -214,14 +227,144 @@ visit-cast-walk : (t : ℕ) → visit-lts.Need-cast-walk (
   after-milestone-reads.Learnt,
   link-at-reads.Asked,
   link-at-reads.Learnt,
-  inside-reads.Asked,
-  inside-reads.Learnt,
+  is-quiet-reads.Asked,
+  is-quiet-reads.Learnt,
   with-anchor-reads.Asked,
   with-anchor-reads.Learnt,
+  inside-reads.Asked,
+  inside-reads.Learnt,
   walk-below t,
   walk.Post,
 ) (visit-at t) visit.Post
-visit-cast-walk t c = search needs
+visit-cast-link t c = search needs
+
+visit-is-quiet-requires : (t : ℕ) → visit-lts.Need-is-quiet-requires (
+  visit-marker-reads.Asked,
+  visit-marker-reads.Learnt,
+  milestone-findings-reads.Asked,
+  milestone-findings-reads.Learnt,
+  with-counts-reads.Asked,
+  with-counts-reads.Learnt,
+  after-milestone-reads.Asked,
+  after-milestone-reads.Learnt,
+  link-at-reads.Asked,
+  link-at-reads.Learnt,
+  is-quiet-reads.Asked,
+  is-quiet-reads.Learnt,
+  with-anchor-reads.Asked,
+  with-anchor-reads.Learnt,
+  inside-reads.Asked,
+  inside-reads.Learnt,
+  walk-below t,
+  walk.Post,
+) (visit-at t) visit.Post
+visit-is-quiet-requires t c κs =
+    let p = c .before .before .before .before .before .before .before .before .before .before .before .before .before .before .before .before .before .before .before .before .before .before .pre .1 in
+    let a = c .before .before .before .before .before .before .before .before .before .before .before .before .before .before .before .before .before .before .before .before .before .before .args in
+    let v = visit-with (aroundOf (a .around)) (entryOfInfo (a .m)) (now (a .list)) (p .0) (p .1) (p .3) in
+    rw (c .link-at .ensures) (visit-children v)
+
+visit-with-anchor-requires : (t : ℕ) → visit-lts.Need-with-anchor-requires (
+  visit-marker-reads.Asked,
+  visit-marker-reads.Learnt,
+  milestone-findings-reads.Asked,
+  milestone-findings-reads.Learnt,
+  with-counts-reads.Asked,
+  with-counts-reads.Learnt,
+  after-milestone-reads.Asked,
+  after-milestone-reads.Learnt,
+  link-at-reads.Asked,
+  link-at-reads.Learnt,
+  is-quiet-reads.Asked,
+  is-quiet-reads.Learnt,
+  with-anchor-reads.Asked,
+  with-anchor-reads.Learnt,
+  inside-reads.Asked,
+  inside-reads.Learnt,
+  walk-below t,
+  walk.Post,
+) (visit-at t) visit.Post
+visit-with-anchor-requires t c κs = search needs
+
+visit-same-length : (t : ℕ) → visit-lts.Need-same-length (
+  visit-marker-reads.Asked,
+  visit-marker-reads.Learnt,
+  milestone-findings-reads.Asked,
+  milestone-findings-reads.Learnt,
+  with-counts-reads.Asked,
+  with-counts-reads.Learnt,
+  after-milestone-reads.Asked,
+  after-milestone-reads.Learnt,
+  link-at-reads.Asked,
+  link-at-reads.Learnt,
+  is-quiet-reads.Asked,
+  is-quiet-reads.Learnt,
+  with-anchor-reads.Asked,
+  with-anchor-reads.Learnt,
+  inside-reads.Asked,
+  inside-reads.Learnt,
+  walk-below t,
+  walk.Post,
+) (visit-at t) visit.Post
+visit-same-length t c = c .before .before .before .before .before .before .after-milestone .kept .1 .1 .1 .1 .0
+
+visit-same-length-2 : (t : ℕ) → visit-lts.Need-same-length-2 (
+  visit-marker-reads.Asked,
+  visit-marker-reads.Learnt,
+  milestone-findings-reads.Asked,
+  milestone-findings-reads.Learnt,
+  with-counts-reads.Asked,
+  with-counts-reads.Learnt,
+  after-milestone-reads.Asked,
+  after-milestone-reads.Learnt,
+  link-at-reads.Asked,
+  link-at-reads.Learnt,
+  is-quiet-reads.Asked,
+  is-quiet-reads.Learnt,
+  with-anchor-reads.Asked,
+  with-anchor-reads.Learnt,
+  inside-reads.Asked,
+  inside-reads.Learnt,
+  walk-below t,
+  walk.Post,
+) (visit-at t) visit.Post
+visit-same-length-2 t c = c .before .before .before .before .before .before .before .before .before .before .before .milestone-findings .kept .1 .1 .1 .1 .1 .1 .0 ∙ c .before .before .before .before .before .before .before .before .before .before .before .before .before .before .before .before .visit-marker .kept .1 .1 .1 .1 .1 .1 .1 .1 .1 .0
+
+visit-returns : (t : ℕ) → visit-lts.Need-returns (
+  visit-marker-reads.Asked,
+  visit-marker-reads.Learnt,
+  milestone-findings-reads.Asked,
+  milestone-findings-reads.Learnt,
+  with-counts-reads.Asked,
+  with-counts-reads.Learnt,
+  after-milestone-reads.Asked,
+  after-milestone-reads.Learnt,
+  link-at-reads.Asked,
+  link-at-reads.Learnt,
+  is-quiet-reads.Asked,
+  is-quiet-reads.Learnt,
+  with-anchor-reads.Asked,
+  with-anchor-reads.Learnt,
+  inside-reads.Asked,
+  inside-reads.Learnt,
+  walk-below t,
+  walk.Post,
+) (visit-at t) visit.Post
+visit-returns t c =
+    let p = c .before .before .before .before .before .before .before .before .before .before .before .before .before .before .before .before .before .before .before .before .before .before .before .before .before .pre .1 in
+    let a = c .before .before .before .before .before .before .before .before .before .before .before .before .before .before .before .before .before .before .before .before .before .before .before .before .before .args in
+    let v = visit-with (aroundOf (a .around)) (entryOfInfo (a .m)) (now (a .list)) (p .0) (p .1) (p .3) in
+    let m1 = c .before .before .before .before .before .before .before .before .before .before .before .before .before .before .before .before .visit-marker in
+    let l1 = m1 .last .1 .1 .1 .1 .1 .1 .1 .1 .1 .0 in
+    let mf = c .before .before .before .before .before .before .before .before .before .before .before .milestone-findings in
+    let l2 = mf .last .1 .1 .1 .1 .1 .1 .0 in
+    let wc = c .before .before .before .before .before .before .before .with-counts in
+    let am = c .before .before .before .before .before .before .after-milestone in
+    let o2 = am .last .1 .1 .1 .1 .0 in
+    let st = rw (wc .ensures) at (am .ensures) in
+    let lk = c .before .before .before .link-at in
+    let q = c .before .before .is-quiet in
+    rw (c .with-anchor .ensures) (visited-quiet v l1 (m1 .result) (m1 .ensures) l2 (mf .result) (mf .ensures) o2 (am .result) (am .kept .1 .1 .1 .1 .0) st (rw (lk .ensures) at (sym (q .ensures) ∙ c .before .if1 .taken)))
 
 visit-sub-walk : (t : ℕ) → visit-lts.Need-sub-walk (
   visit-marker-reads.Asked,
@@ -234,16 +377,18 @@ visit-sub-walk : (t : ℕ) → visit-lts.Need-sub-walk (
   after-milestone-reads.Learnt,
   link-at-reads.Asked,
   link-at-reads.Learnt,
-  inside-reads.Asked,
-  inside-reads.Learnt,
+  is-quiet-reads.Asked,
+  is-quiet-reads.Learnt,
   with-anchor-reads.Asked,
   with-anchor-reads.Learnt,
+  inside-reads.Asked,
+  inside-reads.Learnt,
   walk-below t,
   walk.Post,
 ) (visit-at t) visit.Post
 visit-sub-walk t c =
-    let p = c .before .before .before .before .before .before .before .before .before .before .before .before .before .before .before .before .before .before .before .before .before .before .pre .1 in
-    let a = c .before .before .before .before .before .before .before .before .before .before .before .before .before .before .before .before .before .before .before .before .before .before .args in
+    let p = c .before .before .before .before .before .before .before .before .before .before .before .before .before .before .before .before .before .before .before .before .before .before .before .before .pre .1 in
+    let a = c .before .before .before .before .before .before .before .before .before .before .before .before .before .before .before .before .before .before .before .before .before .before .before .before .args in
     let v = visit-with (aroundOf (a .around)) (entryOfInfo (a .m)) (now (a .list)) (p .0) (p .1) (p .3) in
     visit-deep v
 
@@ -258,70 +403,16 @@ visit-inside-requires : (t : ℕ) → visit-lts.Need-inside-requires (
   after-milestone-reads.Learnt,
   link-at-reads.Asked,
   link-at-reads.Learnt,
-  inside-reads.Asked,
-  inside-reads.Learnt,
+  is-quiet-reads.Asked,
+  is-quiet-reads.Learnt,
   with-anchor-reads.Asked,
   with-anchor-reads.Learnt,
+  inside-reads.Asked,
+  inside-reads.Learnt,
   walk-below t,
   walk.Post,
 ) (visit-at t) visit.Post
 visit-inside-requires t c κs = search needs
-
-visit-with-anchor-requires : (t : ℕ) → visit-lts.Need-with-anchor-requires (
-  visit-marker-reads.Asked,
-  visit-marker-reads.Learnt,
-  milestone-findings-reads.Asked,
-  milestone-findings-reads.Learnt,
-  with-counts-reads.Asked,
-  with-counts-reads.Learnt,
-  after-milestone-reads.Asked,
-  after-milestone-reads.Learnt,
-  link-at-reads.Asked,
-  link-at-reads.Learnt,
-  inside-reads.Asked,
-  inside-reads.Learnt,
-  with-anchor-reads.Asked,
-  with-anchor-reads.Learnt,
-  walk-below t,
-  walk.Post,
-) (visit-at t) visit.Post
-visit-with-anchor-requires t c κs = search needs
-
-visit-walk-requires : (t : ℕ) → visit-lts.Need-walk-requires (
-  visit-marker-reads.Asked,
-  visit-marker-reads.Learnt,
-  milestone-findings-reads.Asked,
-  milestone-findings-reads.Learnt,
-  with-counts-reads.Asked,
-  with-counts-reads.Learnt,
-  after-milestone-reads.Asked,
-  after-milestone-reads.Learnt,
-  link-at-reads.Asked,
-  link-at-reads.Learnt,
-  inside-reads.Asked,
-  inside-reads.Learnt,
-  with-anchor-reads.Asked,
-  with-anchor-reads.Learnt,
-  walk-below t,
-  walk.Post,
-) (visit-at t) visit.Post
-visit-walk-requires t c κs =
-    let p = c .before .before .before .before .before .before .before .before .before .before .before .before .before .before .before .before .before .before .before .before .before .before .before .before .before .before .before .pre .1 in
-    let a = c .before .before .before .before .before .before .before .before .before .before .before .before .before .before .before .before .before .before .before .before .before .before .before .before .before .before .before .args in
-    let v = visit-with (aroundOf (a .around)) (entryOfInfo (a .m)) (now (a .list)) (p .0) (p .1) (p .3) in
-    let m1 = c .before .before .before .before .before .before .before .before .before .before .before .before .before .before .before .before .before .before .visit-marker in
-    let l1 = m1 .last .1 .1 .1 .1 .1 .1 .1 .1 .1 .0 in
-    let mf = c .before .before .before .before .before .before .before .before .before .before .before .before .before .milestone-findings in
-    let l2 = mf .last .1 .1 .1 .1 .1 .1 .0 in
-    let wc = c .before .before .before .before .before .before .before .before .before .with-counts in
-    let am = c .before .before .before .before .before .before .before .before .after-milestone in
-    let o2 = am .last .1 .1 .1 .1 .0 in
-    let st = rw (wc .ensures) at (am .ensures) in
-    let lk = c .before .before .before .before .before .link-at in
-    let ins = c .before .before .before .before .inside in
-    let wa = c .before .before .before .with-anchor in
-    let d = visit-deep v in
-    (omega (arith, c .before .before .before .before .before .before .before .before .before .before .before .before .before .before .before .before .before .before .before .before .before .before .before .before .before .before .before .pre .0), rw (lk .ensures, wa .ensures) (children-ready v l1 (m1 .result) (m1 .ensures) l2 (mf .result) (mf .ensures) o2 (am .result) (am .kept .1 .1 .1 .1 .0) st, children-room v l1 (m1 .result) (m1 .ensures) l2 (mf .result) (mf .ensures) o2 (am .result) (am .kept .1 .1 .1 .1 .0) st (aroundOf (ins .result)) (ins .ensures)))
 
 visit-with-anchor-requires-2 : (t : ℕ) → visit-lts.Need-with-anchor-requires-2 (
   visit-marker-reads.Asked,
@@ -334,16 +425,18 @@ visit-with-anchor-requires-2 : (t : ℕ) → visit-lts.Need-with-anchor-requires
   after-milestone-reads.Learnt,
   link-at-reads.Asked,
   link-at-reads.Learnt,
-  inside-reads.Asked,
-  inside-reads.Learnt,
+  is-quiet-reads.Asked,
+  is-quiet-reads.Learnt,
   with-anchor-reads.Asked,
   with-anchor-reads.Learnt,
+  inside-reads.Asked,
+  inside-reads.Learnt,
   walk-below t,
   walk.Post,
 ) (visit-at t) visit.Post
 visit-with-anchor-requires-2 t c κs = search needs
 
-visit-same-length : (t : ℕ) → visit-lts.Need-same-length (
+visit-walk-requires : (t : ℕ) → visit-lts.Need-walk-requires (
   visit-marker-reads.Asked,
   visit-marker-reads.Learnt,
   milestone-findings-reads.Asked,
@@ -354,16 +447,34 @@ visit-same-length : (t : ℕ) → visit-lts.Need-same-length (
   after-milestone-reads.Learnt,
   link-at-reads.Asked,
   link-at-reads.Learnt,
-  inside-reads.Asked,
-  inside-reads.Learnt,
+  is-quiet-reads.Asked,
+  is-quiet-reads.Learnt,
   with-anchor-reads.Asked,
   with-anchor-reads.Learnt,
+  inside-reads.Asked,
+  inside-reads.Learnt,
   walk-below t,
   walk.Post,
 ) (visit-at t) visit.Post
-visit-same-length t c = c .before .before .before .before .before .before .before .walk .kept .1 .1 .1 .1 .1 .1 .1 .1 .1 .1 .0
+visit-walk-requires t c κs =
+    let p = c .before .before .before .before .before .before .before .before .before .before .before .before .before .before .before .before .before .before .before .before .before .before .before .before .before .before .before .before .before .pre .1 in
+    let a = c .before .before .before .before .before .before .before .before .before .before .before .before .before .before .before .before .before .before .before .before .before .before .before .before .before .before .before .before .before .args in
+    let v = visit-with (aroundOf (a .around)) (entryOfInfo (a .m)) (now (a .list)) (p .0) (p .1) (p .3) in
+    let m1 = c .before .before .before .before .before .before .before .before .before .before .before .before .before .before .before .before .before .before .before .before .visit-marker in
+    let l1 = m1 .last .1 .1 .1 .1 .1 .1 .1 .1 .1 .0 in
+    let mf = c .before .before .before .before .before .before .before .before .before .before .before .before .before .before .before .milestone-findings in
+    let l2 = mf .last .1 .1 .1 .1 .1 .1 .0 in
+    let wc = c .before .before .before .before .before .before .before .before .before .before .before .with-counts in
+    let am = c .before .before .before .before .before .before .before .before .before .before .after-milestone in
+    let o2 = am .last .1 .1 .1 .1 .0 in
+    let st = rw (wc .ensures) at (am .ensures) in
+    let lk = c .before .before .before .before .before .before .before .link-at in
+    let ins = c .before .before .before .before .inside in
+    let wa = c .before .before .before .with-anchor2 in
+    let d = visit-deep v in
+    (omega (arith, c .before .before .before .before .before .before .before .before .before .before .before .before .before .before .before .before .before .before .before .before .before .before .before .before .before .before .before .before .before .pre .0), rw (lk .ensures, wa .ensures) (children-ready v l1 (m1 .result) (m1 .ensures) l2 (mf .result) (mf .ensures) o2 (am .result) (am .kept .1 .1 .1 .1 .0) st, children-room v l1 (m1 .result) (m1 .ensures) l2 (mf .result) (mf .ensures) o2 (am .result) (am .kept .1 .1 .1 .1 .0) st (aroundOf (ins .result)) (ins .ensures)))
 
-visit-same-length-2 : (t : ℕ) → visit-lts.Need-same-length-2 (
+visit-with-anchor-requires-3 : (t : ℕ) → visit-lts.Need-with-anchor-requires-3 (
   visit-marker-reads.Asked,
   visit-marker-reads.Learnt,
   milestone-findings-reads.Asked,
@@ -374,14 +485,16 @@ visit-same-length-2 : (t : ℕ) → visit-lts.Need-same-length-2 (
   after-milestone-reads.Learnt,
   link-at-reads.Asked,
   link-at-reads.Learnt,
-  inside-reads.Asked,
-  inside-reads.Learnt,
+  is-quiet-reads.Asked,
+  is-quiet-reads.Learnt,
   with-anchor-reads.Asked,
   with-anchor-reads.Learnt,
+  inside-reads.Asked,
+  inside-reads.Learnt,
   walk-below t,
   walk.Post,
 ) (visit-at t) visit.Post
-visit-same-length-2 t c = c .before .before .before .before .before .before .before .walk .kept .1 .1 .1 .1 .1 .1 .1 .1 .1 .1 .1 .0 ∙ c .before .before .before .before .before .before .before .before .before .before .before .before .before .before .before .before .after-milestone .kept .1 .1 .1 .1 .0
+visit-with-anchor-requires-3 t c κs = search needs
 
 visit-same-length-3 : (t : ℕ) → visit-lts.Need-same-length-3 (
   visit-marker-reads.Asked,
@@ -394,16 +507,18 @@ visit-same-length-3 : (t : ℕ) → visit-lts.Need-same-length-3 (
   after-milestone-reads.Learnt,
   link-at-reads.Asked,
   link-at-reads.Learnt,
-  inside-reads.Asked,
-  inside-reads.Learnt,
+  is-quiet-reads.Asked,
+  is-quiet-reads.Learnt,
   with-anchor-reads.Asked,
   with-anchor-reads.Learnt,
+  inside-reads.Asked,
+  inside-reads.Learnt,
   walk-below t,
   walk.Post,
 ) (visit-at t) visit.Post
-visit-same-length-3 t c = c .before .before .before .before .before .before .before .walk .kept .1 .1 .1 .1 .1 .1 .1 .1 .1 .1 .1 .1 .0 ∙ c .before .before .before .before .before .before .before .before .before .before .before .before .before .before .before .before .before .before .before .before .before .milestone-findings .kept .1 .1 .1 .1 .1 .1 .0 ∙ c .before .before .before .before .before .before .before .before .before .before .before .before .before .before .before .before .before .before .before .before .before .before .before .before .before .before .visit-marker .kept .1 .1 .1 .1 .1 .1 .1 .1 .1 .0
+visit-same-length-3 t c = c .before .before .before .before .before .before .before .walk .kept .1 .1 .1 .1 .1 .1 .1 .1 .1 .1 .0
 
-visit-returns : (t : ℕ) → visit-lts.Need-returns (
+visit-same-length-4 : (t : ℕ) → visit-lts.Need-same-length-4 (
   visit-marker-reads.Asked,
   visit-marker-reads.Learnt,
   milestone-findings-reads.Asked,
@@ -414,30 +529,76 @@ visit-returns : (t : ℕ) → visit-lts.Need-returns (
   after-milestone-reads.Learnt,
   link-at-reads.Asked,
   link-at-reads.Learnt,
-  inside-reads.Asked,
-  inside-reads.Learnt,
+  is-quiet-reads.Asked,
+  is-quiet-reads.Learnt,
   with-anchor-reads.Asked,
   with-anchor-reads.Learnt,
+  inside-reads.Asked,
+  inside-reads.Learnt,
   walk-below t,
   walk.Post,
 ) (visit-at t) visit.Post
-visit-returns t c =
-    let p = c .before .before .before .before .before .before .before .before .before .before .before .before .before .before .before .before .before .before .before .before .before .before .before .before .before .before .before .before .before .before .before .before .before .before .before .pre .1 in
-    let a = c .before .before .before .before .before .before .before .before .before .before .before .before .before .before .before .before .before .before .before .before .before .before .before .before .before .before .before .before .before .before .before .before .before .before .before .args in
+visit-same-length-4 t c = c .before .before .before .before .before .before .before .walk .kept .1 .1 .1 .1 .1 .1 .1 .1 .1 .1 .1 .0 ∙ c .before .before .before .before .before .before .before .before .before .before .before .before .before .before .before .before .before .before .after-milestone .kept .1 .1 .1 .1 .0
+
+visit-same-length-5 : (t : ℕ) → visit-lts.Need-same-length-5 (
+  visit-marker-reads.Asked,
+  visit-marker-reads.Learnt,
+  milestone-findings-reads.Asked,
+  milestone-findings-reads.Learnt,
+  with-counts-reads.Asked,
+  with-counts-reads.Learnt,
+  after-milestone-reads.Asked,
+  after-milestone-reads.Learnt,
+  link-at-reads.Asked,
+  link-at-reads.Learnt,
+  is-quiet-reads.Asked,
+  is-quiet-reads.Learnt,
+  with-anchor-reads.Asked,
+  with-anchor-reads.Learnt,
+  inside-reads.Asked,
+  inside-reads.Learnt,
+  walk-below t,
+  walk.Post,
+) (visit-at t) visit.Post
+visit-same-length-5 t c = c .before .before .before .before .before .before .before .walk .kept .1 .1 .1 .1 .1 .1 .1 .1 .1 .1 .1 .1 .0 ∙ c .before .before .before .before .before .before .before .before .before .before .before .before .before .before .before .before .before .before .before .before .before .before .before .milestone-findings .kept .1 .1 .1 .1 .1 .1 .0 ∙ c .before .before .before .before .before .before .before .before .before .before .before .before .before .before .before .before .before .before .before .before .before .before .before .before .before .before .before .before .visit-marker .kept .1 .1 .1 .1 .1 .1 .1 .1 .1 .0
+
+visit-returns-2 : (t : ℕ) → visit-lts.Need-returns-2 (
+  visit-marker-reads.Asked,
+  visit-marker-reads.Learnt,
+  milestone-findings-reads.Asked,
+  milestone-findings-reads.Learnt,
+  with-counts-reads.Asked,
+  with-counts-reads.Learnt,
+  after-milestone-reads.Asked,
+  after-milestone-reads.Learnt,
+  link-at-reads.Asked,
+  link-at-reads.Learnt,
+  is-quiet-reads.Asked,
+  is-quiet-reads.Learnt,
+  with-anchor-reads.Asked,
+  with-anchor-reads.Learnt,
+  inside-reads.Asked,
+  inside-reads.Learnt,
+  walk-below t,
+  walk.Post,
+) (visit-at t) visit.Post
+visit-returns-2 t c =
+    let p = c .before .before .before .before .before .before .before .before .before .before .before .before .before .before .before .before .before .before .before .before .before .before .before .before .before .before .before .before .before .before .before .before .before .before .before .before .before .pre .1 in
+    let a = c .before .before .before .before .before .before .before .before .before .before .before .before .before .before .before .before .before .before .before .before .before .before .before .before .before .before .before .before .before .before .before .before .before .before .before .before .before .args in
     let v = visit-with (aroundOf (a .around)) (entryOfInfo (a .m)) (now (a .list)) (p .0) (p .1) (p .3) in
-    let m1 = c .before .before .before .before .before .before .before .before .before .before .before .before .before .before .before .before .before .before .before .before .before .before .before .before .before .before .visit-marker in
+    let m1 = c .before .before .before .before .before .before .before .before .before .before .before .before .before .before .before .before .before .before .before .before .before .before .before .before .before .before .before .before .visit-marker in
     let l1 = m1 .last .1 .1 .1 .1 .1 .1 .1 .1 .1 .0 in
-    let mf = c .before .before .before .before .before .before .before .before .before .before .before .before .before .before .before .before .before .before .before .before .before .milestone-findings in
+    let mf = c .before .before .before .before .before .before .before .before .before .before .before .before .before .before .before .before .before .before .before .before .before .before .before .milestone-findings in
     let l2 = mf .last .1 .1 .1 .1 .1 .1 .0 in
-    let wc = c .before .before .before .before .before .before .before .before .before .before .before .before .before .before .before .before .before .with-counts in
-    let am = c .before .before .before .before .before .before .before .before .before .before .before .before .before .before .before .before .after-milestone in
+    let wc = c .before .before .before .before .before .before .before .before .before .before .before .before .before .before .before .before .before .before .before .with-counts in
+    let am = c .before .before .before .before .before .before .before .before .before .before .before .before .before .before .before .before .before .before .after-milestone in
     let o2 = am .last .1 .1 .1 .1 .0 in
     let st = rw (wc .ensures) at (am .ensures) in
-    let lk = c .before .before .before .before .before .before .before .before .before .before .before .before .before .link-at in
+    let lk = c .before .before .before .before .before .before .before .before .before .before .before .before .before .before .before .link-at in
     let ins = c .before .before .before .before .before .before .before .before .before .before .before .before .inside in
-    let wa = c .before .before .before .before .before .before .before .before .before .before .before .with-anchor in
+    let wa = c .before .before .before .before .before .before .before .before .before .before .before .with-anchor2 in
     let wk = c .before .before .before .before .before .before .before .walk in
-    rw (c .with-anchor2 .ensures)
+    rw (c .with-anchor3 .ensures)
     (visited v l1 (m1 .result) (m1 .ensures) l2 (mf .result) (mf .ensures) o2 (am .result) (am .kept .1 .1 .1 .1 .0) st (aroundOf (ins .result)) (wk .last .1 .1 .1 .1 .1 .1 .1 .1 .1 .1 .0) (wk .last .1 .1 .1 .1 .1 .1 .1 .1 .1 .1 .1 .0) (wk .last .1 .1 .1 .1 .1 .1 .1 .1 .1 .1 .1 .1 .0) (wk .result) (ins .ensures) (rw (lk .ensures, wa .ensures) at (wk .ensures)))
 
 abbrev walk-Inv-loop : walk-lts.InvT-loop
@@ -898,10 +1059,12 @@ pub +visit+walk-spec : {M : Type 1} → statement M
   after-milestone-reads.Learnt,
   link-at-reads.Asked,
   link-at-reads.Learnt,
-  inside-reads.Asked,
-  inside-reads.Learnt,
+  is-quiet-reads.Asked,
+  is-quiet-reads.Learnt,
   with-anchor-reads.Asked,
   with-anchor-reads.Learnt,
+  inside-reads.Asked,
+  inside-reads.Learnt,
   walk-below t,
   walk.Post,
 )
@@ -911,18 +1074,23 @@ pub +visit+walk-spec : {M : Type 1} → statement M
     (visit-milestone-findings-requires t)
     (visit-with-counts-requires t)
     (visit-after-milestone-requires t)
-    (visit-add-walk t)
+    (visit-add-from t)
     (visit-link-at-requires t)
-    (visit-cast-walk t)
-    (visit-sub-walk t)
-    (visit-inside-requires t)
+    (visit-cast-link t)
+    (visit-is-quiet-requires t)
     (visit-with-anchor-requires t)
-    (visit-walk-requires t)
-    (visit-with-anchor-requires-2 t)
     (visit-same-length t)
     (visit-same-length-2 t)
+    (visit-returns t)
+    (visit-sub-walk t)
+    (visit-inside-requires t)
+    (visit-with-anchor-requires-2 t)
+    (visit-walk-requires t)
+    (visit-with-anchor-requires-3 t)
     (visit-same-length-3 t)
-    (visit-returns t))
+    (visit-same-length-4 t)
+    (visit-same-length-5 t)
+    (visit-returns-2 t))
     λ t. walk-lts.spec (
       anchored-reads.Asked,
       anchored-reads.Learnt,

@@ -3,7 +3,7 @@
 use borrow.Author.Tests.{not-false}
 use native.Mathlib.Omega.{arith}
 use denote.Ref.{now}
-use Rattle.compared.proofs.Guards.{child-spanned, attributes-asked, attributes-total}
+use Rattle.compared.proofs.Guards.{attributes-asked, attributes-total}
 use borrow.Author.Needs.{needs}
 use Rattle.compared.proofs.compared_attributes.Statement.{statement}
 use Rattle.compared.proofs.compared_attributes.Tie as tie
@@ -23,26 +23,23 @@ link-at-requires c κs = c .before .opens .ensures (not-false _ (c .if2 .left)) 
 cast-link : tie.Need-cast-link
 cast-link c = search needs
 
-marker-name-requires : tie.Need-marker-name-requires
-marker-name-requires c κs = child-spanned _ _ _ (c .before .before .opens .ensures (not-false _ (c .before .if2 .left)) .0)
-
 add-validate-attributes : tie.Need-add-validate-attributes
-add-validate-attributes c = let h = c .before .before .before .opens .ensures (not-false _ (c .before .before .if2 .left)) .1 .inside in omega arith
+add-validate-attributes c = let h = c .before .before .opens .ensures (not-false _ (c .before .if2 .left)) .1 .inside in omega arith
 
 validate-attributes-requires : tie.Need-validate-attributes-requires
 validate-attributes-requires c κs =
-    let a = c .before .before .before .before .before .before .before .before .before .args in
-    let k = c .before .before .link-at in
-    let h = c .before .before .before .before .opens .ensures (not-false _ (c .before .before .before .if2 .left)) .1 in
-    attributes-asked (now (a .source)) (now (a .tape)) (a .i) (k .result) (c .before .before .before .before .before .if1 .left) h (k .ensures) (now (c .before .marker-name .result))
+    let a = c .before .before .before .before .before .before .before .before .args in
+    let k = c .before .link-at in
+    let h = c .before .before .before .opens .ensures (not-false _ (c .before .before .if2 .left)) in
+    attributes-asked (now (a .source)) (now (a .tape)) (a .i) (k .result) (c .before .before .before .before .if1 .left) (h .1) (k .ensures) _ (h .0)
 
 total-of-requires : tie.Need-total-of-requires
 total-of-requires c κs =
-    let a = c .before .before .before .before .before .before .before .before .before .before .before .before .args in
-    let k = c .before .before .before .before .before .link-at in
-    let h = c .before .before .before .before .before .before .before .opens .ensures (not-false _ (c .before .before .before .before .before .before .if2 .left)) .1 in
+    let a = c .before .before .before .before .before .before .before .before .before .before .before .args in
+    let k = c .before .before .before .before .link-at in
+    let h = c .before .before .before .before .before .before .opens .ensures (not-false _ (c .before .before .before .before .before .if2 .left)) .1 in
     let r = c .before .before .validate-attributes in
-    attributes-total (now (a .source)) (now (a .tape)) (a .i) (k .result) (c .before .before .before .before .before .before .before .before .if1 .left) h (k .ensures) _ _ _ (r .result) (r .ensures)
+    attributes-total (now (a .source)) (now (a .tape)) (a .i) (k .result) (c .before .before .before .before .before .before .before .if1 .left) h (k .ensures) _ _ _ (r .result) (r .ensures)
 
 same-length : tie.Need-same-length
 same-length c = search needs
@@ -59,7 +56,6 @@ compared-attributes-spec =
     returns-2
     link-at-requires
     cast-link
-    marker-name-requires
     add-validate-attributes
     validate-attributes-requires
     total-of-requires

@@ -14,13 +14,13 @@ use Rattle.validate.specs.State.{State}
 use Rattle.validate.specs.Checks.{Check, given, about, isEmpty, numberForm, chapterChecks}
 use Rattle.running.specs.Running.{stateOf, countsOf}
 use Rattle.leaves.proofs.Givens.{Due, due-start, due-room, due-wrote, due-rest, due-all}
-use Rattle.leaves.proofs.Told.{bareChapter, twice, leaps, is-bare, is-twice, says-twice, is-leap, says-leap, the-label}
+use Rattle.leaves.proofs.Told.{bareChapter, twice, leaps, is-bare, is-twice, says-twice, is-leap, says-leap}
 use borrow.Author.Needs.{needs}
 use Rattle.leaves.proofs.chapter_findings.Statement.{statement}
 use Rattle.leaves.proofs.chapter_findings.Tie as tie
 
 abbrev root : tie.After-counts → tie.Start
-root c = c .before .before .before .before .before .before .before .before .before
+root c = c .before .before .before .before .before .before .before .before
 
 abbrev number : tie.After-counts → ℕ
 number c = c .before .before .link-at .result
@@ -45,14 +45,12 @@ abbrev Rest : tie.Start → List Check → List ℕ → Counts → Type 0
 Rest c = let a = c .args in Due (given (chapterChecks (entry c) (state c) (node c))) (now (a .list)) (countsOf (a .rec))
 
 abbrev empty : tie.After-counts → Bool
-empty c = isEmpty (now (c .before .before .before .number-label .result))
+empty c = isEmpty (now (root c .args .label))
 
 bare : (c : tie.After-counts) → empty c ≡ bareChapter (entry (root c)) (node (root c)) .holds
 bare c =
     let s = root c in
-    let l = c .before .before .before .number-label in
-    let t = c .before .before .before .before .text in
-    is-bare (entry s) (node s) (now (t .result)) (t .ensures) (now (l .result)) (l .ensures)
+    is-bare (entry s) (node s) (now (s .args .label)) (s .pre .1 .is-label)
 
 again : (c : tie.After-counts) → c .before .is-seen .result ≡ twice (state (root c)) (node (root c)) .holds
 again c = is-twice (state (root c)) (node (root c)) (number c) (c .before .before .link-at .ensures) (c .before .is-seen .result) (c .before .is-seen .ensures)
@@ -60,7 +58,7 @@ again c = is-twice (state (root c)) (node (root c)) (number c) (c .before .befor
 due-bare : (c : tie.After-counts) → Rest (root c) (chapterChecks (entry (root c)) (state (root c)) (node (root c))) (now (root c .args .list)) (c .counts .result)
 due-bare c =
     let s = root c in
-    due-start (chapterChecks (entry s) (state s) (node s)) (now (s .args .list)) (countsOf (s .args .rec)) (c .counts .result) (c .counts .ensures) (s .pre .2)
+    due-start (chapterChecks (entry s) (state s) (node s)) (now (s .args .list)) (countsOf (s .args .rec)) (c .counts .result) (c .counts .ensures) (s .pre .3)
 
 due-twice : (c : tie.After-error-if) → Rest (root (c .before .before)) (twice (state (root (c .before .before))) (node (root (c .before .before))) ∷ leaps (state (root (c .before .before))) (node (root (c .before .before))) ∷ numberForm 0 (entry (root (c .before .before))) (node (root (c .before .before)))) (c .error-if .last .1 .1 .1 .1 .1 .0) (c .error-if .result)
 due-twice c =
@@ -81,12 +79,6 @@ due-form c =
     let n = k .before .before .link-at .ensures in
     due-wrote (leaps (state s) (node s)) (numberForm 0 (entry s) (node s)) (not (eqb (number k) (state s .chapter))) (about (node s) 1 9 0 (state s .chapter) (number k)) (is-leap (state s) (node s) (number k) n) (says-leap (state s) (node s) (number k) n) (due-leap (c .before .before .before .before)) (c .warn-if2 .ensures)
 
-text-requires : tie.Need-text-requires
-text-requires c κs = search needs
-
-number-label-requires : tie.Need-number-label-requires
-number-label-requires c κs = search needs
-
 link-at-requires : tie.Need-link-at-requires
 link-at-requires c κs = search needs
 
@@ -102,14 +94,14 @@ counts-requires c κs = search needs
 error-if-requires : tie.Need-error-if-requires
 error-if-requires c κs =
     let s = root (c .before) in
-    (s .pre .0 .inside, due-room (bareChapter (entry s) (node s)) (twice (state s) (node s) ∷ leaps (state s) (node s) ∷ numberForm 0 (entry s) (node s)) (empty (c .before)) (bareChapter (entry s) (node s) .finding) (bare (c .before)) refl (due-bare (c .before)))
+    (s .pre .0, due-room (bareChapter (entry s) (node s)) (twice (state s) (node s) ∷ leaps (state s) (node s) ∷ numberForm 0 (entry s) (node s)) (empty (c .before)) (bareChapter (entry s) (node s) .finding) (bare (c .before)) refl (due-bare (c .before)))
 
 warn-if-requires : tie.Need-warn-if-requires
 warn-if-requires c κs =
     let t = c .before .before .before in
     let k = t .before .before in
     let s = root k in
-    (s .pre .0 .inside, due-room (twice (state s) (node s)) (leaps (state s) (node s) ∷ numberForm 0 (entry s) (node s)) (k .before .is-seen .result) (about (node s) 1 10 0 (number k) 0) (again k) (says-twice (state s) (node s) (number k) (k .before .before .link-at .ensures)) (due-twice t))
+    (s .pre .0, due-room (twice (state s) (node s)) (leaps (state s) (node s) ∷ numberForm 0 (entry s) (node s)) (k .before .is-seen .result) (about (node s) 1 10 0 (number k) 0) (again k) (says-twice (state s) (node s) (number k) (k .before .before .link-at .ensures)) (due-twice t))
 
 warn-if-requires-2 : tie.Need-warn-if-requires-2
 warn-if-requires-2 c κs =
@@ -117,16 +109,13 @@ warn-if-requires-2 c κs =
     let k = counted2 t in
     let s = root k in
     let n = k .before .before .link-at .ensures in
-    (s .pre .0 .inside, due-room (leaps (state s) (node s)) (numberForm 0 (entry s) (node s)) (not (eqb (number k) (state s .chapter))) (about (node s) 1 9 0 (state s .chapter) (number k)) (is-leap (state s) (node s) (number k) n) (says-leap (state s) (node s) (number k) n) (due-leap t))
+    (s .pre .0, due-room (leaps (state s) (node s)) (numberForm 0 (entry s) (node s)) (not (eqb (number k) (state s .chapter))) (about (node s) 1 9 0 (state s .chapter) (number k)) (is-leap (state s) (node s) (number k) n) (says-leap (state s) (node s) (number k) n) (due-leap t))
 
 number-form-requires : tie.Need-number-form-requires
 number-form-requires c κs =
     let t = c .before .before .before in
-    let k = counted3 t in
-    let s = root k in
-    let l = k .before .before .before .number-label in
-    let x = k .before .before .before .before .text in
-    (s .pre .0, the-label (entry s) (node s) (now (x .result)) (x .ensures) (now (l .result)) (l .ensures), due-rest (due-form t))
+    let s = root (counted3 t) in
+    (s .pre .0, s .pre .1, due-rest (due-form t))
 
 same-length : tie.Need-same-length
 same-length c = search needs
@@ -138,8 +127,6 @@ pub chapter-findings-spec : {M : Type 1} → statement M
 chapter-findings-spec =
     tie.close
     (tie.spec
-    text-requires
-    number-label-requires
     link-at-requires
     cast-n
     is-seen-requires

@@ -1,13 +1,14 @@
--- `leaves::is_seen` meets its contract.
+-- `leaves::is_seen` meets its contract. The invariant: the words that are left have the number exactly if all have it.
 -- Assumes nothing.
-use Prim.Native.Nat.{_≤_}
+use Prim.Native.Nat.{ℕ, _+_, _-_, _≤_}
 use native.Mathlib.Omega.{arith}
-use mathlib.Core.Path.{_≡_, refl, sym, _∙_}
+use mathlib.Core.Path.{_≡_, refl, sym, ap, _∙_}
+use mathlib.Core.Bool.{Bool, true, false}
 use denote.Ref.{now}
 use lib.ListN.{length}
+use Rattle.text.specs.Pick.{either}
 use Rattle.attachment.specs.Attached.{among}
 use Rattle.running.specs.Running.{latest}
-use Rattle.leaves.proofs.Seen.{seen-here, seen-past, seen-none}
 use borrow.Author.Needs.{needs}
 use Rattle.leaves.proofs.is_seen.Statement.{statement}
 use Rattle.leaves.proofs.is_seen.Tie as tie
@@ -19,40 +20,33 @@ abbrev μ-loop : tie.MeasureT-loop
 μ-loop seen k num i₀ i = i
 
 loop-holds : tie.Need-loop-holds Inv-loop μ-loop
-loop-holds c = (c .pre, refl)
+loop-holds c = (c .before .pre, refl)
 
-sub-if1 : tie.Need-sub-if1 Inv-loop μ-loop
-sub-if1 c = search needs
+is-in-block-requires : tie.Need-is-in-block-requires Inv-loop μ-loop
+is-in-block-requires c κs = omega arith
 
-mul-if1 : tie.Need-mul-if1 Inv-loop μ-loop
-mul-if1 c = search needs
-
-shared-slice-read-if1 : tie.Need-shared-slice-read-if1 Inv-loop μ-loop
-shared-slice-read-if1 c = search needs
+-- what the block says of the words up to its end
+block : (c : tie.After-is-in-block Inv-loop μ-loop) (r : Bool) → c .is-in-block .result ≡ r → either r (among (c .before .before .before .before .args .num) (latest (now (c .before .before .before .before .args .seen)) (c .before .before .loop .i - 16))) ≡ among (c .before .before .before .before .args .num) (latest (now (c .before .before .before .before .args .seen)) (c .before .before .before .before .args .k))
+block c r h =
+    let a = c .before .before .before .before .args in
+    let l = c .before .before .loop in
+    let e : l .i - 16 + 16 ≡ l .i = omega (arith, c .before .loop-test .taken) in
+    ap (λ (x : Bool). either x (among (a .num) (latest (now (a .seen)) (l .i - 16)))) (sym h) ∙ c .is-in-block .ensures ∙ ap (λ (i : ℕ). among (a .num) (latest (now (a .seen)) i)) e ∙ l .inv .1
 
 returns : tie.Need-returns Inv-loop μ-loop
-returns c =
-    let a = c .before .before .before .before .args in
-    let l = c .before .before .before .loop in
-    sym (seen-here (now (a .seen)) (a .num) (l .i) (c .before .before .loop-test .taken) (c .if1 .taken)) ∙ l .inv .1
-
-sub-i : tie.Need-sub-i Inv-loop μ-loop
-sub-i c = search needs
+returns c = block (c .before) true (c .if1 .taken)
 
 loop-less : tie.Need-loop-less Inv-loop μ-loop
-loop-less c = search needs
+loop-less c = omega arith
 
 loop-again : tie.Need-loop-again Inv-loop μ-loop
-loop-again c =
-    let a = c .before .before .before .before .args in
-    let l = c .before .before .before .loop in
-    (omega (arith, l .inv .0), seen-past (now (a .seen)) (a .num) (l .i) (c .before .before .loop-test .taken) (c .if1 .left) ∙ l .inv .1)
+loop-again c = (omega (arith, c .before .before .before .loop .inv .0), block (c .before) false (c .if1 .left))
+
+is-among-few-requires : tie.Need-is-among-few-requires Inv-loop μ-loop
+is-among-few-requires c κs = search needs
 
 returns-2 : tie.Need-returns-2 Inv-loop μ-loop
-returns-2 c =
-    let a = c .before .before .args in
-    let l = c .before .loop in
-    sym (seen-none (now (a .seen)) (a .num) (l .i) (c .loop-test .left)) ∙ l .inv .1
+returns-2 c = c .is-among-few .ensures ∙ c .before .before .loop .inv .1
 
 pub is-seen-spec : {M : Type 1} → statement M
 is-seen-spec =
@@ -61,11 +55,9 @@ is-seen-spec =
     Inv-loop
     μ-loop
     loop-holds
-    sub-if1
-    mul-if1
-    shared-slice-read-if1
+    is-in-block-requires
     returns
-    sub-i
     loop-less
     loop-again
+    is-among-few-requires
     returns-2)

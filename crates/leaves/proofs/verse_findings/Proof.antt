@@ -65,13 +65,13 @@ empty c = isEmpty (now (root c .args .label))
 bare : (c : tie.After-counts) → empty c ≡ bareVerse (entry (root c)) (node (root c)) .holds
 bare c =
     let s = root c in
-    is-bare (entry s) (node s) (node s .text) refl (now (s .args .label)) (s .pre .1)
+    is-bare (entry s) (node s) (now (s .args .label)) (s .pre .1 .is-label)
 
 broken : (c : tie.After-counts) → c .before .before .before .breaks .result ≡ amiss (entry (root c)) (state (root c)) (node (root c)) .holds
 broken c =
     let s = root c in
     let b = c .before .before .before .breaks in
-    is-amiss (entry s) (node s) (node s .text) refl (now (s .args .label)) (s .pre .1) (state s) (b .result) (b .ensures ∙ ap (λ (p : Option Position). breaks p (state s .verse)) (s .pre .2))
+    is-amiss (entry s) (node s) (now (s .args .label)) (s .pre .1 .is-label) (state s) (b .result) (b .ensures ∙ ap (λ (p : Option Position). breaks p (state s .verse)) (s .pre .2))
 
 abbrev wrong : tie.After-counts → Finding
 wrong c = about (node (root c)) 1 11 0 (state (root c) .verse .number) (c .before .before .letter-byte .result)
@@ -125,27 +125,27 @@ warn-if-requires : tie.Need-warn-if-requires
 warn-if-requires c κs =
     let k = c .before in
     let s = root k in
-    (s .pre .0 .inside, due-room (stray (around s) (state s) (node s)) (three s) (k .before .neither .result) (stray (around s) (state s) (node s) .finding) (k .before .neither .ensures) refl (due-stray k))
+    (s .pre .0, due-room (stray (around s) (state s) (node s)) (three s) (k .before .neither .result) (stray (around s) (state s) (node s) .finding) (k .before .neither .ensures) refl (due-stray k))
 
 error-if-requires : tie.Need-error-if-requires
 error-if-requires c κs =
     let t = c .before .before .before in
     let s = root (t .before .before) in
-    (s .pre .0 .inside, due-room (crossing (around s) (node s)) (two s) (around s .char) (crossing (around s) (node s) .finding) refl refl (due-crossing t))
+    (s .pre .0, due-room (crossing (around s) (node s)) (two s) (around s .char) (crossing (around s) (node s) .finding) refl refl (due-crossing t))
 
 error-if-requires-2 : tie.Need-error-if-requires-2
 error-if-requires-2 c κs =
     let t = c .before .before .before in
     let k = counted2 t in
     let s = root k in
-    (s .pre .0 .inside, due-room (bareVerse (entry s) (node s)) (one s) (empty k) (bareVerse (entry s) (node s) .finding) (bare k) refl (due-bare t))
+    (s .pre .0, due-room (bareVerse (entry s) (node s)) (one s) (empty k) (bareVerse (entry s) (node s) .finding) (bare k) refl (due-bare t))
 
 warn-if-requires-2 : tie.Need-warn-if-requires-2
 warn-if-requires-2 c κs =
     let t = c .before .before .before in
     let k = counted3 t in
     let s = root k in
-    (s .pre .0 .inside, due-room (amiss (entry s) (state s) (node s)) (numberForm 1 (entry s) (node s)) (k .before .before .before .breaks .result) (wrong k) (broken k) (says k) (due-amiss t))
+    (s .pre .0, due-room (amiss (entry s) (state s) (node s)) (numberForm 1 (entry s) (node s)) (k .before .before .before .breaks .result) (wrong k) (broken k) (says k) (due-amiss t))
 
 number-form-requires : tie.Need-number-form-requires
 number-form-requires c κs =
@@ -160,7 +160,7 @@ same-length c =
     let t3 = t4 .before .before .before .before in
     let t2 = t3 .before .before .before .before in
     let t1 = t2 .before .before .before .before in
-    f .number-form .kept .1 .1 .1 .1 .1 .1 .0 ∙ t4 .warn-if2 .kept .1 .1 .1 .1 .1 .1 .0 ∙ t3 .error-if2 .kept .1 .1 .1 .1 .1 .0 ∙ t2 .error-if .kept .1 .1 .1 .1 .1 .0 ∙ t1 .warn-if .kept .1 .1 .1 .1 .1 .1 .0
+    f .number-form .kept .1 .1 .1 .1 .1 .1 .1 .0 ∙ t4 .warn-if2 .kept .1 .1 .1 .1 .1 .1 .0 ∙ t3 .error-if2 .kept .1 .1 .1 .1 .1 .0 ∙ t2 .error-if .kept .1 .1 .1 .1 .1 .0 ∙ t1 .warn-if .kept .1 .1 .1 .1 .1 .1 .0
 
 returns : tie.Need-returns
 returns c = due-all (due-form (c .before .before .before .before .before .before)) (c .before .before .number-form .ensures)

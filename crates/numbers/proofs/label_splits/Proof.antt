@@ -1,37 +1,29 @@
 -- `numbers::label_splits` meets its contract.
 -- Assumes nothing.
 use borrow.Author.Needs.{needs}
-use borrow.Author.Tests.{lt-ltb, le-ltb}
 use denote.Ref.{now}
-use mathlib.Core.Bool.{true, false, not}
-use mathlib.Core.Path.{ap, _∙_}
-use Rattle.numbers.proofs.Labels.{split-by}
-use Rattle.table.specs.Entries.{infoOf}
+use mathlib.Core.Path.{_∙_}
+use Rattle.numbers.proofs.Labels.{split-known, split-missing}
 use Rattle.numbers.proofs.label_splits.Statement.{statement}
 use Rattle.numbers.proofs.label_splits.Tie as tie
 
-name-of-requires : tie.Need-name-of-requires
-name-of-requires c κs = search needs
+enum-known-info : tie.Need-enum-known-info
+enum-known-info c = search needs
 
-base-len-requires : tie.Need-base-len-requires
-base-len-requires c κs = search needs
+is-split-requires : tie.Need-is-split-requires
+is-split-requires c κs = search needs
 
-is-char-boundary-requires : tie.Need-is-char-boundary-requires
-is-char-boundary-requires c κs = search needs
+enum-told : tie.Need-enum-told
+enum-told c = search needs
 
 returns : tie.Need-returns
 returns c =
-    let a = c .before .before .before .before .before .args in
-    let b = c .before .before in
-    ap not (c .is-char-boundary .ensures) ∙ split-by (infoOf (a .info)) (now (a .text)) _ _ (b .before .name-of .ensures) (b .base-len .ensures) true (lt-ltb _ _ (c .before .if1 .taken))
+    let m = c .before .before in
+    let a = m .before .before .before .args in
+    c .is-split .ensures ∙ split-known (m .info .given .0 .0) (a .info) (now (a .text)) (m .info .given .1)
 
 returns-2 : tie.Need-returns-2
-returns-2 c =
-    let a = c .before .before .before .before .args in
-    let b = c .before in
-    split-by (infoOf (a .info)) (now (a .text)) _ _ (b .before .name-of .ensures) (b .base-len .ensures) false (le-ltb _ _ (c .if1 .left))
+returns-2 c = let a = c .before .before .before .args in split-missing (a .info) (now (a .text)) (c .enum-told .given .1)
 
 pub label-splits-spec : {M : Type 1} → statement M
-label-splits-spec =
-    tie.close
-    (tie.spec name-of-requires base-len-requires is-char-boundary-requires returns returns-2)
+label-splits-spec = tie.close (tie.spec enum-known-info is-split-requires enum-told returns returns-2)

@@ -3,14 +3,13 @@
 use borrow.Author.Needs.{needs}
 use denote.Ref.{now}
 use mathlib.Core.Path.{sym, ap, _∙_}
-use Prim.Native.Nat.{ℕ, _+_}
+use Prim.Native.Nat.{ℕ}
 use mathlib.Core.List.{List, _++_}
 use Rattle.tape.specs.Forest.{forest}
 use Rattle.table.specs.Entries.{entryOfInfo}
 use Rattle.cursor.proofs.Runs.{run-below, run-spanned}
 use Rattle.findings.specs.Finding.{Finding}
 use Rattle.findings.specs.Written.{Room}
-use Rattle.attributes.specs.Attributes.{attributesFindings}
 use Rattle.validate.specs.Checks.{Check, given}
 use Rattle.running.specs.Running.{aroundOf, anchorOf, startsFor}
 use Rattle.running.specs.declared.Record.{Record}
@@ -111,46 +110,39 @@ row-findings-requires c κs =
     let s = c .before .before .before .before .before .before .before .before .before .before .before .before .before in
     (children (now (a .source)) (now (a .tape)) (a .i) (a .to) (p .1) (p .2) (p .3) (k .result) (k .ensures), room-row (ids s) (placed s) (content s) (row s) (attributes s) (now (a .list)) (c .before .before .before .before .before .before .before .before .before .before .before .before .before .counts .result) (room s) (w₁ .last .1 .1 .1 .1 .1 .1 .0) (w₁ .result) (w₁ .ensures) (w₂ .last .1 .1 .1 .1 .1 .1 .1 .1 .1 .0) (w₂ .result) (w₂ .ensures) (w₃ .last .1 .1 .1 .1 .1 .0) (w₃ .result) (w₃ .ensures))
 
-marker-name-requires : tie.Need-marker-name-requires
-marker-name-requires c κs =
-    let a = c .before .before .before .before .before .before .before .before .before .before .before .before .before .before .before .before .before .before .before .before .before .before .before .before .before .before .args in
-    let p = c .before .before .before .before .before .before .before .before .before .before .before .before .before .before .before .before .before .before .before .before .before .before .before .before .before .before .pre in
-    run-spanned (now (a .source)) (now (a .tape)) (a .i) (a .to) (p .1) (p .2)
-
 validate-attributes-requires : tie.Need-validate-attributes-requires
 validate-attributes-requires c κs =
-    let a = c .before .before .before .before .before .before .before .before .before .before .before .before .before .before .before .before .before .before .before .before .before .before .before .before .before .before .before .before .args in
-    let p = c .before .before .before .before .before .before .before .before .before .before .before .before .before .before .before .before .before .before .before .before .before .before .before .before .before .before .before .before .pre in
-    let k = c .before .before .before .before .before .before .before .before .before .before .before .before .before .before .before .before .before .before .before .before .before .before .link-at in
-    let w₁ = c .before .before .before .before .before .before .before .before .before .before .before .before .before .before .before .before .id-findings in
-    let w₂ = c .before .before .before .before .before .before .before .before .before .before .before .before .place-findings in
-    let w₃ = c .before .before .before .before .before .before .before .before .content-findings in
-    let w₄ = c .before .before .before .before .row-findings in
-    let s = c .before .before .before .before .before .before .before .before .before .before .before .before .before .before .before .before .before .before in
-    (children (now (a .source)) (now (a .tape)) (a .i) (a .to) (p .1) (p .2) (p .3) (k .result) (k .ensures), rw (c .before .marker-name .ensures) (room-attributes (ids s) (placed s) (content s) (row s) (attributes s) (now (a .list)) (c .before .before .before .before .before .before .before .before .before .before .before .before .before .before .before .before .before .before .counts .result) (room s) (w₁ .last .1 .1 .1 .1 .1 .1 .0) (w₁ .result) (w₁ .ensures) (w₂ .last .1 .1 .1 .1 .1 .1 .1 .1 .1 .0) (w₂ .result) (w₂ .ensures) (w₃ .last .1 .1 .1 .1 .1 .0) (w₃ .result) (w₃ .ensures) (w₄ .last .1 .1 .1 .1 .1 .0) (w₄ .result) (w₄ .ensures)))
+    let a = c .before .before .before .before .before .before .before .before .before .before .before .before .before .before .before .before .before .before .before .before .before .before .before .before .before .before .before .args in
+    let p = c .before .before .before .before .before .before .before .before .before .before .before .before .before .before .before .before .before .before .before .before .before .before .before .before .before .before .before .pre in
+    let k = c .before .before .before .before .before .before .before .before .before .before .before .before .before .before .before .before .before .before .before .before .before .link-at in
+    let w₁ = c .before .before .before .before .before .before .before .before .before .before .before .before .before .before .before .id-findings in
+    let w₂ = c .before .before .before .before .before .before .before .before .before .before .before .place-findings in
+    let w₃ = c .before .before .before .before .before .before .before .content-findings in
+    let w₄ = c .before .before .before .row-findings in
+    let s = c .before .before .before .before .before .before .before .before .before .before .before .before .before .before .before .before .before in
+    (children (now (a .source)) (now (a .tape)) (a .i) (a .to) (p .1) (p .2) (p .3) (k .result) (k .ensures), run-spanned (now (a .source)) (now (a .tape)) (a .i) (a .to) (p .1) (p .2), room-attributes (ids s) (placed s) (content s) (row s) (attributes s) (now (a .list)) (c .before .before .before .before .before .before .before .before .before .before .before .before .before .before .before .before .before .counts .result) (room s) (w₁ .last .1 .1 .1 .1 .1 .1 .0) (w₁ .result) (w₁ .ensures) (w₂ .last .1 .1 .1 .1 .1 .1 .1 .1 .1 .0) (w₂ .result) (w₂ .ensures) (w₃ .last .1 .1 .1 .1 .1 .0) (w₃ .result) (w₃ .ensures) (w₄ .last .1 .1 .1 .1 .1 .0) (w₄ .result) (w₄ .ensures))
 
 with-counts-requires : tie.Need-with-counts-requires
 with-counts-requires c κs = search needs
 
 same-length : tie.Need-same-length
-same-length c = c .before .before .before .validate-attributes .kept .1 .1 .1 .1 .1 .1 .0 ∙ c .before .before .before .before .before .before .before .before .row-findings .kept .1 .1 .1 .1 .1 .0 ∙ c .before .before .before .before .before .before .before .before .before .before .before .before .content-findings .kept .1 .1 .1 .1 .1 .0 ∙ c .before .before .before .before .before .before .before .before .before .before .before .before .before .before .before .before .place-findings .kept .1 .1 .1 .1 .1 .1 .1 .1 .1 .0 ∙ c .before .before .before .before .before .before .before .before .before .before .before .before .before .before .before .before .before .before .before .before .id-findings .kept .1 .1 .1 .1 .1 .1 .0
+same-length c = c .before .before .before .validate-attributes .kept .1 .1 .1 .1 .1 .0 ∙ c .before .before .before .before .before .before .before .row-findings .kept .1 .1 .1 .1 .1 .0 ∙ c .before .before .before .before .before .before .before .before .before .before .before .content-findings .kept .1 .1 .1 .1 .1 .0 ∙ c .before .before .before .before .before .before .before .before .before .before .before .before .before .before .before .place-findings .kept .1 .1 .1 .1 .1 .1 .1 .1 .1 .0 ∙ c .before .before .before .before .before .before .before .before .before .before .before .before .before .before .before .before .before .before .before .id-findings .kept .1 .1 .1 .1 .1 .1 .0
 
 returns : tie.Need-returns
 returns c =
-    let a = c .before .before .before .before .before .before .before .before .before .before .before .before .before .before .before .before .before .before .before .before .before .before .before .before .before .before .before .before .before .before .before .before .args in
-    let n = c .before .before .before .before .before .before .before .before .before .before .before .before .before .before .before .before .before .before .before .before .before .before .before .before .before .before .before .name in
-    let k = c .before .before .before .before .before .before .before .before .before .before .before .before .before .before .before .before .before .before .before .before .before .before .before .before .before .before .link-at in
-    let d = c .before .before .before .before .before .before .before .before .before .before .before .before .before .before .before .before .before .before .before .before .before .before .before .before .same in
-    let f = c .before .before .before .before .before .before .before .before .before .before .before .before .before .before .before .before .before .before .before .before .before .before .before .after-id in
-    let z = c .before .before .before .before .before .before .before .before .before .before .before .before .before .before .before .before .before .before .before .before .before .before .counts in
-    let w₁ = c .before .before .before .before .before .before .before .before .before .before .before .before .before .before .before .before .before .before .before .before .id-findings in
-    let w₂ = c .before .before .before .before .before .before .before .before .before .before .before .before .before .before .before .before .place-findings in
-    let w₃ = c .before .before .before .before .before .before .before .before .before .before .before .before .content-findings in
-    let w₄ = c .before .before .before .before .before .before .before .before .row-findings in
-    let s = c .before .before .before .before .before .before .before .before .before .before .before .before .before .before .before .before .before .before .before .before .before .before in
+    let a = c .before .before .before .before .before .before .before .before .before .before .before .before .before .before .before .before .before .before .before .before .before .before .before .before .before .before .before .before .before .before .before .args in
+    let n = c .before .before .before .before .before .before .before .before .before .before .before .before .before .before .before .before .before .before .before .before .before .before .before .before .before .before .name in
+    let k = c .before .before .before .before .before .before .before .before .before .before .before .before .before .before .before .before .before .before .before .before .before .before .before .before .before .link-at in
+    let d = c .before .before .before .before .before .before .before .before .before .before .before .before .before .before .before .before .before .before .before .before .before .before .before .same in
+    let f = c .before .before .before .before .before .before .before .before .before .before .before .before .before .before .before .before .before .before .before .before .before .before .after-id in
+    let z = c .before .before .before .before .before .before .before .before .before .before .before .before .before .before .before .before .before .before .before .before .before .counts in
+    let w₁ = c .before .before .before .before .before .before .before .before .before .before .before .before .before .before .before .before .before .before .before .id-findings in
+    let w₂ = c .before .before .before .before .before .before .before .before .before .before .before .before .before .before .before .place-findings in
+    let w₃ = c .before .before .before .before .before .before .before .before .before .before .before .content-findings in
+    let w₄ = c .before .before .before .before .before .before .before .row-findings in
+    let s = c .before .before .before .before .before .before .before .before .before .before .before .before .before .before .before .before .before .before .before .before .before in
     let v = c .before .before .before .validate-attributes in
-    let same = ap (λ (q : List ℕ). attributesFindings (a .i) q (forest (now (a .source)) (now (a .tape)) (a .i + 1) (k .result))) (c .before .before .before .before .before .marker-name .ensures) in
-    let all = wrote-all (ids s) (placed s) (content s) (row s) (attributes s) (now (a .list)) (z .result) (room s) (w₁ .last .1 .1 .1 .1 .1 .1 .0) (w₁ .result) (w₁ .ensures) (w₂ .last .1 .1 .1 .1 .1 .1 .1 .1 .1 .0) (w₂ .result) (w₂ .ensures) (w₃ .last .1 .1 .1 .1 .1 .0) (w₃ .result) (w₃ .ensures) (w₄ .last .1 .1 .1 .1 .1 .0) (w₄ .result) (w₄ .ensures) _ (v .result) (rw same at (v .ensures)) in
+    let all = wrote-all (ids s) (placed s) (content s) (row s) (attributes s) (now (a .list)) (z .result) (room s) (w₁ .last .1 .1 .1 .1 .1 .1 .0) (w₁ .result) (w₁ .ensures) (w₂ .last .1 .1 .1 .1 .1 .1 .1 .1 .1 .0) (w₂ .result) (w₂ .ensures) (w₃ .last .1 .1 .1 .1 .1 .0) (w₃ .result) (w₃ .ensures) (w₄ .last .1 .1 .1 .1 .1 .0) (w₄ .result) (w₄ .ensures) _ (v .result) (v .ensures) in
     marked (now (a .table)) (now (a .source)) (now (a .tape)) (a .i) (a .to) (aroundOf (a .around)) (entryOfInfo (a .m)) (a .rec) (now (n .result)) (k .result) (d .result) (f .result) (n .ensures) (k .ensures) (d .ensures) (f .ensures) (now (a .list)) _ (z .result) (v .result) (c .with-counts .result) (z .ensures) (c .with-counts .ensures) all
 
 pub visit-marker-spec : {M : Type 1} → statement M
@@ -169,7 +161,6 @@ visit-marker-spec =
     place-findings-requires
     content-findings-requires
     row-findings-requires
-    marker-name-requires
     validate-attributes-requires
     with-counts-requires
     same-length

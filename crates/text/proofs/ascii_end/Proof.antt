@@ -1,12 +1,11 @@
 -- `text::ascii_end` meets its contract. Both loops have the same invariant: what is passed is ASCII.
 -- Assumes nothing.
 use mathlib.Core.Path.{_≡_, refl}
-use Prim.Native.Nat.{_≤_, _-_}
+use Prim.Native.Nat.{_≤_, _+_, _-_}
 use native.Mathlib.Omega.{arith}
-use native.Mathlib.Nat.{lt-of-le-of-lt}
 use lib.ListN.{length}
 use Rattle.text.specs.Scans.{Ascii}
-use Rattle.text.proofs.Ascii.{none, more, one-more}
+use Rattle.text.proofs.Ascii.{none, one, joined}
 use Rattle.text.proofs.ascii_end.Statement.{statement}
 use Rattle.text.proofs.ascii_end.Tie as tie
 
@@ -28,8 +27,21 @@ loop-holds c = (refl, omega arith, omega arith, none (c .before .args .s .now) _
 sub-loop : tie.Need-sub-loop Inv-loop μ-loop Inv-loop2 μ-loop2
 sub-loop c = omega arith
 
-or32-requires : tie.Need-or32-requires Inv-loop μ-loop Inv-loop2 μ-loop2
-or32-requires c κs = omega arith
+high16-requires : tie.Need-high16-requires Inv-loop μ-loop Inv-loop2 μ-loop2
+high16-requires c κs = omega arith
+
+ascii-of-16-requires : tie.Need-ascii-of-16-requires Inv-loop μ-loop Inv-loop2 μ-loop2
+ascii-of-16-requires c κs = omega arith
+
+add-result : tie.Need-add-result Inv-loop μ-loop Inv-loop2 μ-loop2
+add-result c = omega (arith, c .ascii-of-16 .ensures .0)
+
+returns : tie.Need-returns Inv-loop μ-loop Inv-loop2 μ-loop2
+returns c =
+    let a = c .before .before .before .before .before .before .args in
+    let l = c .before .before .before .before .loop in
+    let e = c .ascii-of-16 .ensures in
+    (omega (arith, l .inv .1), omega (arith, e .0), joined (a .s .now) (a .from) (l .i) _ (l .inv .3) (e .1))
 
 add-i : tie.Need-add-i Inv-loop μ-loop Inv-loop2 μ-loop2
 add-i c = omega arith
@@ -41,7 +53,7 @@ loop-again : tie.Need-loop-again Inv-loop μ-loop Inv-loop2 μ-loop2
 loop-again c =
     let a = c .before .before .before .before .before .args in
     let l = c .before .before .before .loop in
-    (refl, omega arith, omega arith, more (a .s .now) (a .from) (l .i) 32 (l .inv .3) (λ k h. lt-of-le-of-lt (c .before .or32 .ensures k h) (c .if1 .left)))
+    (refl, omega arith, omega arith, joined (a .s .now) (a .from) (l .i) _ (l .inv .3) (c .before .high16 .ensures (c .if1 .left)))
 
 loop2-holds : tie.Need-loop2-holds Inv-loop μ-loop Inv-loop2 μ-loop2
 loop2-holds c = c .before .loop .inv
@@ -59,13 +71,13 @@ loop2-again : tie.Need-loop2-again Inv-loop μ-loop Inv-loop2 μ-loop2
 loop2-again c =
     let a = c .before .before .before .before .before .before .before .args in
     let l = c .before .before .before .loop2 in
-    (refl, omega arith, omega arith, one-more (a .s .now) (a .from) (l .i) (l .inv .3) (c .if2 .left))
-
-returns : tie.Need-returns Inv-loop μ-loop Inv-loop2 μ-loop2
-returns c = (omega arith, omega arith, c .before .loop2 .inv .3)
+    (refl, omega arith, omega arith, joined (a .s .now) (a .from) (l .i) (l .i + 1) (l .inv .3) (one (a .s .now) (l .i) (l .i + 1) (omega arith) (c .if2 .left)))
 
 returns-2 : tie.Need-returns-2 Inv-loop μ-loop Inv-loop2 μ-loop2
-returns-2 c = (omega arith, omega arith, c .before .before .before .loop2 .inv .3)
+returns-2 c = (omega arith, omega arith, c .before .loop2 .inv .3)
+
+returns-3 : tie.Need-returns-3 Inv-loop μ-loop Inv-loop2 μ-loop2
+returns-3 c = (omega arith, omega arith, c .before .before .before .loop2 .inv .3)
 
 pub ascii-end-spec : {M : Type 1} → statement M
 ascii-end-spec =
@@ -77,7 +89,10 @@ ascii-end-spec =
     μ-loop2
     loop-holds
     sub-loop
-    or32-requires
+    high16-requires
+    ascii-of-16-requires
+    add-result
+    returns
     add-i
     loop-less
     loop-again
@@ -86,5 +101,5 @@ ascii-end-spec =
     add-i-2
     loop2-less
     loop2-again
-    returns
-    returns-2)
+    returns-2
+    returns-3)

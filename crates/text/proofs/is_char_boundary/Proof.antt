@@ -9,26 +9,28 @@ use Rattle.text.proofs.is_char_boundary.Statement.{statement}
 use Rattle.text.proofs.is_char_boundary.Tie as tie
 
 returns : tie.Need-returns
-returns c = sym (at-zero (now (c .before .args .s)) (c .before .args .at) (c .if1 .taken))
-
-returns-2 : tie.Need-returns-2
-returns-2 c =
-    let a = c .before .before .args in
-    sym (past-end (now (a .s)) (a .at) (c .before .if1 .left) (c .if2 .taken))
+returns c =
+    let a = c .before .args in
+    sym (past-end (now (a .s)) (a .at) (c .if1 .taken))
 
 shared-slice-read-b : tie.Need-shared-slice-read-b
 shared-slice-read-b c = search needs
 
+returns-2 : tie.Need-returns-2
+returns-2 c =
+    let a = c .before .before .before .args in
+    sym (inside-low (now (a .s)) (a .at) (omega arith) (omega arith))
+
 returns-3 : tie.Need-returns-3
 returns-3 c =
     let a = c .before .before .before .before .args in
-    sym (inside-low (now (a .s)) (a .at) (omega arith) (omega arith))
+    sym (at-zero (now (a .s)) (a .at) (c .if3 .taken))
 
 returns-4 : tie.Need-returns-4
 returns-4 c =
     let a = c .before .before .before .before .args in
-    sym (inside-high (now (a .s)) (a .at) (c .before .before .before .if1 .left) (omega arith) (omega arith))
+    sym (inside-high (now (a .s)) (a .at) (c .if3 .left) (omega arith) (omega arith))
 
 pub is-char-boundary-spec : {M : Type 1} → statement M
 is-char-boundary-spec =
-    tie.close (tie.spec returns returns-2 shared-slice-read-b returns-3 returns-4)
+    tie.close (tie.spec returns shared-slice-read-b returns-2 returns-3 returns-4)

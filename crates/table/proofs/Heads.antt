@@ -1,0 +1,176 @@
+-- The line at the head of a text, by the tests that the code makes in one pass.
+-- Assumes nothing.
+use mathlib.Core.Path.{_≡_, refl, sym, ap, _∙_}
+use mathlib.Core.Bool.{Bool, true, false, not, false≢true}
+use mathlib.Core.List.{List, [], _∷_, _++_}
+use mathlib.Core.Option.{Option, some, none}
+use Prim.Native.Nat.{ℕ, suc, _+_, _<_, _≤_}
+use native.Mathlib.Nat.{add-zero, zero-add}
+use native.Mathlib.Omega.{arith}
+use lib.Dec.{eqb, leb, ltb, leb·suc-suc}
+use lib.ListN.{length, getD, take, drop, List·getD-eq-default}
+use lib.Seq.{length-take-le}
+use borrow.Author.Tests.{lt-ltb, le-leb, lt-leb, eq-eqb, ne-eqb, eqb-true, eqb-false, not-true}
+use Rattle.text.specs.Pick.{both, within, pickOption}
+use Rattle.text.specs.Characters.{findByte}
+use Rattle.text.proofs.Chars.{byte-le}
+use Rattle.text.proofs.Rows.{both-false, both-left, both-right}
+use Rattle.table.specs.declared.Step.the-variants as step
+use Rattle.table.specs.Bytes.{equal, all, starting}
+use Rattle.table.specs.Lines.{nameByte}
+use Rattle.table.specs.Books.{codeFrom}
+use Rattle.table.specs.Inner.{nameOf, keyed, stepBy, stepWith, behindKey}
+use Rattle.table.proofs.Parts.{width}
+use Rattle.table.proofs.Words.{equal-true}
+
+step-none : (t : Bool) (next : ℕ) → stepBy t none next ≡ step.Bad
+step-none true next = refl
+step-none false next = refl
+
+-- the line is as long as what fills it
+filled : (l s : List ℕ) → s ≡ take (width l) l → width l ≡ length s
+filled l s e = sym (ap length e ∙ length-take-le (width l) l (byte-le (eqb 10) l))
+
+-- no byte 10 is in the list
+abbrev pub plain : List ℕ → Bool
+plain s = all (λ (b : ℕ). not (eqb 10 b)) s
+
+module _ (x : ℕ) (s : List ℕ) (h : plain (x ∷ s) ≡ true) where
+  plain-rest : plain s ≡ true
+  unfolding all
+  plain-rest = both-right (not (eqb 10 x)) (plain s) h
+
+  other-byte : (b : ℕ) → eqb 10 b ≡ true → eqb x b ≡ false
+  unfolding all
+  other-byte b e = ne-eqb x b (λ f. eqb-false 10 x (not-true (eqb 10 x) (both-left (not (eqb 10 x)) (plain s) h)) (eqb-true 10 b e ∙ sym f))
+
+-- a key is passed: the line's end and what stands in it lie behind the key
+abbrev KeyPassed : List ℕ → (List ℕ → Option ℕ) → ℕ → List ℕ → Type 0
+KeyPassed key value at l = stepWith (keyed key value) at l ≡ stepWith value (at + length key) (behindKey key l)
+
+key-passed : (key : List ℕ) (value : List ℕ → Option ℕ) (at : ℕ) (l : List ℕ) → plain key ≡ true → KeyPassed key value at l
+unfolding findByte equal
+key-passed [] value at l h = rw add-zero
+key-passed (x ∷ key) value at [] h = refl
+key-passed (x ∷ key) value at (b ∷ l) h = go (eqb 10 b) (eqb x b) refl refl (key-passed key value (suc at) l (plain-rest x key h))
+  where
+    go : (t u : Bool) → eqb 10 b ≡ t → eqb x b ≡ u → KeyPassed key value (suc at) l → KeyPassed (x ∷ key) value at (b ∷ l)
+    go true u e f ih = rw (e, other-byte x key h b e) (step-none (ltb 0 (suc (length l))) (at + 0 + 1))
+    go false true e f ih =
+        let n : at + suc (width l) + 1 ≡ suc at + width l + 1 = omega arith in
+        let m : at + suc (length key) ≡ suc at + length key = omega arith in
+        rw (e, f, leb·suc-suc (suc (width l)) (length l), n, m) ih
+    go false false e f ih = rw (e, f) (step-none (ltb (suc (width l)) (suc (length l))) (at + suc (width l) + 1))
+
+pub key-step : (key : List ℕ) (value : List ℕ → Option ℕ) (l m : List ℕ) → plain key ≡ true → m ≡ behindKey key l → stepWith value (length key) m ≡ stepWith (keyed key value) 0 l
+key-step key value l m h e = sym (key-passed key value 0 l h ∙ rw (zero-add (length key), e))
+
+-- a word fills a line exactly if it stands there with a byte 10 behind it
+abbrev WordFills : List ℕ → List ℕ → Type 0
+WordFills w l = both (ltb (width l) (length l)) (equal w (take (width l) l)) ≡ starting (w ++ (10 ∷ [])) l
+
+word-fills : (w l : List ℕ) → plain w ≡ true → WordFills w l
+unfolding findByte equal
+word-fills [] [] h = refl
+word-fills [] (b ∷ l) h = go (eqb 10 b) refl
+  where
+    go : (t : Bool) → eqb 10 b ≡ t → WordFills [] (b ∷ l)
+    go true e = rw (e, lt-ltb 0 (suc (length l)) (omega arith))
+    go false e = rw e (both-false (ltb (suc (width l)) (suc (length l))))
+word-fills (x ∷ w) [] h = refl
+word-fills (x ∷ w) (b ∷ l) h = go (eqb 10 b) (eqb x b) refl refl (word-fills w l (plain-rest x w h))
+  where
+    go : (t u : Bool) → eqb 10 b ≡ t → eqb x b ≡ u → WordFills w l → WordFills (x ∷ w) (b ∷ l)
+    go true u e f ih = rw (e, other-byte x w h b e) (both-false (ltb 0 (suc (length l))))
+    go false true e f ih = rw (e, f, leb·suc-suc (suc (width l)) (length l)) ih
+    go false false e f ih = rw (e, f) (both-false (ltb (suc (width l)) (suc (length l))))
+
+-- at a word that does not fill the line, at one that does, and behind the last
+module _ (n k : ℕ) (w : List ℕ) (ws : List (List ℕ)) (l : List ℕ) (h : plain w ≡ true) where
+  pub word-past : starting (w ++ (10 ∷ [])) l ≡ false → stepWith (codeFrom k (w ∷ ws)) n l ≡ stepWith (codeFrom (suc k) ws) n l
+  unfolding codeFrom
+  word-past e = go (ltb (width l) (length l)) (equal w (take (width l) l)) (word-fills w l h ∙ e)
+    where
+      go : (t u : Bool) → both t u ≡ false → stepBy t (pickOption u (some k) (codeFrom (suc k) ws (take (width l) l))) (n + width l + 1) ≡ stepBy t (codeFrom (suc k) ws (take (width l) l)) (n + width l + 1)
+      go true true f = absurd (false≢true (sym f))
+      go true false f = refl
+      go false u f = refl
+
+  pub word-there : starting (w ++ (10 ∷ [])) l ≡ true → stepWith (codeFrom k (w ∷ ws)) n l ≡ step.Good k (n + length w + 1)
+  unfolding codeFrom
+  word-there e =
+      let f = word-fills w l h ∙ e in
+      let ends = both-left (ltb (width l) (length l)) (equal w (take (width l) l)) f in
+      let same = both-right (ltb (width l) (length l)) (equal w (take (width l) l)) f in
+      rw (ends, same, filled l w (equal-true w (take (width l) l) same))
+
+pub words-out : (n k : ℕ) (l : List ℕ) → stepWith (codeFrom k []) n l ≡ step.Bad
+unfolding codeFrom
+words-out n k l = step-none (ltb (width l) (length l)) (n + width l + 1)
+
+-- what the words from number k on give is what all of them give
+abbrev pub Left : List (List ℕ) → ℕ → ℕ → List ℕ → Type 0
+Left ws n k l = stepWith (codeFrom 0 ws) n l ≡ stepWith (codeFrom k (drop k ws)) n l
+
+-- the bytes that end a name
+abbrev pub unnamed : ℕ → Bool
+unnamed b = not (nameByte b)
+
+-- name bytes fill a line exactly if byte 10 stands behind those at its head, and the line is then as long as they are
+abbrev NameFills : List ℕ → Type 0
+NameFills l = (both (ltb (width l) (length l)) (all nameByte (take (width l) l)) ≡ eqb (getD l (findByte unnamed l) 0) 10) × (eqb (getD l (findByte unnamed l) 0) 10 ≡ true → width l ≡ findByte unnamed l)
+
+name-fills : (l : List ℕ) → NameFills l
+unfolding findByte all
+name-fills [] = (refl, λ e. refl)
+name-fills (b ∷ l) = go (eqb 10 b) (nameByte b) refl refl (name-fills l)
+  where
+    go : (t u : Bool) → eqb 10 b ≡ t → nameByte b ≡ u → NameFills l → NameFills (b ∷ l)
+    go true true e f ih = absurd (false≢true (rw (← eqb-true 10 b e) at f))
+    go true false e f ih = rw (e, f, lt-ltb 0 (suc (length l)) (omega arith)) (sym (eq-eqb b 10 (sym (eqb-true 10 b e))), λ g. refl)
+    go false true e f ih = rw (e, f, leb·suc-suc (suc (width l)) (length l)) (ih .0, λ g. ap suc (ih .1 g))
+    go false false e f ih =
+        let n : eqb b 10 ≡ false = ne-eqb b 10 (λ g. eqb-false 10 b e (sym g)) in
+        rw (e, f, n) (both-false (ltb (suc (width l)) (suc (length l))), λ g. absurd (false≢true g))
+
+-- the tests of a text whose first r bytes, and no more of them, are name bytes
+module _ (l : List ℕ) (r : ℕ) (is : r ≡ findByte unnamed l) where
+  name-not : eqb (getD l r 0) 10 ≡ false → step.Bad ≡ stepWith nameOf 5 l
+  name-not e = go (ltb (width l) (length l)) (within 1 16 (length (take (width l) l))) (all nameByte (take (width l) l)) (name-fills l .0 ∙ rw is at e)
+    where
+      go : (t u v : Bool) → both t v ≡ false → step.Bad ≡ stepBy t (pickOption (both u v) (some (length (take (width l) l))) none) (5 + width l + 1)
+      go true true true f = absurd (false≢true (sym f))
+      go true false v f = refl
+      go true true false f = refl
+      go false u v f = refl
+
+  pub name-open : r ≡ length l → step.Bad ≡ stepWith nameOf 5 l
+  name-open h = let z : length l ≤ r = omega arith in name-not (rw (List·getD-eq-default l 0 z))
+
+  pub name-other : (getD l r 0 ≡ 10 → ⊥) → step.Bad ≡ stepWith nameOf 5 l
+  name-other h = name-not (ne-eqb (getD l r 0) 10 h)
+
+  module _ (h : getD l r 0 ≡ 10) where
+    name-there : (t : Bool) → within 1 16 r ≡ t → stepBy true (pickOption t (some r) none) (r + 6) ≡ stepWith nameOf 5 l
+    name-there t e =
+        let f : eqb (getD l (findByte unnamed l) 0) 10 ≡ true = rw is at (eq-eqb (getD l r 0) 10 h) in
+        let g = name-fills l .0 ∙ f in
+        let ends = both-left (ltb (width l) (length l)) (all nameByte (take (width l) l)) g in
+        let named = both-right (ltb (width l) (length l)) (all nameByte (take (width l) l)) g in
+        let wide : width l ≡ r = name-fills l .1 f ∙ sym is in
+        let size : length (take (width l) l) ≡ r = sym (filled l (take (width l) l) refl) ∙ wide in
+        let next : 5 + r + 1 ≡ r + 6 = omega arith in
+        rw (ends, named, size, wide, next, e) (go t)
+      where
+        go : (t : Bool) → stepBy true (pickOption t (some r) none) (r + 6) ≡ stepBy true (pickOption (both t true) (some r) none) (r + 6)
+        go true = refl
+        go false = refl
+
+    pub name-good : 1 ≤ r → r < 17 → step.Good r (r + 6) ≡ stepWith nameOf 5 l
+    name-good a b = name-there true (rw (le-leb 1 r a, le-leb r 16 (omega arith)))
+
+    pub name-empty : r < 1 → step.Bad ≡ stepWith nameOf 5 l
+    name-empty a = name-there false (rw (lt-leb 1 r a))
+
+    pub name-long : 17 ≤ r → step.Bad ≡ stepWith nameOf 5 l
+    name-long a = name-there false (rw (lt-leb r 16 (omega arith)) (both-false (leb 1 r)))
