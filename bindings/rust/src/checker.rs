@@ -1,0 +1,188 @@
+//! The check with lists that are kept from one document to the next.
+
+use crate::document::{Table, Tape};
+use crate::raw::{self, FINDING_WORDS};
+use crate::refusal::Refusal;
+use crate::report::{Counts, Report};
+use crate::texts::{self, Room, Texts, lengthen};
+
+/// The most nodes that number 4 lets pass.
+const MOST_NODES: usize = 65_535;
+
+// Where the spans of 65,535 nodes don't overlap in a source of 1,048,576 bytes, both limits are out of reach: a node has at
+// most five findings, an attribute besides one for each two bytes; a text has at most 90 bytes of its own, and shows no part
+// of the source more than four times.
+const MAX_FINDINGS: usize = 1 << 20;
+const MAX_TEXT: usize = 1 << 26;
+
+/// The bytes of a document.
+#[derive(Clone, Copy)]
+struct Lent<'a> {
+    table: &'a [u8],
+    source: &'a [u8],
+    tape: &'a [u8],
+}
+
+/// Checks documents one after another and keeps its lists between them.
+///
+/// ```
+/// use harkoxin::{Checker, Node, NodeKind, Table, Tape};
+///
+/// let table = Table::from("name=v\ncategory=verse\nrole=content\n");
+/// let nodes = [
+///     Node::new(NodeKind::Root, 0, 0, 0, 2),
+///     Node::new(NodeKind::Verse, 0, 0, 4, 0),
+/// ];
+/// let mut checker = Checker::new();
+/// for (source, found) in [("\\v 1", 3), ("\\v 2", 4)] {
+///     let report = checker.check(&table, source, &Tape::from_nodes(&nodes))?;
+///     assert_eq!(report.findings().len(), found);
+/// }
+/// # Ok::<(), harkoxin::Refusal>(())
+/// ```
+#[derive(Clone, Debug)]
+pub struct Checker {
+    seen: Vec<u32>,
+    opens: Vec<u64>,
+    list: Vec<u64>,
+    room: Room,
+    max_findings: usize,
+    max_text: usize,
+}
+
+impl Default for Checker {
+    fn default() -> Self {
+        Checker {
+            seen: Vec::new(),
+            opens: Vec::new(),
+            list: Vec::new(),
+            room: Room::default(),
+            max_findings: MAX_FINDINGS,
+            max_text: MAX_TEXT,
+        }
+    }
+}
+
+impl Checker {
+    /// A checker that has no lists yet.
+    pub fn new() -> Self {
+        Checker::default()
+    }
+
+    /// Lets a report hold fewer findings than the 1,048,576 that it holds otherwise. A document whose spans don't overlap never
+    /// has as many.
+    #[must_use]
+    pub fn max_findings(mut self, findings: usize) -> Self {
+        self.max_findings = findings.min(MAX_FINDINGS);
+        self.list.clear();
+        self
+    }
+
+    /// Lets the texts of a report take fewer bytes than the 67,108,864 that they take otherwise at most. A finding whose text has
+    /// no room is left out of the report, with all behind it. The texts of a document whose spans don't overlap never take as
+    /// many.
+    #[must_use]
+    pub fn max_text(mut self, bytes: usize) -> Self {
+        self.max_text = bytes.min(MAX_TEXT);
+        self
+    }
+
+    /// Checks a document.
+    ///
+    /// # Errors
+    ///
+    /// The numbers 1 to 9. The library is proved to give no finding without a text; if it did, its number 12 would be handed
+    /// on, and its number 11 for a finding of an unknown severity or code.
+    pub fn check(
+        &mut self,
+        table: &Table<'_>,
+        source: &str,
+        tape: &Tape<'_>,
+    ) -> Result<Report, Refusal> {
+        self.check_bytes(table, source.as_bytes(), tape)
+    }
+
+    /// Checks a document whose source may not be UTF-8, which number 3 turns back.
+    ///
+    /// # Errors
+    ///
+    /// As [`check`](Checker::check).
+    pub fn check_bytes(
+        &mut self,
+        table: &Table<'_>,
+        source: &[u8],
+        tape: &Tape<'_>,
+    ) -> Result<Report, Refusal> {
+        let lent = Lent {
+            table: table.as_bytes(),
+            source,
+            tape: tape.as_bytes(),
+        };
+        let (counts, written) = self.find(lent, tape.len())?;
+        let texts = self.tell(lent, written)?;
+        Report::new(counts, &self.list, texts)
+    }
+
+    /// Has the findings written: by one call, or by a second where there are more than nodes. The counts, and how many findings
+    /// the list holds.
+    fn find(&mut self, lent: Lent<'_>, nodes: usize) -> Result<(Counts, u64), Refusal> {
+        // A longer tape is turned back by number 4 before the working lists are looked at.
+        let nodes = nodes.min(MOST_NODES);
+        lengthen(&mut self.seen, nodes);
+        lengthen(&mut self.opens, 2 * nodes);
+        let first = nodes.min(self.max_findings);
+        lengthen(&mut self.list, FINDING_WORDS * first);
+        let (counts, written) = self.run(lent)?;
+        let wanted = counts.total.min(self.max_findings as u64);
+        if wanted <= written {
+            return Ok((counts, written));
+        }
+        lengthen(&mut self.list, FINDING_WORDS * wanted as usize);
+        self.run(lent)
+    }
+
+    fn run(&mut self, lent: Lent<'_>) -> Result<(Counts, u64), Refusal> {
+        let mut out = [0; raw::CHECK_WORDS];
+        raw::check(
+            lent.table,
+            lent.source,
+            lent.tape,
+            &mut self.seen,
+            &mut self.opens,
+            &mut self.list,
+            &mut out,
+        );
+        let [verdict, number, place, total, written, rest @ ..] = out;
+        if verdict == raw::REFUSED {
+            return Err(Refusal { number, place });
+        }
+        let [verses, errors, warnings, infos] = rest;
+        let counts = Counts {
+            total,
+            verses,
+            errors,
+            warnings,
+            infos,
+        };
+        Ok((counts, written))
+    }
+
+    /// The texts of the first findings of the list, so many of them.
+    fn tell(&mut self, lent: Lent<'_>, written: u64) -> Result<Texts, Refusal> {
+        let words = FINDING_WORDS.saturating_mul(written as usize);
+        let list = self.list.get(..words).unwrap_or_default();
+        texts::gather(list, &mut self.room, self.max_text, |list, ends, text| {
+            let mut out = [0; raw::MESSAGES_WORDS];
+            raw::messages(
+                lent.table,
+                lent.source,
+                lent.tape,
+                list,
+                ends,
+                text,
+                &mut out,
+            );
+            out
+        })
+    }
+}

@@ -1,0 +1,261 @@
+//! The library's functions over plain slices, which a caller lends.
+//!
+//! Each lays its answer over `out`, as far as that has room, and says a refusal by its number and its place. None asks
+//! anything of its caller: lists may be of any length and hold anything. A list of findings has [`FINDING_WORDS`] words for
+//! each: severity, code, start, len, node, form, and two numbers.
+//!
+//! ```
+//! use harkoxin::raw;
+//!
+//! let mut out = [0; raw::CHECK_WORDS];
+//! raw::check(b"", b"", b"", &mut [], &mut [], &mut [], &mut out);
+//! assert_eq!(out, [raw::REFUSED, 4, 0, 0, 0, 0, 0, 0, 0]);
+//! ```
+
+// All `unsafe` code of the crate is here: the calls, and nodes as bytes.
+
+use crate::node::Node;
+
+/// Words of a finding in a list.
+pub const FINDING_WORDS: usize = 8;
+
+/// Words of the answer of [`check`].
+pub const CHECK_WORDS: usize = 9;
+
+/// Words of the answer of [`message`].
+pub const MESSAGE_WORDS: usize = 4;
+
+/// Words of the answer of [`messages`].
+pub const MESSAGES_WORDS: usize = 5;
+
+/// Words of the answer of [`tally`].
+pub const TALLY_WORDS: usize = 3;
+
+/// A verdict: all that was asked for is done.
+pub const DONE: u64 = 0;
+
+/// A verdict: the findings list of [`check`] is cut, or [`messages`] stopped before a text.
+pub const CUT: u64 = 1;
+
+/// A verdict: turned back.
+pub const REFUSED: u64 = 2;
+
+mod library {
+    unsafe extern "C" {
+        pub fn harkoxin_check(
+            table: *const u8,
+            table_len: usize,
+            source: *const u8,
+            source_len: usize,
+            tape: *const u8,
+            tape_len: usize,
+            seen: *mut u32,
+            seen_len: usize,
+            opens: *mut u64,
+            opens_len: usize,
+            list: *mut u64,
+            list_len: usize,
+            out: *mut u64,
+            out_len: usize,
+        );
+        pub fn harkoxin_message(
+            table: *const u8,
+            table_len: usize,
+            source: *const u8,
+            source_len: usize,
+            tape: *const u8,
+            tape_len: usize,
+            code: u64,
+            form: u64,
+            node: u64,
+            first: u64,
+            second: u64,
+            text: *mut u8,
+            text_len: usize,
+            out: *mut u64,
+            out_len: usize,
+        );
+        pub fn harkoxin_messages(
+            table: *const u8,
+            table_len: usize,
+            source: *const u8,
+            source_len: usize,
+            tape: *const u8,
+            tape_len: usize,
+            list: *const u64,
+            list_len: usize,
+            ends: *mut u64,
+            ends_len: usize,
+            text: *mut u8,
+            text_len: usize,
+            out: *mut u64,
+            out_len: usize,
+        );
+        pub fn harkoxin_tally(
+            list: *const u64,
+            list_len: usize,
+            counts: *mut u64,
+            counts_len: usize,
+            out: *mut u64,
+            out_len: usize,
+        );
+    }
+}
+
+/// Checks a document: its findings are laid over `list`, as far as that has room.
+///
+/// The working lists `seen` and `opens` need an entry for each node, and an entry of `opens` is two words; what they hold
+/// doesn't matter. After a checked document the entries of the nodes are zero, and the rest of each list is as it was. A
+/// refusal changes no list.
+///
+/// `out`: verdict ([`DONE`], [`CUT`] or [`REFUSED`]), number, place, total, written, verses, errors, warnings, infos.
+pub fn check(
+    table: &[u8],
+    source: &[u8],
+    tape: &[u8],
+    seen: &mut [u32],
+    opens: &mut [u64],
+    list: &mut [u64],
+    out: &mut [u64],
+) {
+    // SAFETY: each pointer comes with the length of its own slice, and no slice that is written overlaps another, since it
+    // is borrowed mutably. The function is proved to ask for nothing else and to keep no pointer.
+    unsafe {
+        library::harkoxin_check(
+            table.as_ptr(),
+            table.len(),
+            source.as_ptr(),
+            source.len(),
+            tape.as_ptr(),
+            tape.len(),
+            seen.as_mut_ptr(),
+            seen.len(),
+            opens.as_mut_ptr(),
+            opens.len(),
+            list.as_mut_ptr(),
+            list.len(),
+            out.as_mut_ptr(),
+            out.len(),
+        );
+    }
+}
+
+/// Of a finding's words, those that its text is asked for with.
+#[derive(Clone, Copy, PartialEq, Eq, Debug, Default)]
+pub struct Asked {
+    /// The code's number.
+    pub code: u64,
+    /// Which of the code's texts.
+    pub form: u64,
+    /// The node that the finding is about.
+    pub node: u64,
+    /// The first number.
+    pub first: u64,
+    /// The second number.
+    pub second: u64,
+}
+
+impl From<&[u64; FINDING_WORDS]> for Asked {
+    fn from(&[_, code, _, _, node, form, first, second]: &[u64; FINDING_WORDS]) -> Self {
+        Asked {
+            code,
+            form,
+            node,
+            first,
+            second,
+        }
+    }
+}
+
+/// Lays the text of one finding over `text`.
+///
+/// `out`: verdict ([`DONE`] or [`REFUSED`]), number, place, the text's length.
+pub fn message(
+    table: &[u8],
+    source: &[u8],
+    tape: &[u8],
+    asked: Asked,
+    text: &mut [u8],
+    out: &mut [u64],
+) {
+    // SAFETY: as in `check`.
+    unsafe {
+        library::harkoxin_message(
+            table.as_ptr(),
+            table.len(),
+            source.as_ptr(),
+            source.len(),
+            tape.as_ptr(),
+            tape.len(),
+            asked.code,
+            asked.form,
+            asked.node,
+            asked.first,
+            asked.second,
+            text.as_mut_ptr(),
+            text.len(),
+            out.as_mut_ptr(),
+            out.len(),
+        );
+    }
+}
+
+/// Lays the texts of a list's findings over `text`, one behind another, up to the first that has none or no room; `ends` says
+/// where each ends, as far as it has room. A rest of fewer than [`FINDING_WORDS`] words isn't looked at. It reads the document
+/// once, where [`message`] reads it for each text.
+///
+/// `out`: verdict ([`DONE`], [`CUT`] or [`REFUSED`]), number, place, texts told, bytes that they take. Where it is cut, number
+/// and place are those of the next text: 12, or 13 with its length.
+pub fn messages(
+    table: &[u8],
+    source: &[u8],
+    tape: &[u8],
+    list: &[u64],
+    ends: &mut [u64],
+    text: &mut [u8],
+    out: &mut [u64],
+) {
+    // SAFETY: as in `check`.
+    unsafe {
+        library::harkoxin_messages(
+            table.as_ptr(),
+            table.len(),
+            source.as_ptr(),
+            source.len(),
+            tape.as_ptr(),
+            tape.len(),
+            list.as_ptr(),
+            list.len(),
+            ends.as_mut_ptr(),
+            ends.len(),
+            text.as_mut_ptr(),
+            text.len(),
+            out.as_mut_ptr(),
+            out.len(),
+        );
+    }
+}
+
+/// Counts the findings of a list by code; the counts are laid over `counts`, as far as that has room.
+///
+/// `out`: verdict ([`DONE`] or [`REFUSED`]), number, place.
+pub fn tally(list: &[u64], counts: &mut [u64], out: &mut [u64]) {
+    // SAFETY: as in `check`.
+    unsafe {
+        library::harkoxin_tally(
+            list.as_ptr(),
+            list.len(),
+            counts.as_mut_ptr(),
+            counts.len(),
+            out.as_mut_ptr(),
+            out.len(),
+        );
+    }
+}
+
+/// The bytes of nodes in memory.
+pub(crate) fn node_bytes(nodes: &[Node]) -> &[u8] {
+    // SAFETY: a node is 16 bytes without padding, as asserted beside it, so that each byte has a value; bytes need no
+    // alignment, and what is handed back borrows the nodes.
+    unsafe { std::slice::from_raw_parts(nodes.as_ptr().cast::<u8>(), size_of_val(nodes)) }
+}

@@ -1,0 +1,76 @@
+//! The repository's examples, whose listings come from the published `validate`.
+
+use std::fmt::Write;
+
+use harkoxin::{Finding, Report};
+
+use crate::common::{Document, example_listing, example_names};
+
+const LARGEST_FILE: usize = 65_536;
+const MOST_FINDINGS: usize = 1_024;
+const LONGEST_MESSAGE: usize = 65_536;
+
+fn finding_lines(out: &mut String, source: &[u8], finding: Finding<'_>) {
+    let before = &source[..finding.span().start];
+    let line = 1 + before.iter().filter(|&&byte| byte == b'\n').count();
+    let newline = before.iter().rposition(|&byte| byte == b'\n');
+    let column = before.len() - newline.map_or(0, |at| at + 1) + 1;
+    let message = match finding.message() {
+        text if text.len() <= LONGEST_MESSAGE => text,
+        _ => "",
+    };
+    let (severity, code) = (finding.severity(), finding.code());
+    writeln!(
+        out,
+        "severity={severity}\ncode={code}\nline={line}\ncolumn={column}\nmessage={message}"
+    )
+    .unwrap();
+}
+
+fn report_lines(source: &[u8], report: &Report) -> String {
+    let mut out = format!(
+        "verdict=checked\nerrors={}\nwarnings={}\ninfos={}\nfindings={}\n",
+        report.errors(),
+        report.warnings(),
+        report.infos(),
+        report.total()
+    );
+    for finding in report.findings().take(MOST_FINDINGS) {
+        finding_lines(&mut out, source, finding);
+    }
+    out
+}
+
+/// What check-exercise prints for a document, made with the binding.
+fn listing(document: &Document) -> String {
+    let files = [&document.table, &document.source, &document.tape];
+    if files.iter().any(|file| file.len() > LARGEST_FILE) {
+        return "verdict=toolarge\n".to_string();
+    }
+    match document.check() {
+        Ok(report) => report_lines(&document.source, &report),
+        Err(refusal) => format!(
+            "verdict=refused\nrefusal={}\nplace={}\n",
+            refusal.number, refusal.place
+        ),
+    }
+}
+
+#[test]
+fn every_example_has_its_listing() {
+    for name in example_names() {
+        let printed = listing(&Document::example(&name));
+        assert_eq!(printed, example_listing(&name), "{name}");
+    }
+}
+
+#[test]
+fn what_the_listing_leaves_out_is_there() {
+    let long = Document::example("long-message").check().unwrap();
+    let code = "x".repeat(65_530);
+    let text = format!("\"{code}\" is not a valid USFM book code");
+    assert_eq!(long.get(0).unwrap().message(), text);
+    assert_eq!(Document::example("too-large").check().unwrap().total(), 1);
+    let many = Document::example("many").check().unwrap();
+    assert_eq!(many.findings().len(), 1_033);
+}

@@ -1,0 +1,10 @@
+//! The binding with the library behind it.
+
+mod common;
+mod documents;
+mod folders;
+mod garbage;
+mod limits;
+mod nodes;
+mod raw;
+mod refusals;

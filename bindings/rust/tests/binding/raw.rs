@@ -1,0 +1,271 @@
+//! The functions over plain slices: every word that they leave alone, and lists of any length.
+
+use harkoxin::Code;
+use harkoxin::raw::{self, Asked, CUT, DONE, FINDING_WORDS, REFUSED};
+
+use crate::common::{Document, Lists, example_names};
+
+/// A word that no answer holds.
+const ANY: u64 = 0xA5A5_A5A5_A5A5_A5A5;
+
+/// The one finding of the listing's document, whose text has 28 bytes.
+const FINDING: [u64; FINDING_WORDS] = [1, 11, 16, 5, 6, 0, 1, 0];
+
+/// Lists of these lengths.
+fn lists(seen: usize, opens: usize, list: usize, out: usize) -> Lists {
+    Lists {
+        seen: vec![7; seen],
+        opens: vec![7; opens],
+        list: vec![ANY; list],
+        out: vec![ANY; out],
+    }
+}
+
+/// The findings of a document, as words.
+fn findings(document: &Document) -> Vec<u64> {
+    let n = document.node_count();
+    let mut lent = lists(n, 2 * n, 20_000, raw::CHECK_WORDS);
+    document.raw_check(&mut lent);
+    assert_eq!(lent.out[0], DONE);
+    lent.list.truncate(FINDING_WORDS * lent.out[4] as usize);
+    lent.list
+}
+
+/// The text of each finding, asked for by itself.
+fn texts(document: &Document, list: &[u64]) -> Vec<Vec<u8>> {
+    let one = |words: &[u64; FINDING_WORDS]| {
+        let mut text = vec![b'#'; 70_000];
+        let mut out = [ANY; raw::MESSAGE_WORDS];
+        document.raw_message(Asked::from(words), &mut text, &mut out);
+        assert_eq!(out[..3], [DONE, 0, 0]);
+        text.truncate(out[3] as usize);
+        text
+    };
+    list.as_chunks().0.iter().map(one).collect()
+}
+
+#[test]
+fn a_list_is_cut_where_it_ends() {
+    let document = Document::example("telling");
+    let n = document.node_count();
+    let whole = findings(&document);
+    for room in [0, 7, 8, 100, 239, 240, 250] {
+        let mut lent = lists(n + 3, 2 * n + 3, room, raw::CHECK_WORDS + 2);
+        document.raw_check(&mut lent);
+        let written = (room / 8).min(30);
+        let verdict = if written < 30 { CUT } else { DONE };
+        let answer = [verdict, 0, 0, 30, written as u64, 3, 19, 10, 1, ANY, ANY];
+        assert_eq!(lent.out, answer, "room for {room} words");
+        let (held, rest) = lent.list.split_at(8 * written);
+        assert_eq!(held, &whole[..8 * written]);
+        assert!(rest.iter().all(|&word| word == ANY));
+        assert_eq!(lent.seen, [vec![0; n], vec![7; 3]].concat());
+        assert_eq!(lent.opens, [vec![0; 2 * n], vec![7; 3]].concat());
+    }
+}
+
+#[test]
+fn working_lists_that_are_too_short() {
+    let document = Document::listing();
+    for (seen, opens) in [(8, 18), (9, 17), (0, 0)] {
+        let mut lent = lists(seen, opens, 8, raw::CHECK_WORDS);
+        let mut expected = lent.clone();
+        expected.out = vec![REFUSED, 10, 9, 0, 0, 0, 0, 0, 0];
+        document.raw_check(&mut lent);
+        assert_eq!(lent, expected);
+    }
+    let mut lent = lists(9, 18, 8, raw::CHECK_WORDS);
+    document.raw_check(&mut lent);
+    assert_eq!((lent.out[0], lent.list), (DONE, FINDING.to_vec()));
+}
+
+#[test]
+fn answers_are_laid_as_far_as_there_is_room() {
+    let document = Document::listing();
+    let whole = [DONE, 0, 0, 1, 1, 1, 0, 1, 0];
+    for room in 0..=raw::CHECK_WORDS {
+        let mut lent = lists(9, 18, 8, room);
+        document.raw_check(&mut lent);
+        assert_eq!(lent.out, whole[..room]);
+        assert_eq!(lent.list, FINDING);
+    }
+    let Document {
+        table,
+        source,
+        tape,
+    } = &document;
+    for room in 0..=raw::MESSAGE_WORDS {
+        let (mut text, mut out) = ([0; 28], vec![ANY; room]);
+        document.raw_message(Asked::from(&FINDING), &mut text, &mut out);
+        assert_eq!(out, [DONE, 0, 0, 28][..room]);
+        assert_eq!(&text, b"expected verse 1 but found 2");
+    }
+    for room in 0..=raw::MESSAGES_WORDS {
+        let (mut ends, mut text, mut out) = ([0; 1], [0; 28], vec![ANY; room]);
+        raw::messages(
+            table, source, tape, &FINDING, &mut ends, &mut text, &mut out,
+        );
+        assert_eq!(out, [DONE, 0, 0, 1, 28][..room]);
+        assert_eq!(&text, b"expected verse 1 but found 2");
+    }
+}
+
+#[test]
+fn texts_together_are_the_texts_by_themselves() {
+    let mut told = 0;
+    for name in example_names() {
+        let document = Document::example(&name);
+        if document.check().is_err() {
+            continue;
+        }
+        let list = findings(&document);
+        let alone = texts(&document, &list);
+        let mut ends = vec![ANY; alone.len()];
+        let mut text = vec![b'#'; 200_000];
+        let answer = document.raw_messages(&list, &mut ends, &mut text);
+        let used = alone.concat().len();
+        assert_eq!(answer, [DONE, 0, 0, alone.len() as u64, used as u64]);
+        let mut start = 0;
+        for (alone, &end) in alone.iter().zip(&ends) {
+            assert_eq!(&text[start..end as usize], alone, "{name}");
+            start = end as usize;
+        }
+        assert!(text[used..].iter().all(|&byte| byte == b'#'));
+        told += alone.len();
+    }
+    assert!(told > 1_000);
+}
+
+#[test]
+fn texts_stop_where_the_room_ends() {
+    let document = Document::example("telling");
+    let list = findings(&document);
+    let alone = texts(&document, &list);
+    let all: Vec<u8> = alone.concat();
+    for room in 0..all.len() {
+        let (mut ends, mut text) = ([ANY; 30], vec![b'#'; room]);
+        let answer = document.raw_messages(&list, &mut ends, &mut text);
+        let told = ends.iter().take_while(|&&end| end != ANY).count();
+        let used = alone[..told].concat().len();
+        let next = alone[told].len();
+        assert_eq!(answer, [CUT, 13, next as u64, told as u64, used as u64]);
+        assert!(used <= room && room < used + next);
+        assert_eq!(text[..used], all[..used]);
+        assert!(text[used..].iter().all(|&byte| byte == b'#'));
+        assert!(ends[told..].iter().all(|&end| end == ANY));
+    }
+}
+
+#[test]
+fn texts_without_room_for_their_ends_are_told() {
+    let document = Document::example("telling");
+    let list = findings(&document);
+    let alone = texts(&document, &list);
+    let (mut ends, mut text) = ([ANY; 2], vec![0; 4_000]);
+    let answer = document.raw_messages(&list, &mut ends, &mut text);
+    let all = alone.concat();
+    assert_eq!(answer, [DONE, 0, 0, 30, all.len() as u64]);
+    assert_eq!(text[..all.len()], all);
+    let second = alone[0].len() + alone[1].len();
+    assert_eq!(ends, [alone[0].len() as u64, second as u64]);
+}
+
+#[test]
+fn texts_stop_at_a_finding_that_has_none() {
+    let unknown = [0, 99, 0, 0, 0, 0, 0, 0];
+    let list = [FINDING, unknown, FINDING].concat();
+    let (mut ends, mut text) = ([ANY; 3], [b'#'; 100]);
+    let answer = Document::listing().raw_messages(&list, &mut ends, &mut text);
+    assert_eq!(answer, [CUT, 12, 0, 1, 28]);
+    assert_eq!(ends, [28, ANY, ANY]);
+    assert!(text[28..].iter().all(|&byte| byte == b'#'));
+}
+
+#[test]
+fn texts_of_a_list_with_a_rest() {
+    let list = [&FINDING[..], &FINDING[..7]].concat();
+    let (mut ends, mut text) = ([ANY; 2], [b'#'; 100]);
+    let answer = Document::listing().raw_messages(&list, &mut ends, &mut text);
+    assert_eq!(answer, [DONE, 0, 0, 1, 28]);
+    assert_eq!(ends, [28, ANY]);
+}
+
+#[test]
+fn texts_of_a_refused_document() {
+    let mut document = Document::listing();
+    document.source[16] = 0xFF;
+    let (mut ends, mut text, mut out) = ([ANY; 1], [b'#'; 100], [ANY; 4]);
+    let answer = document.raw_messages(&FINDING, &mut ends, &mut text);
+    assert_eq!(answer, [REFUSED, 3, 16, 0, 0]);
+    document.raw_message(Asked::from(&FINDING), &mut text, &mut out);
+    assert_eq!(out, [REFUSED, 3, 16, 0]);
+    assert_eq!((ends, text), ([ANY], [b'#'; 100]));
+}
+
+#[test]
+fn one_text_that_is_refused() {
+    let document = Document::listing();
+    let asked = Asked::from(&FINDING);
+    let letter = Asked {
+        second: 128,
+        ..asked
+    };
+    let off_tape = Asked { node: 9, ..asked };
+    let other_form = Asked { form: 1, ..asked };
+    for (asked, room, answer) in [
+        (asked, 27, [REFUSED, 13, 28, 0]),
+        (letter, 28, [REFUSED, 12, 0, 0]),
+        (off_tape, 28, [REFUSED, 12, 0, 0]),
+        (other_form, 28, [REFUSED, 12, 0, 0]),
+    ] {
+        let (mut text, mut out) = (vec![b'#'; room], [ANY; raw::MESSAGE_WORDS]);
+        document.raw_message(asked, &mut text, &mut out);
+        assert_eq!(out, answer);
+        assert_eq!(text, vec![b'#'; room]);
+    }
+}
+
+#[test]
+fn tallies_and_their_refusals() {
+    let list = findings(&Document::example("telling"));
+    let mut counts = [ANY; Code::COUNT + 1];
+    let mut out = [ANY; raw::TALLY_WORDS];
+    raw::tally(&list, &mut counts, &mut out);
+    assert_eq!(out, [DONE, 0, 0]);
+    assert_eq!(counts[..Code::COUNT].iter().sum::<u64>(), 30);
+    assert_eq!(counts[Code::COUNT], ANY);
+    let mut few = [ANY; 6];
+    raw::tally(&list, &mut few, &mut []);
+    assert_eq!(few, counts[..6]);
+
+    let mut bad_code = list.clone();
+    bad_code[8 * 5 + 1] = 35;
+    let mut bad_severity = list.clone();
+    bad_severity[8 * 29] = 3;
+    for (list, place) in [
+        (&bad_code[..], 5),
+        (&bad_severity[..], 29),
+        (&list[..17], 2),
+    ] {
+        let mut counts = [ANY; Code::COUNT];
+        raw::tally(list, &mut counts, &mut out);
+        assert_eq!((out, counts), ([REFUSED, 11, place], [ANY; Code::COUNT]));
+    }
+}
+
+#[test]
+fn empty_slices_everywhere() {
+    let mut out = [ANY; 9];
+    raw::check(&[], &[], &[], &mut [], &mut [], &mut [], &mut []);
+    raw::check(&[], &[], &[], &mut [], &mut [], &mut [], &mut out);
+    assert_eq!(out[..3], [REFUSED, 4, 0]);
+    raw::message(&[], &[], &[], Asked::default(), &mut [], &mut []);
+    raw::message(&[], &[], &[], Asked::default(), &mut [], &mut out);
+    assert_eq!(out[..4], [REFUSED, 4, 0, 0]);
+    raw::messages(&[], &[], &[], &[], &mut [], &mut [], &mut []);
+    raw::messages(&[], &[], &[], &[], &mut [], &mut [], &mut out);
+    assert_eq!(out[..5], [REFUSED, 4, 0, 0, 0]);
+    raw::tally(&[], &mut [], &mut []);
+    raw::tally(&[], &mut [], &mut out);
+    assert_eq!(out[..3], [DONE, 0, 0]);
+}
