@@ -163,16 +163,14 @@ fn module_list(out: &Path) -> String {
     text
 }
 
-/// Where `rt staticlib` puts the library's functions.
+/// Where `rt staticlib` puts single functions of the library; the binding links the rest.
 fn link_library() {
-    for name in ["compared", "exports"] {
-        let file = format!("../target/staticlib/lib{name}.a");
-        let found = fs::canonicalize(&file)
-            .unwrap_or_else(|_| fail(format!("run `rt staticlib {name}` first")));
-        println!("cargo::rerun-if-changed={file}");
-        let folder = found.parent().expect("a file stands in a folder");
-        println!("cargo::rustc-link-search=native={}", folder.display());
-    }
+    let file = "../target/staticlib/libcompared.a";
+    let found = fs::canonicalize(file)
+        .unwrap_or_else(|_| fail("run `rt staticlib compared` first".to_string()));
+    println!("cargo::rerun-if-changed={file}");
+    let folder = found.parent().expect("a file stands in a folder");
+    println!("cargo::rustc-link-search=native={}", folder.display());
 }
 
 fn main() {

@@ -1,4 +1,4 @@
-//! Ends a comparison at the first difference.
+//! Says where two answers differ.
 
 use std::fmt::Debug;
 use std::process::exit;
@@ -8,5 +8,27 @@ pub fn same<T: PartialEq + Debug>(what: &str, input: &dyn Debug, ours: T, theirs
     if ours != theirs {
         println!("{what} differs on {input:02X?}: the library has {ours:?}, Rust has {theirs:?}");
         exit(1);
+    }
+}
+
+/// An error unless the library's answer is the one that is owed.
+pub fn agree<T: PartialEq + Debug>(what: &str, ours: T, owed: T) -> Result<(), String> {
+    if ours == owed {
+        return Ok(());
+    }
+    Err(format!(
+        "{what}: the library has {ours:?}, owed is {owed:?}"
+    ))
+}
+
+#[cfg(test)]
+mod tests {
+    use super::*;
+
+    #[test]
+    fn answers_agree_or_both_are_told() {
+        assert_eq!(agree("total", 3, 3), Ok(()));
+        let told = agree("total", 3, 4).unwrap_err();
+        assert_eq!(told, "total: the library has 3, owed is 4");
     }
 }

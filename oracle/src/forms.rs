@@ -37,7 +37,7 @@ pub const FORMS: [(u32, u64); 32] = [
 ];
 
 /// The messages without a filling, by code and form.
-const CONSTANT: &[(u32, u64, &str)] = &[
+pub(crate) const CONSTANT: &[(u32, u64, &str)] = &[
     (
         4,
         0,

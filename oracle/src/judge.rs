@@ -125,7 +125,7 @@ fn role(place: usize) -> TextRole {
     [TextRole::Content, TextRole::Excluded, TextRole::Boundary][place]
 }
 
-fn published_node(node: Node) -> tape::Node {
+pub(crate) fn published_node(node: Node) -> tape::Node {
     tape::Node {
         kind: NodeKind::ALL[node.kind as usize],
         flags: node.flags,

@@ -1,29 +1,11 @@
-//! The functions of the Rattle library, as the static libraries of the crates `compared` and `exports` export them. Each
-//! takes any slice.
+//! The functions of the Rattle library: single ones as the static library of the crate `compared` exports them, the whole
+//! check through the binding. Each takes any slice.
 
 use std::ffi::c_uchar;
 
-use crate::document::Document;
+use harkoxin::raw;
 
-#[link(name = "exports", kind = "static")]
-unsafe extern "C" {
-    fn harkoxin_check(
-        table: *const c_uchar,
-        table_len: usize,
-        source: *const c_uchar,
-        source_len: usize,
-        tape: *const c_uchar,
-        tape_len: usize,
-        seen: *mut u32,
-        seen_len: usize,
-        opens: *mut u64,
-        opens_len: usize,
-        list: *mut u64,
-        list_len: usize,
-        answer: *mut u64,
-        answer_len: usize,
-    );
-}
+use crate::document::Document;
 
 #[link(name = "compared", kind = "static")]
 unsafe extern "C" {
@@ -500,23 +482,13 @@ pub struct Lent<'a> {
 
 /// The whole check of a document.
 pub fn check(document: &Document, lent: Lent<'_>) {
-    let (table, source, tape) = (&document.table, &document.source, &document.tape);
-    unsafe {
-        harkoxin_check(
-            table.as_ptr(),
-            table.len(),
-            source.as_ptr(),
-            source.len(),
-            tape.as_ptr(),
-            tape.len(),
-            lent.seen.as_mut_ptr(),
-            lent.seen.len(),
-            lent.opens.as_mut_ptr(),
-            lent.opens.len(),
-            lent.list.as_mut_ptr(),
-            lent.list.len(),
-            lent.answer.as_mut_ptr(),
-            lent.answer.len(),
-        );
-    }
+    raw::check(
+        &document.table,
+        &document.source,
+        &document.tape,
+        lent.seen,
+        lent.opens,
+        lent.list,
+        lent.answer,
+    );
 }

@@ -174,7 +174,7 @@ pub fn is_blank(c: char) -> bool {
 }
 
 /// Number 10.
-fn working_list_refusal(n: usize, seen_len: usize, open_len: usize) -> Option<(u32, u64)> {
+pub fn working_list_refusal(n: usize, seen_len: usize, open_len: usize) -> Option<(u32, u64)> {
     (seen_len < n || open_len < n).then_some((10, n as u64))
 }
 

@@ -1,23 +1,83 @@
-//! The published `validate` by the clock.
+//! The whole check beside the published `validate`, by the clock: both over the same documents, taken in turn.
+
+#[cfg(feature = "library")]
+mod beside;
+mod sheet;
+mod watch;
 
 use std::hint::black_box;
-use std::time::Instant;
 
+use crate::cst::Cursor;
 use crate::document::Document;
-use crate::judge::with_published;
+use crate::judge::{published_node, with_table};
+use crate::tape::Tape;
 use crate::validate::validate;
 
-/// Runs `from_utf8` and `validate` so many times over a tape that is decoded once, and tells each
-/// time in seconds, with the number of findings.
-pub fn validate_times(document: &Document, rounds: usize, mut tell: impl FnMut(f64, usize)) {
-    with_published(document, |cursor| {
-        for _ in 0..rounds {
-            let began = Instant::now();
-            let read = std::str::from_utf8(black_box(&document.source));
-            let found = black_box(validate(black_box(cursor))).len();
-            let seconds = began.elapsed().as_secs_f64();
+#[cfg(feature = "library")]
+pub use beside::{Best, Measured, Texts};
+pub use sheet::{Sheet, grouped, seconds};
+
+use watch::Watch;
+
+/// Documents under one table, with the nodes that the published code reads.
+pub struct Published<'a> {
+    documents: &'a [Document],
+    cursors: Vec<Cursor<'a>>,
+}
+
+/// Runs `work` with the documents decoded. All have the table of the first.
+pub fn with_published<T>(documents: &[Document], work: impl FnOnce(Published<'_>) -> T) -> T {
+    let table = &documents[0].table;
+    assert!(documents.iter().all(|document| document.table == *table));
+    let tapes: Vec<Tape> = documents.iter().map(tape).collect();
+    with_table(table, |table| {
+        let pairs = documents.iter().zip(&tapes);
+        let cursors = pairs.map(|(document, tape)| {
+            let source =
+                std::str::from_utf8(&document.source).expect("an accepted source is UTF-8");
+            Cursor::new(tape, source, table, 0)
+        });
+        work(Published {
+            documents,
+            cursors: cursors.collect(),
+        })
+    })
+}
+
+fn tape(document: &Document) -> Tape {
+    Tape {
+        nodes: document.nodes().map(published_node).collect(),
+    }
+}
+
+impl Published<'_> {
+    /// Runs `from_utf8` and `validate` over each document: the seconds of all together, and the number of findings. The time
+    /// to free the findings isn't counted.
+    pub fn run(&self) -> (f64, u64) {
+        let (mut seconds, mut total) = (0.0, 0);
+        for (document, &cursor) in self.documents.iter().zip(&self.cursors) {
+            let watch = Watch::start();
+            let read = black_box(std::str::from_utf8(black_box(&document.source)));
+            let found = black_box(validate(black_box(cursor)));
+            seconds += watch.seconds();
             assert!(read.is_ok());
-            tell(seconds, found);
+            total += found.len() as u64;
         }
-    });
+        (seconds, total)
+    }
+}
+
+#[cfg(test)]
+mod tests {
+    use super::*;
+    use crate::samples::{listing, read};
+
+    #[test]
+    fn the_findings_of_all_documents_are_counted() {
+        let listing = listing();
+        let documents = [listing.clone(), listing];
+        assert_eq!(with_published(&documents, |published| published.run().1), 2);
+        let clean = [read("\\id GEN\n\\c 1\n\\p\n\\v 1 Word")];
+        assert_eq!(with_published(&clean, |published| published.run().1), 0);
+    }
 }

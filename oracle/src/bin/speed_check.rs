@@ -1,91 +1,269 @@
-//! The whole check beside the published code on the same books, in one run: our checks of table,
-//! source and tape included, against `from_utf8` and `validate` over a `Vec<Node>` that is there.
+//! The whole check beside the published code on the same documents, in one run: our checks of table, source and tape included,
+//! against `from_utf8` and `validate` over a `Vec<Node>` and a table that are there.
+//!
+//! The arguments choose sections, all of them without any; `--markdown` gives the tables as Markdown. Ends with status 1 if a
+//! shape of the section `adversarial` takes the library more than a second.
 
-use std::hint::black_box;
-use std::time::Instant;
+use std::process::ExitCode;
+use std::time::Duration;
 
-use oracle::books::{Style, book, largest};
+use oracle::books::{Manner, Shape, Style, bible, book, filled, overlapping, shapes};
 use oracle::document::Document;
-use oracle::library::{Lent, check};
-use oracle::timed::validate_times;
-use oracle::whole::{ANSWER_WORDS, FINDING_WORDS};
+use oracle::refusals::MOST_NODES;
+use oracle::timed::{Best, Measured, Sheet, Texts, grouped, seconds};
 
-const ROUNDS: usize = 40;
+const SECTIONS: [&str; 5] = ["books", "bible", "growth", "adversarial", "overlapping"];
 
-struct Room {
-    seen: Vec<u32>,
-    opens: Vec<u64>,
-    list: Vec<u64>,
-    answer: [u64; ANSWER_WORDS],
+const HEADS: [&str; 10] = [
+    "Document",
+    "Nodes",
+    "Bytes",
+    "Findings",
+    "Library",
+    "Rust",
+    "Ratio",
+    "M nodes/s",
+    "MB/s",
+    "Rounds",
+];
+
+/// The longest that a shape may take the library, in seconds.
+const LIMIT: f64 = 1.0;
+
+/// How many times a whole section is measured: what runs besides can slow down one of them.
+const SWEEPS: usize = 4;
+
+/// How long a book may take each time, and a shape.
+const BOOK: Duration = Duration::from_millis(250);
+const SHAPE: Duration = Duration::from_millis(80);
+
+/// Documents that are checked one after another, under a name.
+struct Item {
+    name: String,
+    documents: Vec<Document>,
+    measured: Measured,
 }
 
-impl Room {
-    /// Lists that hold a document's working words and so many findings.
-    fn new(document: &Document, findings: usize) -> Room {
-        let n = document.node_count();
-        Room {
-            seen: vec![0; n],
-            opens: vec![0; 2 * n],
-            list: vec![0; findings * FINDING_WORDS],
-            answer: [0; ANSWER_WORDS],
+impl Item {
+    fn new(name: &str, documents: Vec<Document>, texts: Texts) -> Item {
+        Item {
+            name: name.to_string(),
+            measured: Measured::new(&documents, texts),
+            documents,
         }
     }
 
-    fn check(&mut self, document: &Document) -> u64 {
-        check(
-            black_box(document),
-            Lent {
-                seen: &mut self.seen,
-                opens: &mut self.opens,
-                list: &mut self.list,
-                answer: &mut self.answer,
-            },
-        );
-        self.answer[3]
+    fn of_one(name: &str, document: Document) -> Item {
+        Item::new(name, vec![document], Texts::Left)
     }
 }
 
-/// Best times of one run of each, taken in turn.
-fn best(document: &Document) -> (f64, f64, u64) {
-    let (mut ours, mut theirs) = (f64::MAX, f64::MAX);
-    let mut room = Room::new(document, 100_000);
-    let total = room.check(document);
-    assert_eq!(room.answer[0], 0, "checked, and not cut");
-    validate_times(document, ROUNDS, |seconds, found| {
-        assert_eq!(found as u64, total);
-        theirs = theirs.min(seconds);
-        let began = Instant::now();
-        black_box(room.check(document));
-        ours = ours.min(began.elapsed().as_secs_f64());
+fn measure(items: &mut [Item], time: Duration) {
+    for _ in 0..SWEEPS {
+        for item in &mut *items {
+            item.measured.sweep(&item.documents, time);
+        }
+    }
+}
+
+fn ratio(value: f64) -> String {
+    let places = match value {
+        ..0.01 => 5,
+        ..10.0 => 2,
+        _ => 0,
+    };
+    format!("{value:.places$}")
+}
+
+/// How many rounds the library had, and the Rust where it had others.
+fn rounds(library: usize, rust: usize) -> String {
+    if library == rust {
+        return library.to_string();
+    }
+    format!("{library}, Rust {rust}")
+}
+
+fn row(name: &str, it: &Measured, library: f64) -> Vec<String> {
+    vec![
+        name.to_string(),
+        grouped(it.nodes as u64),
+        grouped(it.bytes as u64),
+        grouped(it.findings),
+        seconds(library),
+        seconds(it.rust.seconds),
+        ratio(library / it.rust.seconds),
+        format!("{:.1}", it.nodes as f64 / library / 1e6),
+        format!("{:.0}", it.bytes as f64 / library / 1e6),
+        rounds(it.library.rounds, it.rust.rounds),
+    ]
+}
+
+/// A row for each check, and one more for a check with its texts.
+fn plain_sheet(mut items: Vec<Item>) -> Sheet {
+    let mut sheet = Sheet::new(&HEADS);
+    measure(&mut items, BOOK);
+    for item in &items {
+        let (name, it) = (&item.name, &item.measured);
+        sheet.push(row(name, it, it.library.seconds));
+        if let Some(best) = it.with_texts {
+            sheet.push(row(&format!("{name}, with texts"), it, best.seconds));
+        }
+    }
+    sheet
+}
+
+fn books() -> Sheet {
+    let largest = |style, manner| vec![filled(style, manner, MOST_NODES)];
+    let book = |code, style| vec![book(code, style)];
+    let (plain, faulty, words) = (Style::Plain, Style::Faulty, Style::WordLevel);
+    let (prose, poetry) = (Manner::Prose, Manner::Poetry);
+    let (left, made) = (Texts::Left, Texts::Made);
+    plain_sheet(vec![
+        Item::new("clean, Genesis", book("GEN", plain), left),
+        Item::new("clean, Psalms", book("PSA", plain), left),
+        Item::new("word by word, James", book("JAS", words), left),
+        Item::new("many findings, Genesis", book("GEN", faulty), made),
+        Item::new("largest clean, prose", largest(plain, prose), left),
+        Item::new("largest clean, poetry", largest(plain, poetry), left),
+        Item::new("largest word by word", largest(words, prose), left),
+        Item::new("largest with findings", largest(faulty, poetry), made),
+    ])
+}
+
+/// A Bible, and its smallest and its largest document.
+fn with_ends(name: &str, documents: Vec<Document>) -> [Item; 3] {
+    let smallest = documents.iter().min_by_key(|it| it.node_count()).cloned();
+    let largest = documents.iter().max_by_key(|it| it.node_count()).cloned();
+    let [smallest, largest] = [smallest, largest].map(|it| it.expect("a Bible has documents"));
+    let all = format!("{name}, {} documents", documents.len());
+    [
+        Item::new(&all, documents, Texts::Made),
+        Item::of_one(&format!("{name}, its smallest document"), smallest),
+        Item::of_one(&format!("{name}, its largest document"), largest),
+    ]
+}
+
+fn bibles() -> Sheet {
+    let plain = with_ends("Bible", bible(Style::Plain));
+    let words = with_ends("Bible word by word", bible(Style::WordLevel));
+    plain_sheet(plain.into_iter().chain(words).collect())
+}
+
+fn growing() -> Vec<Item> {
+    let books = [
+        ("clean, poetry", Style::Plain, Manner::Poetry),
+        ("word by word", Style::WordLevel, Manner::Prose),
+    ];
+    let sizes = [1_000, 2_000, 4_000, 8_000, 16_000, 32_000, MOST_NODES];
+    let items = books.iter().flat_map(|&(name, style, manner)| {
+        sizes.map(|nodes| Item::of_one(name, filled(style, manner, nodes)))
     });
-    (ours, theirs, total)
+    items.collect()
 }
 
-fn tell(what: &str, document: &Document) {
-    let (ours, theirs, total) = best(document);
-    let n = document.node_count();
-    println!(
-        "{what:28} {n:6} nodes {:8} bytes {total:6} findings   library {:9.1} µs {:6.1} million nodes/s   Rust {:9.1} µs   ratio {:.2}",
-        document.source.len(),
-        ours * 1e6,
-        n as f64 / ours / 1e6,
-        theirs * 1e6,
-        ours / theirs
-    );
-}
-
-fn main() {
-    tell("clean, 50 chapters", &book(Style::Plain, 50));
-    tell("many findings, 50 chapters", &book(Style::Faulty, 50));
-    tell("word-level, 20 chapters", &book(Style::WordLevel, 20));
-    tell("largest clean", &largest(Style::Plain));
-    tell("largest with findings", &largest(Style::Faulty));
-    tell("largest word-level", &largest(Style::WordLevel));
-    println!();
-    for chapters in [5, 10, 20, 40, 80, 160] {
-        tell(
-            &format!("clean, {chapters} chapters"),
-            &book(Style::Plain, chapters),
-        );
+fn growth() -> Sheet {
+    let heads = [
+        "Document",
+        "Nodes",
+        "Bytes",
+        "Library",
+        "Rust",
+        "Ratio",
+        "Library ns/node",
+        "Rust ns/node",
+    ];
+    let mut sheet = Sheet::new(&heads);
+    let mut items = growing();
+    measure(&mut items, BOOK);
+    for item in &items {
+        let it = &item.measured;
+        let (library, rust) = (it.library.seconds, it.rust.seconds);
+        let each = |time: f64| format!("{:.1}", time * 1e9 / it.nodes as f64);
+        sheet.push(vec![
+            item.name.clone(),
+            grouped(it.nodes as u64),
+            grouped(it.bytes as u64),
+            seconds(library),
+            seconds(rust),
+            ratio(library / rust),
+            each(library),
+            each(rust),
+        ]);
     }
+    sheet
+}
+
+/// How many times as long the larger one takes.
+fn grown(larger: Best, smaller: Best) -> String {
+    format!("{:.1}", larger.seconds / smaller.seconds)
+}
+
+/// Each shape at its largest size, with how many times as long it takes as at half of it: twice where time grows as the
+/// document does. Besides, the shapes that take the library longer than the limit.
+fn shape_sheet(list: &[Shape]) -> (Sheet, Vec<String>) {
+    let more = ["Library growth", "Rust growth"];
+    let heads: Vec<&str> = HEADS.into_iter().chain(more).collect();
+    let (mut sheet, mut slow) = (Sheet::new(&heads), Vec::new());
+    let item = |by| move |shape: &Shape| Item::of_one(shape.name, (shape.document)(by));
+    let (whole, half) = (list.iter().map(item(1)), list.iter().map(item(2)));
+    let mut items: Vec<Item> = whole.chain(half).collect();
+    measure(&mut items, SHAPE);
+    let (whole, half) = items.split_at(list.len());
+    for (item, half) in whole.iter().zip(half) {
+        let (it, half) = (&item.measured, &half.measured);
+        let time = it.library.seconds;
+        let mut cells = row(&item.name, it, time);
+        cells.push(grown(it.library, half.library));
+        cells.push(grown(it.rust, half.rust));
+        sheet.push(cells);
+        if time > LIMIT {
+            slow.push(format!("{}: {}", item.name, seconds(time)));
+        }
+    }
+    (sheet, slow)
+}
+
+/// The sections that the command line names, and whether it asks for Markdown.
+fn chosen() -> Result<(Vec<String>, bool), String> {
+    let given = std::env::args().skip(1);
+    let (options, names): (Vec<String>, Vec<String>) = given.partition(|it| it.starts_with('-'));
+    let is_known = |name: &&String| SECTIONS.contains(&name.as_str());
+    let unknown = names.iter().find(|name| !is_known(name));
+    let unknown = unknown.or(options.iter().find(|option| *option != "--markdown"));
+    if let Some(word) = unknown {
+        let usage = SECTIONS.join("] [");
+        return Err(format!("{word}? usage: [--markdown] [{usage}]"));
+    }
+    let all = SECTIONS.map(String::from).to_vec();
+    let names = if names.is_empty() { all } else { names };
+    Ok((names, !options.is_empty()))
+}
+
+fn main() -> ExitCode {
+    let (names, markdown) = match chosen() {
+        Ok(chosen) => chosen,
+        Err(why) => {
+            eprintln!("{why}");
+            return ExitCode::from(2);
+        }
+    };
+    let mut slow = Vec::new();
+    for name in names {
+        let sheet = match name.as_str() {
+            "books" => books(),
+            "bible" => bibles(),
+            "growth" => growth(),
+            "overlapping" => shape_sheet(&overlapping()).0,
+            _ => {
+                let (sheet, found) = shape_sheet(&shapes());
+                slow = found;
+                sheet
+            }
+        };
+        println!("{name}\n\n{}", sheet.text(markdown));
+    }
+    for line in &slow {
+        println!("over a second: {line}");
+    }
+    ExitCode::from(u8::from(!slow.is_empty()))
 }

@@ -1,0 +1,132 @@
+//! A report's findings beside the published ones.
+
+use harkoxin::{Finding, Report};
+
+use super::{FINDING_WORDS, FIRST, NODE};
+use crate::coverage::code_name;
+use crate::differ::agree;
+use crate::document::{Document, kind};
+use crate::judge::{Found, form_and_numbers};
+use crate::tallies::tally;
+
+/// The words of a report's findings, as the check lays them over a list.
+pub fn words_of(report: &Report) -> Vec<u64> {
+    report.findings().flat_map(|found| words(&found)).collect()
+}
+
+fn words(finding: &Finding<'_>) -> [u64; FINDING_WORDS] {
+    let [first, second] = finding.numbers();
+    let span = finding.span();
+    [
+        finding.severity().index() as u64,
+        finding.code().index() as u64,
+        span.start as u64,
+        span.len() as u64,
+        finding.node() as u64,
+        finding.form() as u64,
+        first,
+        second,
+    ]
+}
+
+/// The words of a published finding but for its node, which it doesn't say, and for the owner's node of code 32.
+fn published_words(found: &Found) -> Result<[u64; FINDING_WORDS], String> {
+    let (form, first, second) = form_and_numbers(found.code, &found.message)?;
+    Ok([
+        found.severity.into(),
+        found.code.into(),
+        found.start.into(),
+        found.len.into(),
+        0,
+        form,
+        first,
+        second,
+    ])
+}
+
+/// Whether a node can be the one that a finding of this code is about: its span, and its kind.
+fn is_about(document: &Document, words: &[u64; FINDING_WORDS]) -> bool {
+    let node = words[NODE] as usize;
+    if matches!(words[1], 4 | 8) {
+        return node == 0 && words[2..4] == [0, 0];
+    }
+    if node == 0 || node >= document.node_count() {
+        return false;
+    }
+    let read = document.node(node);
+    let kinds: &[u8] = match words[1] {
+        7 => &[kind::TEXT],
+        9 | 10 | 18 => &[kind::CHAPTER],
+        11 | 12 | 19 | 20 => &[kind::VERSE],
+        15 | 34 => &[kind::CHAPTER, kind::VERSE],
+        17 | 22 | 32 => &[kind::ATTRIBUTE],
+        _ => &[kind::MARKER_OPEN],
+    };
+    let spans = (u64::from(read.start), u64::from(read.len));
+    kinds.contains(&read.kind) && spans == (words[2], words[3])
+}
+
+/// Whether the owner's node that code 32 gives is the open node around its attribute.
+fn is_owned(document: &Document, words: &[u64; FINDING_WORDS]) -> bool {
+    let (owner, node) = (words[FIRST] as usize, words[NODE] as usize);
+    let mut around = 0;
+    for place in 1..node {
+        let read = document.node(place);
+        if read.kind == kind::MARKER_OPEN && read.link as usize > node {
+            around = place;
+        }
+    }
+    owner == around
+}
+
+/// The nodes that a list of findings names.
+pub fn same_nodes(document: &Document, list: &[u64]) -> Result<(), String> {
+    for words in list.as_chunks().0 {
+        if !is_about(document, words) {
+            return Err(format!("no node of this finding: {words:?}"));
+        }
+        if words[1] == 32 && !is_owned(document, words) {
+            return Err(format!("no owner of this finding: {words:?}"));
+        }
+    }
+    Ok(())
+}
+
+/// Findings and their texts, in order and number.
+pub fn same_findings(report: &Report, list: &[u64], theirs: &[Found]) -> Result<(), String> {
+    agree("findings", report.findings().len(), theirs.len())?;
+    let (records, _) = list.as_chunks::<FINDING_WORDS>();
+    for ((ours, words), found) in report.findings().zip(records).zip(theirs) {
+        let mut owed = published_words(found)?;
+        owed[NODE] = words[NODE];
+        if found.code == 32 {
+            owed[FIRST] = words[FIRST];
+        }
+        agree("a finding", *words, owed)?;
+        agree("a text", ours.message(), found.message.as_str())?;
+        agree("a code", ours.code().as_str(), code_name(found.code))?;
+    }
+    Ok(())
+}
+
+fn of_severity(list: &[u64], severity: u64) -> u64 {
+    let (records, _) = list.as_chunks::<FINDING_WORDS>();
+    let of = records.iter().filter(|words| words[0] == severity);
+    of.count() as u64
+}
+
+/// Errors, warnings and infos of a list.
+pub fn severities(list: &[u64]) -> [u64; 3] {
+    [0, 1, 2].map(|severity| of_severity(list, severity))
+}
+
+/// The counts of a report, whose findings are these, and the verses that were visited.
+pub fn same_counts(report: &Report, list: &[u64], verses: u64) -> Result<(), String> {
+    let total = (list.len() / FINDING_WORDS) as u64;
+    agree("a report's total", report.total(), total)?;
+    agree("whether a report is cut", report.is_cut(), false)?;
+    let counted = [report.errors(), report.warnings(), report.infos()];
+    agree("a report's severities", counted, severities(list))?;
+    agree("a report's verses", report.verses(), verses)?;
+    agree("a report's tally", Ok(*report.tally()), tally(list))
+}

@@ -1,0 +1,112 @@
+//! Every list that is lent, each in a slot of its own.
+
+use harkoxin::raw::{self, Asked};
+
+use crate::document::Document;
+use crate::lent::Slot;
+use crate::rng::Rng;
+
+#[derive(Default)]
+pub struct Slots {
+    pub table: Slot<u8>,
+    pub source: Slot<u8>,
+    pub tape: Slot<u8>,
+    pub seen: Slot<u32>,
+    pub opens: Slot<u64>,
+    pub list: Slot<u64>,
+    pub ends: Slot<u64>,
+    pub text: Slot<u8>,
+    pub counts: Slot<u64>,
+    pub out: Slot<u64>,
+    sealed: bool,
+}
+
+impl Slots {
+    /// Lends the document to all calls that follow; for one in 64 a write of it is a fault.
+    pub fn lend(&mut self, document: &Document, rng: &mut Rng) {
+        self.unseal();
+        self.table.put(&document.table, rng);
+        self.source.put(&document.source, rng);
+        self.tape.put(&document.tape, rng);
+        if rng.one_in(64) {
+            self.sealed = true;
+            for slot in [&mut self.table, &mut self.source, &mut self.tape] {
+                slot.seal();
+            }
+        }
+    }
+
+    fn unseal(&mut self) {
+        if self.sealed {
+            self.sealed = false;
+            for slot in [&mut self.table, &mut self.source, &mut self.tape] {
+                slot.unseal();
+            }
+        }
+    }
+
+    /// An error unless the document is as it was lent.
+    pub fn expect_document(&self) -> Result<(), String> {
+        self.table.expect("the table", &[])?;
+        self.source.expect("the source", &[])?;
+        self.tape.expect("the tape", &[])
+    }
+
+    /// Room for an answer of so many words: mostly enough.
+    pub fn fill_out(&mut self, words: usize, rng: &mut Rng) {
+        let len = match rng.below(20) {
+            0 => rng.below(words),
+            _ => words + rng.below(3),
+        };
+        self.out.fill(len, rng);
+    }
+
+    /// An error unless the answer is these words, as far as there is room.
+    pub fn expect_out(&self, what: &str, answer: &[u64]) -> Result<(), String> {
+        let room = self.out.len().min(answer.len());
+        self.out.expect(what, &answer[..room])
+    }
+
+    pub fn check(&mut self) {
+        raw::check(
+            self.table.list(),
+            self.source.list(),
+            self.tape.list(),
+            self.seen.list_mut(),
+            self.opens.list_mut(),
+            self.list.list_mut(),
+            self.out.list_mut(),
+        );
+    }
+
+    pub fn message(&mut self, asked: Asked) {
+        raw::message(
+            self.table.list(),
+            self.source.list(),
+            self.tape.list(),
+            asked,
+            self.text.list_mut(),
+            self.out.list_mut(),
+        );
+    }
+
+    pub fn messages(&mut self) {
+        raw::messages(
+            self.table.list(),
+            self.source.list(),
+            self.tape.list(),
+            self.list.list(),
+            self.ends.list_mut(),
+            self.text.list_mut(),
+            self.out.list_mut(),
+        );
+    }
+
+    pub fn tally(&mut self) {
+        raw::tally(
+            self.list.list(),
+            self.counts.list_mut(),
+            self.out.list_mut(),
+        );
+    }
+}
