@@ -19,7 +19,6 @@ use Rattle.cursor.specs.Steps.{pastNode}
 use Rattle.cursor.proofs.Around.{spanned}
 use Rattle.cursor.proofs.Runs.{past-open, open-later, run-children}
 use Rattle.findings.specs.Finding.{Finding}
-use Rattle.findings.specs.declared.Counts.{Counts}
 use Rattle.findings.specs.Written.{Wrote, Room}
 use Rattle.findings.proofs.Overlay.{Left, left-start, left-wrote, left-room, room-first, wrote-append}
 use Rattle.attachment.specs.Attached.{startsOf}
@@ -33,7 +32,7 @@ use Rattle.validate.specs.Walk as def
 use Rattle.running.specs.Running.{stateOf, countsOf, anchorOf, withCounts, withAnchor, Sane, Opens}
 use Rattle.running.specs.declared.Record.{Record}
 use Rattle.opens.specs.Own.{isId, childrenAt, ownAt, Marked}
-use Rattle.milestones.specs.Steps.{Stepped}
+use Rattle.milestones.specs.Steps.{Stepped, Milestoned}
 use Rattle.checker.specs.Walking.{Anchored, nowhere, walkAt, Ready, Went, Walked, toldAt, below, visitFindings, visitState, Visited, Visitable, quiet}
 use Rattle.checker.proofs.Quiet.{quiet-walked}
 
@@ -129,98 +128,92 @@ module _ {table words : List ℕ} {entries : ℕ} {s t : List ℕ} {depth : ℕ}
     pub milestone-room : Room (countsOf r₁) (given (milestoneChecks e (stateOf s t [] opens r₁) x))
     milestone-room = rw milestone-same (left-room after-own (room-first (countsOf r) (own ++ milestone) children roomy))
 
-    -- after the milestone's finding
-    module _ (l₂ : List ℕ) (k : Counts) (told : Wrote (given (milestoneChecks e (stateOf s t [] opens r₁) x)) l₁ (countsOf r₁) l₂ k) where
-      pub step-opens : Opens s t opens (withCounts r₁ k .«open»)
-      step-opens = milestone-opens
+    pub milestone-more : 2 * (r₁ .«open» + 1) ≤ length opens
+    milestone-more =
+        let a = v .ready .open-room in
+        let b = v .able .more in
+        rw same-open (omega arith)
 
-      pub step-room : 2 * (withCounts r₁ k .«open» + 1) ≤ length opens
-      step-room =
-          let a = v .ready .open-room in
-          let b = v .able .more in
-          rw same-open (omega arith)
+    -- after the milestone
+    module _ (l₂ opens₂ : List ℕ) (r₂ : Record) (lo : length opens₂ ≡ length opens) (done : Milestoned e s t i opens l₁ r₁ opens₂ l₂ r₂) where
+      stepped : Stepped e s t i opens (withCounts r₁ (countsOf r₂)) opens₂ r₂
+      stepped = done .step
 
-      both-wrote : Wrote (own ++ milestone) l (countsOf r) l₂ k
-      both-wrote = wrote-append (marked .wrote) (rw milestone-same at told)
+      both-wrote : Wrote (own ++ milestone) l (countsOf r) l₂ (countsOf r₂)
+      both-wrote = wrote-append (marked .wrote) (rw milestone-same at (done .wrote))
 
-      -- after its step
-      module _ (opens₂ : List ℕ) (r₂ : Record) (lo : length opens₂ ≡ length opens) (stepped : Stepped e s t i opens (withCounts r₁ k) opens₂ r₂) where
-        counts-now : countsOf r₂ ≡ k
-        counts-now = stepped .counts
+      state-now : stateOf s t seen opens₂ (withAnchor r₂ 0) ≡ toldAt table s t o e i to seen opens r .state
+      state-now = stepped .state seen ∙ ap (λ (z : State). afterMilestone e z x) (marked .state seen opens) ∙ sym told-state
 
-        state-now : stateOf s t seen opens₂ (withAnchor r₂ 0) ≡ toldAt table s t o e i to seen opens r .state
-        state-now = stepped .state seen ∙ ap (λ (z : State). afterMilestone e z x) (marked .state seen opens) ∙ sym told-state
+      seen-now : r₂ .seen ≡ r .seen
+      seen-now = stepped .seen ∙ marked .same .seen
 
-        seen-now : r₂ .seen ≡ r .seen
-        seen-now = stepped .seen ∙ marked .same .seen
+      verses-now : r₂ .verses ≡ r .verses
+      verses-now = stepped .verses ∙ marked .same .verses
 
-        verses-now : r₂ .verses ≡ r .verses
-        verses-now = stepped .verses ∙ marked .same .verses
+      pub children-ready : Ready table words entries s t (depth - 1) (i + 1) (linkAt t i) seen opens₂ (withAnchor r₂ 0)
+      children-ready =
+          let inner = nested-open (v .ready .nested) (v .able .more) (v .able .opened) in
+          let ll = link-later in
+          let a = v .ready .seen-room in
+          let b = v .ready .open-room in
+          let d = v .ready .verses-room in
+          let f = stepped .few in
+          let w = v .ready .within in
+          let g = v .ready .start in
+          let so = same-open in
+          record {
+            indexed = v .ready .indexed;
+            accepted = v .ready .accepted;
+            nested = inner .children;
+            start = omega arith;
+            within = omega (arith, ll .1);
+            starts = stepped .opens;
+            sane = rw (stepped .verse, marked .verse) (v .ready .sane);
+            seen-room = rw seen-now (omega (arith, ll .0, ll .1));
+            open-room = rw lo (omega (arith, ll .0, ll .1));
+            verses-room = rw verses-now (omega (arith, ll .0, ll .1));
+            anchored = nowhere;
+          }
 
-        pub children-ready : Ready table words entries s t (depth - 1) (i + 1) (linkAt t i) seen opens₂ (withAnchor r₂ 0)
-        children-ready =
-            let inner = nested-open (v .ready .nested) (v .able .more) (v .able .opened) in
-            let ll = link-later in
-            let a = v .ready .seen-room in
-            let b = v .ready .open-room in
-            let d = v .ready .verses-room in
-            let f = stepped .few in
-            let w = v .ready .within in
-            let g = v .ready .start in
-            let so = same-open in
-            record {
-              indexed = v .ready .indexed;
-              accepted = v .ready .accepted;
-              nested = inner .children;
-              start = omega arith;
-              within = omega (arith, ll .1);
-              starts = stepped .opens;
-              sane = rw (stepped .verse, marked .verse) (v .ready .sane);
-              seen-room = rw seen-now (omega (arith, ll .0, ll .1));
-              open-room = rw lo (omega (arith, ll .0, ll .1));
-              verses-room = rw verses-now (omega (arith, ll .0, ll .1));
-              anchored = nowhere;
-            }
+      walk-same : (o′ : state.Around) → o′ ≡ inside o e → walkAt table s t o′ (i + 1) (linkAt t i) seen opens₂ (withAnchor r₂ 0) ≡ below table s t o e i (toldAt table s t o e i to seen opens r)
+      walk-same o′ h = ap₂ (λ (z : state.Around) (y : State). walk table z none (forest s t (i + 1) (linkAt t i)) y) h state-now
 
-        walk-same : (o′ : state.Around) → o′ ≡ inside o e → walkAt table s t o′ (i + 1) (linkAt t i) seen opens₂ (withAnchor r₂ 0) ≡ below table s t o e i (toldAt table s t o e i to seen opens r)
-        walk-same o′ h = ap₂ (λ (z : state.Around) (y : State). walk table z none (forest s t (i + 1) (linkAt t i)) y) h state-now
+      pub children-room : (o′ : state.Around) → o′ ≡ inside o e → Room (countsOf (withAnchor r₂ 0)) (walkAt table s t o′ (i + 1) (linkAt t i) seen opens₂ (withAnchor r₂ 0) .findings)
+      children-room o′ h =
+          subst (λ (w : def.Walked). Room (countsOf r₂) (w .findings)) (sym (walk-same o′ h)) (left-room (left-wrote {gs = own ++ milestone} {fs = children} whole both-wrote) roomy)
 
-        pub children-room : (o′ : state.Around) → o′ ≡ inside o e → Room (countsOf (withAnchor r₂ 0)) (walkAt table s t o′ (i + 1) (linkAt t i) seen opens₂ (withAnchor r₂ 0) .findings)
-        children-room o′ h =
-            subst (λ (z : Counts). Room z (walkAt table s t o′ (i + 1) (linkAt t i) seen opens₂ (withAnchor r₂ 0) .findings)) (sym counts-now)
-            (subst (λ (w : def.Walked). Room k (w .findings)) (sym (walk-same o′ h)) (left-room (left-wrote {gs = own ++ milestone} {fs = children} whole both-wrote) roomy))
+      pub visited : (o′ : state.Around) (seen′ opens′ l′ : List ℕ) (r₃ : Record) → o′ ≡ inside o e → Walked s t (walkAt table s t o′ (i + 1) (linkAt t i) seen opens₂ (withAnchor r₂ 0)) (depth - 1) (i + 1) (linkAt t i) l₂ (withAnchor r₂ 0) seen′ opens′ l′ r₃ → Visited table s t o e i to seen opens l r seen′ opens′ l′ (withAnchor r₃ (r .anchor))
+      visited o′ seen′ opens′ l′ r₃ h walked =
+          let w = walked .went in
+          let same = walk-same o′ h in
+          let ll = link-later in
+          let p = past-open s t i to visit-run (v .able .more) (v .able .opened) in
+          let sn = seen-now in
+          let vn = verses-now in
+          let f = stepped .few in
+          let so = same-open in
+          let sf = w .seen-few in
+          let of = w .open-few in
+          let vf = w .verses-few in
+          let wrote : Wrote children l₂ (countsOf r₂) l′ (countsOf r₃) = subst (λ (y : def.Walked). Wrote (y .findings) l₂ (countsOf r₂) l′ (countsOf r₃)) same (w .wrote) in
+          record {
+            went =
+                record {
+                  wrote = rw parts (wrote-append both-wrote wrote);
+                  state = rw same at (w .state);
+                  starts = w .starts;
+                  sane = w .sane;
+                  seen-few = omega (arith, ll .0);
+                  open-few = omega (arith, ll .0);
+                  verses-few = omega (arith, ll .0);
+                };
+            anchor = refl;
+          }
 
-        pub visited : (o′ : state.Around) (seen′ opens′ l′ : List ℕ) (r₃ : Record) → o′ ≡ inside o e → Walked s t (walkAt table s t o′ (i + 1) (linkAt t i) seen opens₂ (withAnchor r₂ 0)) (depth - 1) (i + 1) (linkAt t i) l₂ (withAnchor r₂ 0) seen′ opens′ l′ r₃ → Visited table s t o e i to seen opens l r seen′ opens′ l′ (withAnchor r₃ (r .anchor))
-        visited o′ seen′ opens′ l′ r₃ h walked =
-            let w = walked .went in
-            let same = walk-same o′ h in
-            let ll = link-later in
-            let p = past-open s t i to visit-run (v .able .more) (v .able .opened) in
-            let sn = seen-now in
-            let vn = verses-now in
-            let f = stepped .few in
-            let so = same-open in
-            let sf = w .seen-few in
-            let of = w .open-few in
-            let vf = w .verses-few in
-            let wrote : Wrote children l₂ k l′ (countsOf r₃) = subst (λ (z : Counts). Wrote children l₂ z l′ (countsOf r₃)) counts-now (subst (λ (y : def.Walked). Wrote (y .findings) l₂ (countsOf r₂) l′ (countsOf r₃)) same (w .wrote)) in
-            record {
-              went =
-                  record {
-                    wrote = rw parts (wrote-append both-wrote wrote);
-                    state = rw same at (w .state);
-                    starts = w .starts;
-                    sane = w .sane;
-                    seen-few = omega (arith, ll .0);
-                    open-few = omega (arith, ll .0);
-                    verses-few = omega (arith, ll .0);
-                  };
-              anchor = refl;
-            }
-
-        -- where the children are quiet there is nothing to walk
-        pub visited-quiet : quiet c ≡ true → Visited table s t o e i to seen opens l r seen opens₂ l₂ (withAnchor r₂ (r .anchor))
-        visited-quiet h = visited (inside o e) seen opens₂ l₂ (withAnchor r₂ 0) refl (quiet-walked (inside o e) l₂ children-ready refl h)
+      -- where the children are quiet there is nothing to walk
+      pub visited-quiet : quiet c ≡ true → Visited table s t o e i to seen opens l r seen opens₂ l₂ (withAnchor r₂ (r .anchor))
+      visited-quiet h = visited (inside o e) seen opens₂ l₂ (withAnchor r₂ 0) refl (quiet-walked (inside o e) l₂ children-ready refl h)
 
 pub visit-with : {table words : List ℕ} {entries : ℕ} {s t : List ℕ} {depth i to : ℕ} {numbers : Attached} {seen opens : List ℕ} {r : Record} (o : state.Around) (e : Entry) (l : List ℕ) → Ready table words entries s t depth i to seen opens r → Visitable s t i to numbers r → Room (countsOf r) (visitFindings table s t o e i to seen opens r) → Visit table words entries s t depth o i to e numbers seen opens l r
 visit-with o e l ready able room = record { ready = ready; able = able; room = room }

@@ -147,8 +147,7 @@ fn visit(
 {
     let anchor = rec.anchor;
     let r1 = opens::visit_marker(table, m, source, tape, i, to, around, numbers, rec, list);
-    let c = milestones::milestone_findings(m, source, tape, i, opens, r1, list);
-    let r2 = milestones::after_milestone(m, source, tape, i, opens, running::with_counts(r1, c));
+    let r2 = milestones::milestone(m, source, tape, i, opens, r1, list);
     let from = i + 1;
     let link = tape::link_at(tape, i) as usize;
     if is_quiet(source, tape, from, link) {

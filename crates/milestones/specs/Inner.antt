@@ -2,7 +2,7 @@
 use Prim.Native.Nat.{ℕ, zero, suc, _+_, _-_, _*_}
 use mathlib.Core.Path.{_≡_}
 use mathlib.Core.Bool.{Bool, true, false}
-use mathlib.Core.List.{List, _++_}
+use mathlib.Core.List.{List, [], _∷_, _++_}
 use lib.Dec.{eqb}
 use lib.ListN.{length, getD, set, take, drop}
 use Rattle.text.specs.Pick.{both, either}
@@ -10,7 +10,10 @@ use Rattle.tape.specs.Nodes.{nodeAt}
 use Rattle.table.specs.Bytes.{equal}
 use Rattle.table.specs.Entries.{Entry}
 use Rattle.cursor.specs.Inner.{Spanned}
+use Rattle.findings.specs.Written.{Wrote}
+use Rattle.validate.specs.Checks.{error}
 use Rattle.validate.specs.Milestones.{endsIn, baseOf}
+use Rattle.running.specs.Running.{countsOf, withCounts}
 use Rattle.running.specs.declared.Record.{Record}
 use Rattle.milestones.specs.declared.Found.{Found}
 use Rattle.milestones.specs.declared.Found.the-variants.{At, Nothing}
@@ -64,3 +67,8 @@ withOpens r n =
       warnings = r .warnings;
       infos = r .infos;
     }
+
+-- the finding of an end that nothing waits for is written, and nothing but the counts is another
+pub record ToldAlone (t : List ℕ) (i : ℕ) (l : List ℕ) (r : Record) (l′ : List ℕ) (q : Record) : Type 0 where
+  pub wrote : Wrote (error (nodeAt [] t i) 16 1 ∷ []) l (countsOf r) l′ (countsOf q)
+  pub same : q ≡ withCounts r (countsOf q)

@@ -1,11 +1,13 @@
--- What the step of a milestone promises.
+-- What a milestone promises: its finding and its step.
 use Prim.Native.Nat.{ℕ, _+_, _≤_}
 use mathlib.Core.Path.{_≡_}
-use mathlib.Core.List.{List}
+use mathlib.Core.List.{List, []}
 use Rattle.tape.specs.Nodes.{nodeAt}
 use Rattle.table.specs.Entries.{Entry}
-use Rattle.validate.specs.Milestones.{afterMilestone}
-use Rattle.running.specs.Running.{stateOf, countsOf, Opens}
+use Rattle.findings.specs.Written.{Wrote}
+use Rattle.validate.specs.Checks.{given}
+use Rattle.validate.specs.Milestones.{milestoneChecks, afterMilestone}
+use Rattle.running.specs.Running.{stateOf, countsOf, withCounts, Opens}
 use Rattle.running.specs.declared.Record.{Record}
 
 -- the record and the open starts are those after node i with its table entry; the chapters seen may be any
@@ -18,3 +20,8 @@ pub record Stepped (e : Entry) (s t : List ℕ) (i : ℕ) (words : List ℕ) (r 
   pub anchor : q .anchor ≡ r .anchor
   pub verse : q .verse ≡ r .verse
   pub verses : q .verses ≡ r .verses
+
+-- the finding is written if there is one, and the step is that of the record with it counted
+pub record Milestoned (e : Entry) (s t : List ℕ) (i : ℕ) (words l : List ℕ) (r : Record) (words′ l′ : List ℕ) (q : Record) : Type 0 where
+  pub wrote : Wrote (given (milestoneChecks e (stateOf s t [] words r) (nodeAt s t i))) l (countsOf r) l′ (countsOf q)
+  pub step : Stepped e s t i words (withCounts r (countsOf q)) words′ q

@@ -1,25 +1,23 @@
 // Milestones: starts and ends by their names, and the open starts, which are lent as two words each: a node's number and the length of its base.
-use findings::Counts;
 use findings::Severity;
 use running::Record;
 use table::Category;
 use table::MarkerInfo;
 ghost use mathlib.Core.Path.{_≡_};
-ghost use mathlib.Core.Bool.{not};
-ghost use mathlib.Core.List.{[]};
+ghost use mathlib.Core.List.{[], _∷_};
+ghost use Rattle.text.specs.Pick.{both};
 ghost use Prim.Native.Nat.{_+_, _*_, _<_, _≤_};
 ghost use lib.ListN.{length, drop};
-ghost use Rattle.text.specs.Pick.{both};
-ghost use Rattle.tape.specs.Nodes.{nodeAt};
+ghost use Rattle.tape.specs.Nodes.{nodeAt, count};
 ghost use Rattle.table.specs.Bytes.{equal};
 ghost use Rattle.table.specs.Entries.{entryOfInfo};
 ghost use Rattle.cursor.specs.Inner.{Spanned};
-ghost use Rattle.findings.specs.Written.{Wrote, Room};
-ghost use Rattle.validate.specs.Checks.{given};
-ghost use Rattle.validate.specs.Milestones.{endsIn, isStart, isMilestone, baseOf, waits, milestoneChecks};
-ghost use Rattle.running.specs.Running.{starts, stateOf, countsOf, Opens};
-ghost use Rattle.milestones.specs.Inner.{baseIn, named, Measured, nearestIn, pushed, removed, withOpens};
-ghost use Rattle.milestones.specs.Steps.{Stepped};
+ghost use Rattle.findings.specs.Written.{Room};
+ghost use Rattle.validate.specs.Checks.{given, error};
+ghost use Rattle.validate.specs.Milestones.{endsIn, baseOf, milestoneChecks};
+ghost use Rattle.running.specs.Running.{stateOf, countsOf, Opens};
+ghost use Rattle.milestones.specs.Inner.{baseIn, named, Measured, nearestIn, pushed, removed, withOpens, ToldAlone};
+ghost use Rattle.milestones.specs.Steps.{Milestoned};
 
 // An entry among the open starts, if there is one.
 enum Found {
@@ -172,56 +170,11 @@ fn with_open(r: Record, n: usize) -> Record
     }
 }
 
-// Whether a milestone, by its name, is an end that none of the first k open starts waits for.
-fn is_alone_named(
-    m: MarkerInfo,
-    source: &[u8],
-    tape: &[u8],
-    i: usize,
-    opens: &[u64],
-    k: usize,
-) -> bool
-    requires { ⌜ (Spanned (now source) (now tape) i) × Opens (now source) (now tape) (now opens) k ⌝ }
-    ensures { λ r. ⌜ r ≡ both (isMilestone (entryOfInfo m) (nodeAt (now (source .entry)) (now (tape .entry)) i)) (both (not (isStart (nodeAt (now (source .entry)) (now (tape .entry)) i))) (not (waits (nodeAt (now (source .entry)) (now (tape .entry)) i) (starts (now (source .entry)) (now (tape .entry)) (now (opens .entry)) k)))) ⌝ }
+// The finding of an end that no open start waits for.
+fn tell_alone(tape: &[u8], i: usize, rec: Record, list: &mut [u64]) -> Record
+    requires { ⌜ (i < count (now tape)) × Room (countsOf rec) (error (nodeAt [] (now tape) i) 16 1 ∷ []) ⌝ }
+    ensures { λ r. ⌜ ToldAlone (now (tape .entry)) i (now (list .entry)) rec (now (list .exit)) r ⌝ }
 {
-    let name = cursor::marker_name(source, tape, i);
-    if !is_milestone(m, name) {
-        return false;
-    }
-    if ends_in(name, b's') {
-        return false;
-    }
-    match nearest(source, tape, opens, k, base(name)) {
-        Found::At(_) => false,
-        Found::Nothing => true,
-    }
-}
-
-// The same of any marker. Most are no milestones, and their names aren't read.
-fn is_alone(m: MarkerInfo, source: &[u8], tape: &[u8], i: usize, opens: &[u64], k: usize) -> bool
-    requires { ⌜ (Spanned (now source) (now tape) i) × Opens (now source) (now tape) (now opens) k ⌝ }
-    ensures { λ r. ⌜ r ≡ both (isMilestone (entryOfInfo m) (nodeAt (now (source .entry)) (now (tape .entry)) i)) (both (not (isStart (nodeAt (now (source .entry)) (now (tape .entry)) i))) (not (waits (nodeAt (now (source .entry)) (now (tape .entry)) i) (starts (now (source .entry)) (now (tape .entry)) (now (opens .entry)) k)))) ⌝ }
-{
-    if running::is_of(m, 6) {
-        return is_alone_named(m, source, tape, i, opens, k);
-    }
-    false
-}
-
-// An end that no open start waits for.
-pub fn milestone_findings(
-    m: MarkerInfo,
-    source: &[u8],
-    tape: &[u8],
-    i: usize,
-    opens: &[u64],
-    rec: Record,
-    list: &mut [u64],
-) -> Counts
-    requires { ⌜ (Spanned (now source) (now tape) i) × (Opens (now source) (now tape) (now opens) (rec .«open»)) × Room (countsOf rec) (given (milestoneChecks (entryOfInfo m) (stateOf (now source) (now tape) [] (now opens) rec) (nodeAt (now source) (now tape) i))) ⌝ }
-    ensures { λ r. ⌜ Wrote (given (milestoneChecks (entryOfInfo m) (stateOf (now (source .entry)) (now (tape .entry)) [] (now (opens .entry)) rec) (nodeAt (now (source .entry)) (now (tape .entry)) i))) (now (list .entry)) (countsOf rec) (now (list .exit)) r ⌝ }
-{
-    let alone = is_alone(m, source, tape, i, opens, rec.open);
     let f = running::about(
         tape,
         i,
@@ -231,20 +184,21 @@ pub fn milestone_findings(
         0,
         0,
     );
-    findings::push_if(list, running::counts(rec), alone, f)
+    running::with_counts(rec, findings::push(list, running::counts(rec), f))
 }
 
-// The step of a milestone, by its name: a start is one more open start; an end takes the latest of its base.
-fn after_named(
+// A milestone, by its name: a start is one more open start; an end takes the latest of its base. One search tells whether it has one, and which.
+fn milestone_named(
     m: MarkerInfo,
     source: &[u8],
     tape: &[u8],
     i: usize,
     opens: &mut [u64],
     rec: Record,
+    list: &mut [u64],
 ) -> Record
-    requires { ⌜ (Spanned (now source) (now tape) i) × (Opens (now source) (now tape) (now opens) (rec .«open»)) × (2 * (rec .«open» + 1) ≤ length (now opens)) ⌝ }
-    ensures { λ r. ⌜ Stepped (entryOfInfo m) (now (source .entry)) (now (tape .entry)) i (now (opens .entry)) rec (now (opens .exit)) r ⌝ }
+    requires { ⌜ (Spanned (now source) (now tape) i) × (Opens (now source) (now tape) (now opens) (rec .«open»)) × (2 * (rec .«open» + 1) ≤ length (now opens)) × Room (countsOf rec) (given (milestoneChecks (entryOfInfo m) (stateOf (now source) (now tape) [] (now opens) rec) (nodeAt (now source) (now tape) i))) ⌝ }
+    ensures { λ r. ⌜ Milestoned (entryOfInfo m) (now (source .entry)) (now (tape .entry)) i (now (opens .entry)) (now (list .entry)) rec (now (opens .exit)) (now (list .exit)) r ⌝ }
 {
     let name = cursor::marker_name(source, tape, i);
     if !is_milestone(m, name) {
@@ -261,24 +215,25 @@ fn after_named(
             remove(opens, k, at);
             with_open(rec, k - 1)
         }
-        Found::Nothing => rec,
+        Found::Nothing => tell_alone(tape, i, rec, list),
     }
 }
 
 // The same of any marker. Most are no milestones, and their names aren't read.
-pub fn after_milestone(
+pub fn milestone(
     m: MarkerInfo,
     source: &[u8],
     tape: &[u8],
     i: usize,
     opens: &mut [u64],
     rec: Record,
+    list: &mut [u64],
 ) -> Record
-    requires { ⌜ (Spanned (now source) (now tape) i) × (Opens (now source) (now tape) (now opens) (rec .«open»)) × (2 * (rec .«open» + 1) ≤ length (now opens)) ⌝ }
-    ensures { λ r. ⌜ Stepped (entryOfInfo m) (now (source .entry)) (now (tape .entry)) i (now (opens .entry)) rec (now (opens .exit)) r ⌝ }
+    requires { ⌜ (Spanned (now source) (now tape) i) × (Opens (now source) (now tape) (now opens) (rec .«open»)) × (2 * (rec .«open» + 1) ≤ length (now opens)) × Room (countsOf rec) (given (milestoneChecks (entryOfInfo m) (stateOf (now source) (now tape) [] (now opens) rec) (nodeAt (now source) (now tape) i))) ⌝ }
+    ensures { λ r. ⌜ Milestoned (entryOfInfo m) (now (source .entry)) (now (tape .entry)) i (now (opens .entry)) (now (list .entry)) rec (now (opens .exit)) (now (list .exit)) r ⌝ }
 {
     if running::is_of(m, 6) {
-        return after_named(m, source, tape, i, opens, rec);
+        return milestone_named(m, source, tape, i, opens, rec, list);
     }
     rec
 }

@@ -9,7 +9,7 @@ use Rattle.running.specs.Running.{aroundOf}
 use Rattle.checker.specs.Walking.{walkAt}
 use Rattle.table.specs.Entries.{entryOfInfo}
 use Rattle.checker.proofs.Going.{Going, going-start, going-end, going-below, going-spanned, going-later, going-run, leaf-room, leaf-seen, leaf-verses, going-leaf, going-skip, visit-room, visit-able, going-open}
-use Rattle.checker.proofs.Visiting.{visit-with, visit-run, visit-below as visit-inside, visit-low, visit-spanned, own-room, visit-deep, milestone-opens, milestone-room, step-opens, step-room, visit-children, children-ready, children-room, visited, visited-quiet}
+use Rattle.checker.proofs.Visiting.{visit-with, visit-run, visit-below as visit-inside, visit-low, visit-spanned, own-room, visit-deep, milestone-opens, milestone-more, milestone-room, visit-children, children-ready, children-room, visited, visited-quiet}
 use Rattle.checker.proofs.Entries.{no-open, is-open, entry-none, entry-some, entry-inside}
 use borrow.Author.Needs.{needs}
 use Prim.Native.Nat.{ℕ, _<_}
@@ -27,12 +27,10 @@ use Rattle.checker.proofs.leaf.Reads as leaf-reads
 use Rattle.checker.proofs.numbers_after.Reads as numbers-after-reads
 use Rattle.cursor.proofs.marker_info.Reads as marker-info-reads
 use Rattle.cursor.proofs.past_node.Reads as past-node-reads
-use Rattle.milestones.proofs.after_milestone.Reads as after-milestone-reads
-use Rattle.milestones.proofs.milestone_findings.Reads as milestone-findings-reads
+use Rattle.milestones.proofs.milestone.Reads as milestone-reads
 use Rattle.opens.proofs.visit_marker.Reads as visit-marker-reads
 use Rattle.running.proofs.inside.Reads as inside-reads
 use Rattle.running.proofs.with_anchor.Reads as with-anchor-reads
-use Rattle.running.proofs.with_counts.Reads as with-counts-reads
 use Rattle.tape.proofs.kind_at.Reads as kind-at-reads
 use Rattle.tape.proofs.link_at.Reads as link-at-reads
 use Rattle.checker.proofs.+visit+walk.{statement}
@@ -59,12 +57,8 @@ walk-below t = and 7 walk-kinds.ps (falls 7 walk-kinds.ps _<_ μ-walk t) walk.Pr
 visit-visit-marker-requires : (t : ℕ) → visit-lts.Need-visit-marker-requires (
   visit-marker-reads.Asked,
   visit-marker-reads.Learnt,
-  milestone-findings-reads.Asked,
-  milestone-findings-reads.Learnt,
-  with-counts-reads.Asked,
-  with-counts-reads.Learnt,
-  after-milestone-reads.Asked,
-  after-milestone-reads.Learnt,
+  milestone-reads.Asked,
+  milestone-reads.Learnt,
   link-at-reads.Asked,
   link-at-reads.Learnt,
   is-quiet-reads.Asked,
@@ -82,15 +76,11 @@ visit-visit-marker-requires t c κs =
     let v = visit-with (aroundOf (a .around)) (entryOfInfo (a .m)) (now (a .list)) (p .0) (p .1) (p .3) in
     (p .2, visit-run v, p .1 .more, p .1 .opened, p .1 .attached, own-room v)
 
-visit-milestone-findings-requires : (t : ℕ) → visit-lts.Need-milestone-findings-requires (
+visit-milestone-requires : (t : ℕ) → visit-lts.Need-milestone-requires (
   visit-marker-reads.Asked,
   visit-marker-reads.Learnt,
-  milestone-findings-reads.Asked,
-  milestone-findings-reads.Learnt,
-  with-counts-reads.Asked,
-  with-counts-reads.Learnt,
-  after-milestone-reads.Asked,
-  after-milestone-reads.Learnt,
+  milestone-reads.Asked,
+  milestone-reads.Learnt,
   link-at-reads.Asked,
   link-at-reads.Learnt,
   is-quiet-reads.Asked,
@@ -102,76 +92,19 @@ visit-milestone-findings-requires : (t : ℕ) → visit-lts.Need-milestone-findi
   walk-below t,
   walk.Post,
 ) (visit-at t) visit.Post
-visit-milestone-findings-requires t c κs =
+visit-milestone-requires t c κs =
     let p = c .before .before .before .before .before .before .before .before .before .before .before .before .before .pre .1 in
     let a = c .before .before .before .before .before .before .before .before .before .before .before .before .before .args in
     let v = visit-with (aroundOf (a .around)) (entryOfInfo (a .m)) (now (a .list)) (p .0) (p .1) (p .3) in
     let m1 = c .before .before .before .before .visit-marker in
     let l1 = m1 .last .1 .1 .1 .1 .1 .1 .1 .1 .1 .0 in
-    (visit-spanned v, milestone-opens v l1 (m1 .result) (m1 .ensures), milestone-room v l1 (m1 .result) (m1 .ensures))
-
-visit-with-counts-requires : (t : ℕ) → visit-lts.Need-with-counts-requires (
-  visit-marker-reads.Asked,
-  visit-marker-reads.Learnt,
-  milestone-findings-reads.Asked,
-  milestone-findings-reads.Learnt,
-  with-counts-reads.Asked,
-  with-counts-reads.Learnt,
-  after-milestone-reads.Asked,
-  after-milestone-reads.Learnt,
-  link-at-reads.Asked,
-  link-at-reads.Learnt,
-  is-quiet-reads.Asked,
-  is-quiet-reads.Learnt,
-  with-anchor-reads.Asked,
-  with-anchor-reads.Learnt,
-  inside-reads.Asked,
-  inside-reads.Learnt,
-  walk-below t,
-  walk.Post,
-) (visit-at t) visit.Post
-visit-with-counts-requires t c κs = search needs
-
-visit-after-milestone-requires : (t : ℕ) → visit-lts.Need-after-milestone-requires (
-  visit-marker-reads.Asked,
-  visit-marker-reads.Learnt,
-  milestone-findings-reads.Asked,
-  milestone-findings-reads.Learnt,
-  with-counts-reads.Asked,
-  with-counts-reads.Learnt,
-  after-milestone-reads.Asked,
-  after-milestone-reads.Learnt,
-  link-at-reads.Asked,
-  link-at-reads.Learnt,
-  is-quiet-reads.Asked,
-  is-quiet-reads.Learnt,
-  with-anchor-reads.Asked,
-  with-anchor-reads.Learnt,
-  inside-reads.Asked,
-  inside-reads.Learnt,
-  walk-below t,
-  walk.Post,
-) (visit-at t) visit.Post
-visit-after-milestone-requires t c κs =
-    let p = c .before .before .before .before .before .before .before .before .before .before .before .before .before .before .before .before .before .before .pre .1 in
-    let a = c .before .before .before .before .before .before .before .before .before .before .before .before .before .before .before .before .before .before .args in
-    let v = visit-with (aroundOf (a .around)) (entryOfInfo (a .m)) (now (a .list)) (p .0) (p .1) (p .3) in
-    let m1 = c .before .before .before .before .before .before .before .before .before .visit-marker in
-    let l1 = m1 .last .1 .1 .1 .1 .1 .1 .1 .1 .1 .0 in
-    let mf = c .before .before .before .before .milestone-findings in
-    let l2 = mf .last .1 .1 .1 .1 .1 .1 .0 in
-    let wc = c .with-counts in
-    rw (wc .ensures) (visit-spanned v, step-opens v l1 (m1 .result) (m1 .ensures) l2 (mf .result) (mf .ensures), step-room v l1 (m1 .result) (m1 .ensures) l2 (mf .result) (mf .ensures))
+    (visit-spanned v, milestone-opens v l1 (m1 .result) (m1 .ensures), milestone-more v l1 (m1 .result) (m1 .ensures), milestone-room v l1 (m1 .result) (m1 .ensures))
 
 visit-add-from : (t : ℕ) → visit-lts.Need-add-from (
   visit-marker-reads.Asked,
   visit-marker-reads.Learnt,
-  milestone-findings-reads.Asked,
-  milestone-findings-reads.Learnt,
-  with-counts-reads.Asked,
-  with-counts-reads.Learnt,
-  after-milestone-reads.Asked,
-  after-milestone-reads.Learnt,
+  milestone-reads.Asked,
+  milestone-reads.Learnt,
   link-at-reads.Asked,
   link-at-reads.Learnt,
   is-quiet-reads.Asked,
@@ -184,8 +117,8 @@ visit-add-from : (t : ℕ) → visit-lts.Need-add-from (
   walk.Post,
 ) (visit-at t) visit.Post
 visit-add-from t c =
-    let p = c .before .before .before .before .before .before .before .before .before .before .before .before .before .before .before .before .before .before .before .before .before .pre .1 in
-    let a = c .before .before .before .before .before .before .before .before .before .before .before .before .before .before .before .before .before .before .before .before .before .args in
+    let p = c .before .before .before .before .before .before .before .before .before .before .before .before .before .before .before .before .before .before .pre .1 in
+    let a = c .before .before .before .before .before .before .before .before .before .before .before .before .before .before .before .before .before .before .args in
     let v = visit-with (aroundOf (a .around)) (entryOfInfo (a .m)) (now (a .list)) (p .0) (p .1) (p .3) in
     let m = visit-low v in
     omega arith
@@ -193,12 +126,8 @@ visit-add-from t c =
 visit-link-at-requires : (t : ℕ) → visit-lts.Need-link-at-requires (
   visit-marker-reads.Asked,
   visit-marker-reads.Learnt,
-  milestone-findings-reads.Asked,
-  milestone-findings-reads.Learnt,
-  with-counts-reads.Asked,
-  with-counts-reads.Learnt,
-  after-milestone-reads.Asked,
-  after-milestone-reads.Learnt,
+  milestone-reads.Asked,
+  milestone-reads.Learnt,
   link-at-reads.Asked,
   link-at-reads.Learnt,
   is-quiet-reads.Asked,
@@ -211,20 +140,16 @@ visit-link-at-requires : (t : ℕ) → visit-lts.Need-link-at-requires (
   walk.Post,
 ) (visit-at t) visit.Post
 visit-link-at-requires t c κs =
-    let p = c .before .before .before .before .before .before .before .before .before .before .before .before .before .before .before .before .before .before .before .before .before .pre .1 in
-    let a = c .before .before .before .before .before .before .before .before .before .before .before .before .before .before .before .before .before .before .before .before .before .args in
+    let p = c .before .before .before .before .before .before .before .before .before .before .before .before .before .before .before .before .before .before .pre .1 in
+    let a = c .before .before .before .before .before .before .before .before .before .before .before .before .before .before .before .before .before .before .args in
     let v = visit-with (aroundOf (a .around)) (entryOfInfo (a .m)) (now (a .list)) (p .0) (p .1) (p .3) in
     visit-inside v
 
 visit-cast-link : (t : ℕ) → visit-lts.Need-cast-link (
   visit-marker-reads.Asked,
   visit-marker-reads.Learnt,
-  milestone-findings-reads.Asked,
-  milestone-findings-reads.Learnt,
-  with-counts-reads.Asked,
-  with-counts-reads.Learnt,
-  after-milestone-reads.Asked,
-  after-milestone-reads.Learnt,
+  milestone-reads.Asked,
+  milestone-reads.Learnt,
   link-at-reads.Asked,
   link-at-reads.Learnt,
   is-quiet-reads.Asked,
@@ -241,12 +166,8 @@ visit-cast-link t c = search needs
 visit-is-quiet-requires : (t : ℕ) → visit-lts.Need-is-quiet-requires (
   visit-marker-reads.Asked,
   visit-marker-reads.Learnt,
-  milestone-findings-reads.Asked,
-  milestone-findings-reads.Learnt,
-  with-counts-reads.Asked,
-  with-counts-reads.Learnt,
-  after-milestone-reads.Asked,
-  after-milestone-reads.Learnt,
+  milestone-reads.Asked,
+  milestone-reads.Learnt,
   link-at-reads.Asked,
   link-at-reads.Learnt,
   is-quiet-reads.Asked,
@@ -259,20 +180,16 @@ visit-is-quiet-requires : (t : ℕ) → visit-lts.Need-is-quiet-requires (
   walk.Post,
 ) (visit-at t) visit.Post
 visit-is-quiet-requires t c κs =
-    let p = c .before .before .before .before .before .before .before .before .before .before .before .before .before .before .before .before .before .before .before .before .before .before .pre .1 in
-    let a = c .before .before .before .before .before .before .before .before .before .before .before .before .before .before .before .before .before .before .before .before .before .before .args in
+    let p = c .before .before .before .before .before .before .before .before .before .before .before .before .before .before .before .before .before .before .before .pre .1 in
+    let a = c .before .before .before .before .before .before .before .before .before .before .before .before .before .before .before .before .before .before .before .args in
     let v = visit-with (aroundOf (a .around)) (entryOfInfo (a .m)) (now (a .list)) (p .0) (p .1) (p .3) in
     rw (c .link-at .ensures) (visit-children v)
 
 visit-with-anchor-requires : (t : ℕ) → visit-lts.Need-with-anchor-requires (
   visit-marker-reads.Asked,
   visit-marker-reads.Learnt,
-  milestone-findings-reads.Asked,
-  milestone-findings-reads.Learnt,
-  with-counts-reads.Asked,
-  with-counts-reads.Learnt,
-  after-milestone-reads.Asked,
-  after-milestone-reads.Learnt,
+  milestone-reads.Asked,
+  milestone-reads.Learnt,
   link-at-reads.Asked,
   link-at-reads.Learnt,
   is-quiet-reads.Asked,
@@ -289,12 +206,8 @@ visit-with-anchor-requires t c κs = search needs
 visit-same-length : (t : ℕ) → visit-lts.Need-same-length (
   visit-marker-reads.Asked,
   visit-marker-reads.Learnt,
-  milestone-findings-reads.Asked,
-  milestone-findings-reads.Learnt,
-  with-counts-reads.Asked,
-  with-counts-reads.Learnt,
-  after-milestone-reads.Asked,
-  after-milestone-reads.Learnt,
+  milestone-reads.Asked,
+  milestone-reads.Learnt,
   link-at-reads.Asked,
   link-at-reads.Learnt,
   is-quiet-reads.Asked,
@@ -306,17 +219,13 @@ visit-same-length : (t : ℕ) → visit-lts.Need-same-length (
   walk-below t,
   walk.Post,
 ) (visit-at t) visit.Post
-visit-same-length t c = c .before .before .before .before .before .before .after-milestone .kept .1 .1 .1 .1 .0
+visit-same-length t c = c .before .before .before .before .before .before .before .before .milestone .kept .1 .1 .1 .1 .0
 
 visit-same-length-2 : (t : ℕ) → visit-lts.Need-same-length-2 (
   visit-marker-reads.Asked,
   visit-marker-reads.Learnt,
-  milestone-findings-reads.Asked,
-  milestone-findings-reads.Learnt,
-  with-counts-reads.Asked,
-  with-counts-reads.Learnt,
-  after-milestone-reads.Asked,
-  after-milestone-reads.Learnt,
+  milestone-reads.Asked,
+  milestone-reads.Learnt,
   link-at-reads.Asked,
   link-at-reads.Learnt,
   is-quiet-reads.Asked,
@@ -328,17 +237,13 @@ visit-same-length-2 : (t : ℕ) → visit-lts.Need-same-length-2 (
   walk-below t,
   walk.Post,
 ) (visit-at t) visit.Post
-visit-same-length-2 t c = c .before .before .before .before .before .before .before .before .before .before .before .milestone-findings .kept .1 .1 .1 .1 .1 .1 .0 ∙ c .before .before .before .before .before .before .before .before .before .before .before .before .before .before .before .before .visit-marker .kept .1 .1 .1 .1 .1 .1 .1 .1 .1 .0
+visit-same-length-2 t c = c .before .before .before .before .before .before .before .before .milestone .kept .1 .1 .1 .1 .1 .1 .0 ∙ c .before .before .before .before .before .before .before .before .before .before .before .before .before .visit-marker .kept .1 .1 .1 .1 .1 .1 .1 .1 .1 .0
 
 visit-returns : (t : ℕ) → visit-lts.Need-returns (
   visit-marker-reads.Asked,
   visit-marker-reads.Learnt,
-  milestone-findings-reads.Asked,
-  milestone-findings-reads.Learnt,
-  with-counts-reads.Asked,
-  with-counts-reads.Learnt,
-  after-milestone-reads.Asked,
-  after-milestone-reads.Learnt,
+  milestone-reads.Asked,
+  milestone-reads.Learnt,
   link-at-reads.Asked,
   link-at-reads.Learnt,
   is-quiet-reads.Asked,
@@ -351,30 +256,23 @@ visit-returns : (t : ℕ) → visit-lts.Need-returns (
   walk.Post,
 ) (visit-at t) visit.Post
 visit-returns t c =
-    let p = c .before .before .before .before .before .before .before .before .before .before .before .before .before .before .before .before .before .before .before .before .before .before .before .before .before .pre .1 in
-    let a = c .before .before .before .before .before .before .before .before .before .before .before .before .before .before .before .before .before .before .before .before .before .before .before .before .before .args in
+    let p = c .before .before .before .before .before .before .before .before .before .before .before .before .before .before .before .before .before .before .before .before .before .before .pre .1 in
+    let a = c .before .before .before .before .before .before .before .before .before .before .before .before .before .before .before .before .before .before .before .before .before .before .args in
     let v = visit-with (aroundOf (a .around)) (entryOfInfo (a .m)) (now (a .list)) (p .0) (p .1) (p .3) in
-    let m1 = c .before .before .before .before .before .before .before .before .before .before .before .before .before .before .before .before .visit-marker in
+    let m1 = c .before .before .before .before .before .before .before .before .before .before .before .before .before .visit-marker in
     let l1 = m1 .last .1 .1 .1 .1 .1 .1 .1 .1 .1 .0 in
-    let mf = c .before .before .before .before .before .before .before .before .before .before .before .milestone-findings in
-    let l2 = mf .last .1 .1 .1 .1 .1 .1 .0 in
-    let wc = c .before .before .before .before .before .before .before .with-counts in
-    let am = c .before .before .before .before .before .before .after-milestone in
-    let o2 = am .last .1 .1 .1 .1 .0 in
-    let st = rw (wc .ensures) at (am .ensures) in
+    let ms = c .before .before .before .before .before .before .before .before .milestone in
+    let l2 = ms .last .1 .1 .1 .1 .1 .1 .0 in
+    let o2 = ms .last .1 .1 .1 .1 .0 in
     let lk = c .before .before .before .link-at in
     let q = c .before .before .is-quiet in
-    rw (c .with-anchor .ensures) (visited-quiet v l1 (m1 .result) (m1 .ensures) l2 (mf .result) (mf .ensures) o2 (am .result) (am .kept .1 .1 .1 .1 .0) st (rw (lk .ensures) at (sym (q .ensures) ∙ c .before .if1 .taken)))
+    rw (c .with-anchor .ensures) (visited-quiet v l1 (m1 .result) (m1 .ensures) l2 o2 (ms .result) (ms .kept .1 .1 .1 .1 .0) (ms .ensures) (rw (lk .ensures) at (sym (q .ensures) ∙ c .before .if1 .taken)))
 
 visit-sub-walk : (t : ℕ) → visit-lts.Need-sub-walk (
   visit-marker-reads.Asked,
   visit-marker-reads.Learnt,
-  milestone-findings-reads.Asked,
-  milestone-findings-reads.Learnt,
-  with-counts-reads.Asked,
-  with-counts-reads.Learnt,
-  after-milestone-reads.Asked,
-  after-milestone-reads.Learnt,
+  milestone-reads.Asked,
+  milestone-reads.Learnt,
   link-at-reads.Asked,
   link-at-reads.Learnt,
   is-quiet-reads.Asked,
@@ -387,20 +285,16 @@ visit-sub-walk : (t : ℕ) → visit-lts.Need-sub-walk (
   walk.Post,
 ) (visit-at t) visit.Post
 visit-sub-walk t c =
-    let p = c .before .before .before .before .before .before .before .before .before .before .before .before .before .before .before .before .before .before .before .before .before .before .before .before .pre .1 in
-    let a = c .before .before .before .before .before .before .before .before .before .before .before .before .before .before .before .before .before .before .before .before .before .before .before .before .args in
+    let p = c .before .before .before .before .before .before .before .before .before .before .before .before .before .before .before .before .before .before .before .before .before .pre .1 in
+    let a = c .before .before .before .before .before .before .before .before .before .before .before .before .before .before .before .before .before .before .before .before .before .args in
     let v = visit-with (aroundOf (a .around)) (entryOfInfo (a .m)) (now (a .list)) (p .0) (p .1) (p .3) in
     visit-deep v
 
 visit-inside-requires : (t : ℕ) → visit-lts.Need-inside-requires (
   visit-marker-reads.Asked,
   visit-marker-reads.Learnt,
-  milestone-findings-reads.Asked,
-  milestone-findings-reads.Learnt,
-  with-counts-reads.Asked,
-  with-counts-reads.Learnt,
-  after-milestone-reads.Asked,
-  after-milestone-reads.Learnt,
+  milestone-reads.Asked,
+  milestone-reads.Learnt,
   link-at-reads.Asked,
   link-at-reads.Learnt,
   is-quiet-reads.Asked,
@@ -417,12 +311,8 @@ visit-inside-requires t c κs = search needs
 visit-with-anchor-requires-2 : (t : ℕ) → visit-lts.Need-with-anchor-requires-2 (
   visit-marker-reads.Asked,
   visit-marker-reads.Learnt,
-  milestone-findings-reads.Asked,
-  milestone-findings-reads.Learnt,
-  with-counts-reads.Asked,
-  with-counts-reads.Learnt,
-  after-milestone-reads.Asked,
-  after-milestone-reads.Learnt,
+  milestone-reads.Asked,
+  milestone-reads.Learnt,
   link-at-reads.Asked,
   link-at-reads.Learnt,
   is-quiet-reads.Asked,
@@ -439,12 +329,8 @@ visit-with-anchor-requires-2 t c κs = search needs
 visit-walk-requires : (t : ℕ) → visit-lts.Need-walk-requires (
   visit-marker-reads.Asked,
   visit-marker-reads.Learnt,
-  milestone-findings-reads.Asked,
-  milestone-findings-reads.Learnt,
-  with-counts-reads.Asked,
-  with-counts-reads.Learnt,
-  after-milestone-reads.Asked,
-  after-milestone-reads.Learnt,
+  milestone-reads.Asked,
+  milestone-reads.Learnt,
   link-at-reads.Asked,
   link-at-reads.Learnt,
   is-quiet-reads.Asked,
@@ -457,32 +343,25 @@ visit-walk-requires : (t : ℕ) → visit-lts.Need-walk-requires (
   walk.Post,
 ) (visit-at t) visit.Post
 visit-walk-requires t c κs =
-    let p = c .before .before .before .before .before .before .before .before .before .before .before .before .before .before .before .before .before .before .before .before .before .before .before .before .before .before .before .before .before .pre .1 in
-    let a = c .before .before .before .before .before .before .before .before .before .before .before .before .before .before .before .before .before .before .before .before .before .before .before .before .before .before .before .before .before .args in
+    let p = c .before .before .before .before .before .before .before .before .before .before .before .before .before .before .before .before .before .before .before .before .before .before .before .before .before .before .pre .1 in
+    let a = c .before .before .before .before .before .before .before .before .before .before .before .before .before .before .before .before .before .before .before .before .before .before .before .before .before .before .args in
     let v = visit-with (aroundOf (a .around)) (entryOfInfo (a .m)) (now (a .list)) (p .0) (p .1) (p .3) in
-    let m1 = c .before .before .before .before .before .before .before .before .before .before .before .before .before .before .before .before .before .before .before .before .visit-marker in
+    let m1 = c .before .before .before .before .before .before .before .before .before .before .before .before .before .before .before .before .before .visit-marker in
     let l1 = m1 .last .1 .1 .1 .1 .1 .1 .1 .1 .1 .0 in
-    let mf = c .before .before .before .before .before .before .before .before .before .before .before .before .before .before .before .milestone-findings in
-    let l2 = mf .last .1 .1 .1 .1 .1 .1 .0 in
-    let wc = c .before .before .before .before .before .before .before .before .before .before .before .with-counts in
-    let am = c .before .before .before .before .before .before .before .before .before .before .after-milestone in
-    let o2 = am .last .1 .1 .1 .1 .0 in
-    let st = rw (wc .ensures) at (am .ensures) in
+    let ms = c .before .before .before .before .before .before .before .before .before .before .before .before .milestone in
+    let l2 = ms .last .1 .1 .1 .1 .1 .1 .0 in
+    let o2 = ms .last .1 .1 .1 .1 .0 in
     let lk = c .before .before .before .before .before .before .before .link-at in
     let ins = c .before .before .before .before .inside in
     let wa = c .before .before .before .with-anchor2 in
     let d = visit-deep v in
-    (omega (arith, c .before .before .before .before .before .before .before .before .before .before .before .before .before .before .before .before .before .before .before .before .before .before .before .before .before .before .before .before .before .pre .0), rw (lk .ensures, wa .ensures) (children-ready v l1 (m1 .result) (m1 .ensures) l2 (mf .result) (mf .ensures) o2 (am .result) (am .kept .1 .1 .1 .1 .0) st, children-room v l1 (m1 .result) (m1 .ensures) l2 (mf .result) (mf .ensures) o2 (am .result) (am .kept .1 .1 .1 .1 .0) st (aroundOf (ins .result)) (ins .ensures)))
+    (omega (arith, c .before .before .before .before .before .before .before .before .before .before .before .before .before .before .before .before .before .before .before .before .before .before .before .before .before .before .pre .0), rw (lk .ensures, wa .ensures) (children-ready v l1 (m1 .result) (m1 .ensures) l2 o2 (ms .result) (ms .kept .1 .1 .1 .1 .0) (ms .ensures), children-room v l1 (m1 .result) (m1 .ensures) l2 o2 (ms .result) (ms .kept .1 .1 .1 .1 .0) (ms .ensures) (aroundOf (ins .result)) (ins .ensures)))
 
 visit-with-anchor-requires-3 : (t : ℕ) → visit-lts.Need-with-anchor-requires-3 (
   visit-marker-reads.Asked,
   visit-marker-reads.Learnt,
-  milestone-findings-reads.Asked,
-  milestone-findings-reads.Learnt,
-  with-counts-reads.Asked,
-  with-counts-reads.Learnt,
-  after-milestone-reads.Asked,
-  after-milestone-reads.Learnt,
+  milestone-reads.Asked,
+  milestone-reads.Learnt,
   link-at-reads.Asked,
   link-at-reads.Learnt,
   is-quiet-reads.Asked,
@@ -499,12 +378,8 @@ visit-with-anchor-requires-3 t c κs = search needs
 visit-same-length-3 : (t : ℕ) → visit-lts.Need-same-length-3 (
   visit-marker-reads.Asked,
   visit-marker-reads.Learnt,
-  milestone-findings-reads.Asked,
-  milestone-findings-reads.Learnt,
-  with-counts-reads.Asked,
-  with-counts-reads.Learnt,
-  after-milestone-reads.Asked,
-  after-milestone-reads.Learnt,
+  milestone-reads.Asked,
+  milestone-reads.Learnt,
   link-at-reads.Asked,
   link-at-reads.Learnt,
   is-quiet-reads.Asked,
@@ -521,12 +396,8 @@ visit-same-length-3 t c = c .before .before .before .before .before .before .bef
 visit-same-length-4 : (t : ℕ) → visit-lts.Need-same-length-4 (
   visit-marker-reads.Asked,
   visit-marker-reads.Learnt,
-  milestone-findings-reads.Asked,
-  milestone-findings-reads.Learnt,
-  with-counts-reads.Asked,
-  with-counts-reads.Learnt,
-  after-milestone-reads.Asked,
-  after-milestone-reads.Learnt,
+  milestone-reads.Asked,
+  milestone-reads.Learnt,
   link-at-reads.Asked,
   link-at-reads.Learnt,
   is-quiet-reads.Asked,
@@ -538,17 +409,13 @@ visit-same-length-4 : (t : ℕ) → visit-lts.Need-same-length-4 (
   walk-below t,
   walk.Post,
 ) (visit-at t) visit.Post
-visit-same-length-4 t c = c .before .before .before .before .before .before .before .walk .kept .1 .1 .1 .1 .1 .1 .1 .1 .1 .1 .1 .0 ∙ c .before .before .before .before .before .before .before .before .before .before .before .before .before .before .before .before .before .before .after-milestone .kept .1 .1 .1 .1 .0
+visit-same-length-4 t c = c .before .before .before .before .before .before .before .walk .kept .1 .1 .1 .1 .1 .1 .1 .1 .1 .1 .1 .0 ∙ c .before .before .before .before .before .before .before .before .before .before .before .before .before .before .before .before .before .before .before .before .milestone .kept .1 .1 .1 .1 .0
 
 visit-same-length-5 : (t : ℕ) → visit-lts.Need-same-length-5 (
   visit-marker-reads.Asked,
   visit-marker-reads.Learnt,
-  milestone-findings-reads.Asked,
-  milestone-findings-reads.Learnt,
-  with-counts-reads.Asked,
-  with-counts-reads.Learnt,
-  after-milestone-reads.Asked,
-  after-milestone-reads.Learnt,
+  milestone-reads.Asked,
+  milestone-reads.Learnt,
   link-at-reads.Asked,
   link-at-reads.Learnt,
   is-quiet-reads.Asked,
@@ -560,17 +427,13 @@ visit-same-length-5 : (t : ℕ) → visit-lts.Need-same-length-5 (
   walk-below t,
   walk.Post,
 ) (visit-at t) visit.Post
-visit-same-length-5 t c = c .before .before .before .before .before .before .before .walk .kept .1 .1 .1 .1 .1 .1 .1 .1 .1 .1 .1 .1 .0 ∙ c .before .before .before .before .before .before .before .before .before .before .before .before .before .before .before .before .before .before .before .before .before .before .before .milestone-findings .kept .1 .1 .1 .1 .1 .1 .0 ∙ c .before .before .before .before .before .before .before .before .before .before .before .before .before .before .before .before .before .before .before .before .before .before .before .before .before .before .before .before .visit-marker .kept .1 .1 .1 .1 .1 .1 .1 .1 .1 .0
+visit-same-length-5 t c = c .before .before .before .before .before .before .before .walk .kept .1 .1 .1 .1 .1 .1 .1 .1 .1 .1 .1 .1 .0 ∙ c .before .before .before .before .before .before .before .before .before .before .before .before .before .before .before .before .before .before .before .before .milestone .kept .1 .1 .1 .1 .1 .1 .0 ∙ c .before .before .before .before .before .before .before .before .before .before .before .before .before .before .before .before .before .before .before .before .before .before .before .before .before .visit-marker .kept .1 .1 .1 .1 .1 .1 .1 .1 .1 .0
 
 visit-returns-2 : (t : ℕ) → visit-lts.Need-returns-2 (
   visit-marker-reads.Asked,
   visit-marker-reads.Learnt,
-  milestone-findings-reads.Asked,
-  milestone-findings-reads.Learnt,
-  with-counts-reads.Asked,
-  with-counts-reads.Learnt,
-  after-milestone-reads.Asked,
-  after-milestone-reads.Learnt,
+  milestone-reads.Asked,
+  milestone-reads.Learnt,
   link-at-reads.Asked,
   link-at-reads.Learnt,
   is-quiet-reads.Asked,
@@ -583,23 +446,20 @@ visit-returns-2 : (t : ℕ) → visit-lts.Need-returns-2 (
   walk.Post,
 ) (visit-at t) visit.Post
 visit-returns-2 t c =
-    let p = c .before .before .before .before .before .before .before .before .before .before .before .before .before .before .before .before .before .before .before .before .before .before .before .before .before .before .before .before .before .before .before .before .before .before .before .before .before .pre .1 in
-    let a = c .before .before .before .before .before .before .before .before .before .before .before .before .before .before .before .before .before .before .before .before .before .before .before .before .before .before .before .before .before .before .before .before .before .before .before .before .before .args in
+    let p = c .before .before .before .before .before .before .before .before .before .before .before .before .before .before .before .before .before .before .before .before .before .before .before .before .before .before .before .before .before .before .before .before .before .before .pre .1 in
+    let a = c .before .before .before .before .before .before .before .before .before .before .before .before .before .before .before .before .before .before .before .before .before .before .before .before .before .before .before .before .before .before .before .before .before .before .args in
     let v = visit-with (aroundOf (a .around)) (entryOfInfo (a .m)) (now (a .list)) (p .0) (p .1) (p .3) in
-    let m1 = c .before .before .before .before .before .before .before .before .before .before .before .before .before .before .before .before .before .before .before .before .before .before .before .before .before .before .before .before .visit-marker in
+    let m1 = c .before .before .before .before .before .before .before .before .before .before .before .before .before .before .before .before .before .before .before .before .before .before .before .before .before .visit-marker in
     let l1 = m1 .last .1 .1 .1 .1 .1 .1 .1 .1 .1 .0 in
-    let mf = c .before .before .before .before .before .before .before .before .before .before .before .before .before .before .before .before .before .before .before .before .before .before .before .milestone-findings in
-    let l2 = mf .last .1 .1 .1 .1 .1 .1 .0 in
-    let wc = c .before .before .before .before .before .before .before .before .before .before .before .before .before .before .before .before .before .before .before .with-counts in
-    let am = c .before .before .before .before .before .before .before .before .before .before .before .before .before .before .before .before .before .before .after-milestone in
-    let o2 = am .last .1 .1 .1 .1 .0 in
-    let st = rw (wc .ensures) at (am .ensures) in
+    let ms = c .before .before .before .before .before .before .before .before .before .before .before .before .before .before .before .before .before .before .before .before .milestone in
+    let l2 = ms .last .1 .1 .1 .1 .1 .1 .0 in
+    let o2 = ms .last .1 .1 .1 .1 .0 in
     let lk = c .before .before .before .before .before .before .before .before .before .before .before .before .before .before .before .link-at in
     let ins = c .before .before .before .before .before .before .before .before .before .before .before .before .inside in
     let wa = c .before .before .before .before .before .before .before .before .before .before .before .with-anchor2 in
     let wk = c .before .before .before .before .before .before .before .walk in
     rw (c .with-anchor3 .ensures)
-    (visited v l1 (m1 .result) (m1 .ensures) l2 (mf .result) (mf .ensures) o2 (am .result) (am .kept .1 .1 .1 .1 .0) st (aroundOf (ins .result)) (wk .last .1 .1 .1 .1 .1 .1 .1 .1 .1 .1 .0) (wk .last .1 .1 .1 .1 .1 .1 .1 .1 .1 .1 .1 .0) (wk .last .1 .1 .1 .1 .1 .1 .1 .1 .1 .1 .1 .1 .0) (wk .result) (ins .ensures) (rw (lk .ensures, wa .ensures) at (wk .ensures)))
+    (visited v l1 (m1 .result) (m1 .ensures) l2 o2 (ms .result) (ms .kept .1 .1 .1 .1 .0) (ms .ensures) (aroundOf (ins .result)) (wk .last .1 .1 .1 .1 .1 .1 .1 .1 .1 .1 .0) (wk .last .1 .1 .1 .1 .1 .1 .1 .1 .1 .1 .1 .0) (wk .last .1 .1 .1 .1 .1 .1 .1 .1 .1 .1 .1 .1 .0) (wk .result) (ins .ensures) (rw (lk .ensures, wa .ensures) at (wk .ensures)))
 
 abbrev walk-Inv-loop : walk-lts.InvT-loop
 walk-Inv-loop table words count source tape from to depth around seen₀ opens₀ list₀ r₀ numbers₀ i₀ seen opens list r numbers i =
@@ -1051,12 +911,8 @@ pub +visit+walk-spec : {M : Type 1} → statement M
 +visit+walk-spec = close μ-visit μ-walk (λ t. visit-lts.spec (
   visit-marker-reads.Asked,
   visit-marker-reads.Learnt,
-  milestone-findings-reads.Asked,
-  milestone-findings-reads.Learnt,
-  with-counts-reads.Asked,
-  with-counts-reads.Learnt,
-  after-milestone-reads.Asked,
-  after-milestone-reads.Learnt,
+  milestone-reads.Asked,
+  milestone-reads.Learnt,
   link-at-reads.Asked,
   link-at-reads.Learnt,
   is-quiet-reads.Asked,
@@ -1071,9 +927,7 @@ pub +visit+walk-spec : {M : Type 1} → statement M
     (visit-at t)
     visit.Post
     (visit-visit-marker-requires t)
-    (visit-milestone-findings-requires t)
-    (visit-with-counts-requires t)
-    (visit-after-milestone-requires t)
+    (visit-milestone-requires t)
     (visit-add-from t)
     (visit-link-at-requires t)
     (visit-cast-link t)
