@@ -1,0 +1,62 @@
+//! What the examples of the bindings print, by the published code and the plain refusals.
+
+use std::fmt::Write;
+
+use oracle::coverage::code_name;
+use oracle::document::Document;
+use oracle::examples::examples;
+use oracle::judge::{Judged, judge};
+use oracle::refusals::{refusal, verses_visited};
+
+const FOLDERS: [&str; 7] = [
+    "listing",
+    "telling",
+    "greek",
+    "arabic",
+    "clean",
+    "refused-3",
+    "refused-7",
+];
+
+const SEVERITIES: [&str; 3] = ["error", "warning", "info"];
+
+fn printed(out: &mut String, name: &str, document: &Document) {
+    let nodes = document.node_count();
+    if let Some((number, place)) = refusal(document, nodes, nodes) {
+        writeln!(out, "{name}: refused by number {number}, place {place}").unwrap();
+        return;
+    }
+    let Judged::Findings(findings) = judge(document) else {
+        panic!("no sum of an example leaves 32 bits");
+    };
+    let count = |severity| findings.iter().filter(|f| f.severity == severity).count();
+    let (errors, warnings, infos) = (count(0), count(1), count(2));
+    let verses = verses_visited(document);
+    writeln!(
+        out,
+        "{name}: errors {errors}, warnings {warnings}, infos {infos}, verses {verses}"
+    )
+    .unwrap();
+    for found in &findings {
+        let severity = SEVERITIES[found.severity as usize];
+        let (code, end) = (code_name(found.code), found.start + found.len);
+        writeln!(
+            out,
+            "{severity}[{code}] {}..{end}: {}",
+            found.start, found.message
+        )
+        .unwrap();
+    }
+}
+
+#[test]
+fn the_stored_output_is_the_published_one() {
+    let all = examples();
+    let mut out = String::new();
+    for name in FOLDERS {
+        let (_, document) = all.iter().find(|(its, _)| *its == name).expect("a folder");
+        printed(&mut out, name, document);
+    }
+    let stored = include_str!("../../bindings/c/expected");
+    assert_eq!(out, stored);
+}
