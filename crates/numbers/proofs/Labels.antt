@@ -4,7 +4,7 @@ use Prim.Native.Nat.{ℕ, zero, suc, _+_, _-_, _<_, _≤_}
 use mathlib.Core.Path.{_≡_, refl, sym, ap, _∙_}
 use mathlib.Core.Bool.{Bool, true, false, not}
 use mathlib.Core.List.{List}
-use mathlib.Core.Option.{Option}
+use mathlib.Core.Option.{Option, some, none}
 use native.Mathlib.Decide.{decLt}
 use native.Mathlib.Nat.{le-refl}
 use native.Mathlib.Omega.{arith}
@@ -31,24 +31,20 @@ use Rattle.cursor.specs.Names.{namePart, nameOf}
 use Rattle.cursor.specs.Info.{infoAt}
 use Rattle.cursor.specs.Inner.{Named}
 use Rattle.cursor.proofs.Named.{name-cut, name-solid}
-use Rattle.numbers.specs.Inner.{splitAt, Labelled}
+use Rattle.numbers.specs.declared.LabelSpan.{LabelSpan}
+use Rattle.numbers.specs.Inner.{splitAt, Labelled, LabelledBy}
 use Rattle.numbers.specs.Label.{baseLen, isGlued, pickList, labelOf, splits, numbered, badLabel, labelRefusal}
 
 pub base-own : (m : Info) (name : List ℕ) → m ≡ info.Missing → length name ≡ baseLen (infoOf m) name
 base-own m name h = rw h refl
 
-module _ (e : Option Entry) (text name : List ℕ) (base : ℕ) (named : name ≡ nameOf text) (based : base ≡ baseLen e name) where
-  pub glued-by : ltb base (length name) ≡ isGlued e (nameOf text)
-  glued-by = rw (based, named)
-
-  label-by : (v : Bool) → ltb base (length name) ≡ v → pickList v (drop base name) (cut (secondWord text) text) ≡ labelOf e text
-  unfolding labelOf
-  label-by v h = rw (← h, based, named)
+pub glued-by : (e : Option Entry) (text name : List ℕ) (base : ℕ) → name ≡ nameOf text → base ≡ baseLen e name → ltb base (length name) ≡ isGlued e (nameOf text)
+glued-by e text name base named based = rw (based, named)
 
 -- the end of the first word, by that of the name
 pub first-end : (s : List ℕ) (e : ℕ) → e ≡ end (namePart s) → 0 < e → e ≤ length s → e + find blank (drop e s) ≡ end (firstWord s)
 unfolding wordFrom
-first-end s e is some h =
+first-end s e is more h =
     let on : 0 + find blank s ≡ e + find blank (drop e s) = name-solid s ∙ rw is in
     let z : 0 + find solid s ≡ 0 = stops solid s 0 (omega arith) (ap not (go (blank (decode s .cp)) refl on)) in
     sym (rw z on)
@@ -65,30 +61,48 @@ part-from s b e k h i =
     rw (n, take-add k (e - (b + k)) (drop b s), drop-at (take k (drop b s)) (take (e - (b + k)) (drop k (drop b s))) k m, drop-drop k b s)
 
 -- the places of the label: in the name, and past the first word
-module _ (e : Option Entry) (s : List ℕ) (at : NameSpan) (base : ℕ) (named : Named s at) (based : base ≡ baseLen e (take (at .end - at .start) (drop (at .start) s))) where
+module _ (s : List ℕ) (at : NameSpan) (base : ℕ) (named : Named s at) where
   abbrev name : List ℕ
   name = take (at .end - at .start) (drop (at .start) s)
 
-  pub in-name : base < length name → Labelled e s (record { start = at .start + base; end = at .end; glued = true })
+  longer : (v : Bool) → ltb base (length name) ≡ v → v ≡ ltb base (length (nameOf s))
+  longer v h = sym h ∙ ap (λ (x : List ℕ). ltb base (length x)) (name-cut s at named)
+
+  label-by : (v : Bool) (l : List ℕ) → ltb base (length name) ≡ v → l ≡ pickList v (drop base name) (cut (secondWord s) s) → l ≡ pickList (ltb base (length (nameOf s))) (drop base (nameOf s)) (cut (secondWord s) s)
+  label-by v l h e = e ∙ rw (longer v h, name-cut s at named)
+
+  pub in-name : base < length name → LabelledBy base s (record { start = at .start + base; end = at .end; glued = true })
   in-name h =
       let l = length-take-le (at .end - at .start) (drop (at .start) s) (omega (arith, named .inside, length-drop (at .start) s)) in
       let v = lt-ltb base (length name) h in
       record {
-        is-glued = sym v ∙ glued-by e s name base (name-cut s at named) based;
-        is-label = part-from s (at .start) (at .end) base (omega arith) (named .inside) ∙ label-by e s name base (name-cut s at named) based true v;
+        is-glued = longer true v;
+        is-label = label-by true _ v (part-from s (at .start) (at .end) base (omega arith) (named .inside));
         ordered = omega arith;
         inside = named .inside;
       }
 
-  pub past-name : (f a z : ℕ) → length name ≤ base → f ≡ end (firstWord s) → a ≡ f + find solid (drop f s) → z ≡ a + find blank (drop a s) → z ≤ length s → Labelled e s (record { start = a; end = z; glued = false })
+  pub past-name : (f a z : ℕ) → length name ≤ base → f ≡ end (firstWord s) → a ≡ f + find solid (drop f s) → z ≡ a + find blank (drop a s) → z ≤ length s → LabelledBy base s (record { start = a; end = z; glued = false })
   past-name f a z h is-first is-start is-end inside =
       let v = le-ltb base (length name) h in
       record {
-        is-glued = sym v ∙ glued-by e s name base (name-cut s at named) based;
-        is-label = word-cut s f a z is-start is-end ∙ ap (λ (i : ℕ). cut (wordFrom i s) s) is-first ∙ label-by e s name base (name-cut s at named) based false v;
+        is-glued = longer false v;
+        is-label = label-by false _ v (word-cut s f a z is-start is-end ∙ ap (λ (i : ℕ). cut (wordFrom i s) s) is-first);
         ordered = omega arith;
         inside = inside;
       }
+
+name-short : (s : List ℕ) → length (nameOf s) ≤ length s
+name-short s = omega (arith, length-take (namePart s .len) (drop (namePart s .start) s), length-drop (namePart s .start) s)
+
+-- the label of an entry: without one, no name is longer than the text
+pub labelled : (e : Option Entry) (s : List ℕ) (base : ℕ) (r : LabelSpan) → base ≡ baseLen e s → LabelledBy base s r → Labelled e s r
+unfolding labelOf
+labelled (some x) s base r h l = record { is-glued = rw h at (l .is-glued); is-label = rw h at (l .is-label); ordered = l .ordered; inside = l .inside }
+labelled none s base r h l =
+    let v : ltb base (length (nameOf s)) ≡ false = le-ltb base (length (nameOf s)) (omega (arith, name-short s)) in
+    let own : ltb (length (nameOf s)) (length (nameOf s)) ≡ false = le-ltb (length (nameOf s)) (length (nameOf s)) (le-refl (length (nameOf s))) in
+    record { is-glued = l .is-glued ∙ v ∙ sym own; is-label = l .is-label ∙ rw (v, own) refl; ordered = l .ordered; inside = l .inside }
 
 -- where a name would be split, by the text that it stands in
 module _ (s : List ℕ) (b base : ℕ) (is-start : b ≡ namePart s .start) where

@@ -11,7 +11,7 @@ ghost use Rattle.table.specs.Entries.{Indexed, infoOf};
 ghost use Rattle.cursor.specs.Names.{nameOf};
 ghost use Rattle.cursor.specs.Inner.{Spanned, Named, Reached};
 ghost use Rattle.numbers.specs.Label.{baseLen, isGlued, labelOf, splits, numbered, badLabel, labelRefusal, refusalOf};
-ghost use Rattle.numbers.specs.Inner.{splitAt, Labelled};
+ghost use Rattle.numbers.specs.Inner.{splitAt, Labelled, LabelledBy};
 ghost use Rattle.numbers.specs.Verse.{versePart, verseEnd, next, inSequence, letterOf, noEarlier, otherNumber, suffixOf, positionOf, readOf, Readable};
 
 // The letter of a verse position, `9a`, or none.
@@ -75,15 +75,14 @@ fn first_word_end(text: &[u8], at: NameSpan) -> usize
     text::find_from(text, e, true)
 }
 
-// The label by its places, for a caller that asks whether it is glued, too: the name is read once.
-pub fn label_span(info: Info, text: &[u8]) -> LabelSpan
-    ensures { λ r. ⌜ Labelled (infoOf info) (now (text .entry)) r ⌝ }
+// The label by its places, where the table's name has so many bytes. A number in place of the entry is handed over in a register.
+fn label_by(base: usize, text: &[u8]) -> LabelSpan
+    ensures { λ r. ⌜ LabelledBy base (now (text .entry)) r ⌝ }
 {
     let at = cursor::name_span(text);
     let b = at.start;
     let e = at.end;
     let name = &text[b..e];
-    let base = base_len(info, name);
     if base < name.len() {
         return LabelSpan {
             start: b + base,
@@ -97,6 +96,14 @@ pub fn label_span(info: Info, text: &[u8]) -> LabelSpan
         end: text::find_from(text, a, true),
         glued: false,
     }
+}
+
+// The label by its places, for a caller that asks whether it is glued, too: the name is read once. Without an entry no name is
+// longer than the text.
+pub fn label_span(info: Info, text: &[u8]) -> LabelSpan
+    ensures { λ r. ⌜ Labelled (infoOf info) (now (text .entry)) r ⌝ }
+{
+    label_by(base_len(info, text), text)
 }
 
 // The number of a chapter or a verse as written: a part of the node's text.

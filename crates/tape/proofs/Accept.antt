@@ -62,19 +62,19 @@ module _ (t : List ℕ) (i : ℕ) where
   unfolding step
   step-wrong x s k h = rw (close-no-open (kindAt t i) k, k, ne-eqb i x h)
 
-  step-top : (s : List ℕ) → isClose (kindAt t i) ≡ true → step t i (i ∷ s) ≡ go s
+  pub step-top : (s : List ℕ) → isClose (kindAt t i) ≡ true → step t i (i ∷ s) ≡ go s
   unfolding step
   step-top s k = rw (close-no-open (kindAt t i) k, k, eq-eqb i i refl)
 
-  step-root : isClose (kindAt t i) ≡ true → i ≡ linkAt t 0 → step t i [] ≡ go []
+  pub step-root : isClose (kindAt t i) ≡ true → i ≡ linkAt t 0 → step t i [] ≡ go []
   unfolding step
   step-root k h = rw (close-no-open (kindAt t i) k, k, eq-eqb i (linkAt t 0) h)
 
-  step-opens : (s : List ℕ) → isOpen (kindAt t i) ≡ true → length s < 64 → step t i s ≡ go (linkAt t i ∷ s)
+  pub step-opens : (s : List ℕ) → isOpen (kindAt t i) ≡ true → length s < 64 → step t i s ≡ go (linkAt t i ∷ s)
   unfolding step
   step-opens s k h = rw (k, lt-ltb (length s) 64 h)
 
-  step-other : (s : List ℕ) → isOpen (kindAt t i) ≡ false → isClose (kindAt t i) ≡ false → step t i s ≡ go s
+  pub step-other : (s : List ℕ) → isOpen (kindAt t i) ≡ false → isClose (kindAt t i) ≡ false → step t i s ≡ go s
   unfolding step
   step-other s k h = rw (k, h)
 

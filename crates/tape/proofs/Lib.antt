@@ -3,6 +3,7 @@ pub mod Stack
 pub mod Machine
 pub mod Last
 pub mod Whole
+pub mod Settled
 pub mod Check
 pub mod Nest
 pub mod Accept

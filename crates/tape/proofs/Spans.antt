@@ -1,15 +1,16 @@
--- A bad span, by the tests that the code takes, and the first one.
+-- A bad span, by the tests that the code takes, and the first one; what a byte shows of a place.
 -- Assumes nothing.
 use mathlib.Core.Path.{_≡_, refl, sym, ap, _∙_}
-use mathlib.Core.Bool.{Bool, true, false, not}
+use mathlib.Core.Bool.{Bool, true, false, not, _&&_, and-eq-true-iff}
 use mathlib.Core.List.{List}
-use Prim.Native.Nat.{ℕ, zero, suc, _+_, _-_, _<_, _≤_}
+use Prim.Native.Nat.{ℕ, zero, suc, _+_, _-_, _/_, _<_, _≤_}
 use native.Mathlib.Omega.{arith}
-use lib.Dec.{ltb}
-use lib.ListN.{length}
-use borrow.Author.Tests.{lt-ltb, le-ltb, not-true, not-false}
-use Rattle.text.specs.Pick.{either, pickNat}
+use lib.Dec.{leb, eqb, ltb}
+use lib.ListN.{length, getD}
+use borrow.Author.Tests.{lt-ltb, le-ltb, eq-eqb, eqb-true, eqb-false, leb-true, not-true, not-false}
+use Rattle.text.specs.Pick.{both, either, within, pickNat}
 use Rattle.text.specs.Characters.{starts}
+use Rattle.text.proofs.Boundary.{at-zero, past-end, inside}
 use Rattle.tape.specs.Nodes.{startAt, lenAt}
 use Rattle.tape.specs.Reading.{badSpan}
 use Rattle.tape.specs.Inner.{spanAfter}
@@ -23,6 +24,28 @@ module _ (s t : List ℕ) (i a n : ℕ) (start : a ≡ startAt t i) (len : n ≡
 
   pub ends : (x y : Bool) → a + n ≤ length s → x ≡ starts s a → not x ≡ false → y ≡ starts s (a + n) → badSpan s t i ≡ not y
   ends x y h e z f = rw (← start, ← len, le-ltb (length s) (a + n) h, ← e, z, ← f)
+
+  pub ends-clear : (x y : Bool) → a + n ≤ length s → (x ≡ true → starts s a ≡ true) → (y ≡ true → starts s (a + n) ≡ true) → (x && y) ≡ true → badSpan s t i ≡ false
+  ends-clear x y h p q e = let k = and-eq-true-iff x y .0 e in ends true true h (sym (p (k .0))) refl (sym (q (k .1)))
+
+pub clear-end : (s : List ℕ) (at : ℕ) → at ≡ length s → starts s at ≡ true
+clear-end s at e = past-end s at (omega arith) ∙ eq-eqb at (length s) e
+
+-- the highest two bits of a byte show that it is no further one
+no-further : (b : ℕ) → (b / 64 ≡ 2 → ⊥) → within 0x80 0xBF b ≡ false
+no-further b h = go (leb 0x80 b) (leb b 0xBF) refl refl
+  where
+    go : (x y : Bool) → leb 0x80 b ≡ x → leb b 0xBF ≡ y → both x y ≡ false
+    go false y p q = refl
+    go true false p q = refl
+    go true true p q = absurd (h (omega (arith, leb-true 0x80 b p, leb-true b 0xBF q)))
+
+pub clear-byte : (s : List ℕ) (at : ℕ) → at ≤ length s → (at ≡ length s → ⊥) → not (eqb (getD s at 0 / 64) 2) ≡ true → starts s at ≡ true
+clear-byte s at l x e = go (eqb at 0) refl
+  where
+    go : (b : Bool) → eqb at 0 ≡ b → starts s at ≡ true
+    go true q = at-zero s at (eqb-true at 0 q)
+    go false q = inside s at (eqb-false at 0 q) (omega arith) ∙ rw (no-further (getD s at 0) (eqb-false (getD s at 0 / 64) 2 (not-true _ e)))
 
 pub after-found : (s t : List ℕ) (i first : ℕ) → (first ≡ 0 → ⊥) → first ≡ spanAfter s t i first
 after-found s t i zero h = absurd (h refl)

@@ -16,20 +16,20 @@ pub stacked-length : (xs : List ℕ) (k : ℕ) → length (stacked xs k) ≡ k
 stacked-length xs zero = refl
 stacked-length xs (suc k) = ap suc (stacked-length xs k)
 
-stacked-set : (xs : List ℕ) (j v k : ℕ) → k ≤ j → stacked (set xs j v) k ≡ stacked xs k
+pub stacked-set : (xs : List ℕ) (j v k : ℕ) → k ≤ j → stacked (set xs j v) k ≡ stacked xs k
 stacked-set xs j v zero h = refl
 stacked-set xs j v (suc k) h =
     let e = stacked-set xs j v k (omega arith) in
     let g = getD-set-other xs j k v 0 (omega arith) in
     cc
 
-stacked-push : (xs : List ℕ) (j v : ℕ) → j < length xs → stacked (set xs j v) (j + 1) ≡ v ∷ stacked xs j
+pub stacked-push : (xs : List ℕ) (j v : ℕ) → j < length xs → stacked (set xs j v) (j + 1) ≡ v ∷ stacked xs j
 stacked-push xs j v h =
     let e = stacked-set xs j v j (omega arith) in
     let g = getD-set-same xs j v 0 h in
     rw add-one (cc)
 
-stacked-pop : (xs : List ℕ) (k : ℕ) → (k ≡ 0 → ⊥) → stacked xs k ≡ getD xs (k - 1) 0 ∷ stacked xs (k - 1)
+pub stacked-pop : (xs : List ℕ) (k : ℕ) → (k ≡ 0 → ⊥) → stacked xs k ≡ getD xs (k - 1) 0 ∷ stacked xs (k - 1)
 stacked-pop xs k h =
     let e : k ≡ suc (k - 1) = omega arith in
     ap (stacked xs) e

@@ -89,7 +89,7 @@ module _ (s t : List ℕ) (n root : ℕ) (size : Sized t n) (link : root ≡ lin
         room = room;
       }
 
-count-is : (t : List ℕ) (n : ℕ) → Sized t n → count t ≡ n
+pub count-is : (t : List ℕ) (n : ℕ) → Sized t n → count t ≡ n
 count-is t n h = let w = h .whole in omega arith
 
 module _ (s t : List ℕ) (n root : ℕ) (stack : List ℕ) (span : ℕ) (taken : Bool) (r : Reading) (i : ℕ) (g : Going s t n root stack span taken r i) (below : i < n) where
@@ -117,16 +117,16 @@ module _ (s t : List ℕ) (n root : ℕ) (stack : List ℕ) (span : ℕ) (taken 
   pub going-bad : badKind t i ≡ true → refuse 5 i ≡ fromOne s t n
   going-bad k = rw (← g .kinds, first-hit 5 (badKind t) n i below k)
 
+-- the root's link, by whether an open has it too
+pub root-by : (t : List ℕ) (n root : ℕ) (taken : Bool) → count t ≡ n → root ≡ linkAt t 0 → isNone (firstBad 7 (opensTo t root) 1 (n - 1)) ≡ not taken → goodRoot t ≡ rootBy root n (isClose (kindAt t root)) taken
+root-by t n root taken c l e = rw (c, ← l, e)
+
 module _ (s t : List ℕ) (n root : ℕ) (stack : List ℕ) (span : ℕ) (taken : Bool) (r : Reading) (i : ℕ) (g : Going s t n root stack span taken r i) (done : n ≤ i) where
   at-end : i ≡ n
   at-end = let w = g .within in omega arith
 
   root-is : goodRoot t ≡ rootBy root n (isClose (kindAt t root)) taken
-  root-is =
-      let c = count-is t n (g .sized) in
-      let l = g .link in
-      let open-to : isNone (firstBad 7 (opensTo t root) 1 (n - 1)) ≡ not taken = sym (g .roots) ∙ rw (first-end 7 (opensTo t root) n i done) (both-true (not taken)) in
-      rw (c, ← l, open-to)
+  root-is = root-by t n root taken (count-is t n (g .sized)) (g .link) (sym (g .roots) ∙ rw (first-end 7 (opensTo t root) n i done) (both-true (not taken)))
     where
       both-true : (b : Bool) → both b true ≡ b
       both-true true = refl

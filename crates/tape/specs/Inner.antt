@@ -9,7 +9,7 @@ use lib.Dec.{eqb}
 use lib.ListN.{length, getD}
 use Rattle.text.specs.Pick.{both, either, pickNat}
 use Rattle.tape.specs.Nodes.{count, kindAt, linkAt, isClose}
-use Rattle.tape.specs.Reading.{Refusal, refuse, onlyIf, orElse, firstBad, badKind, badSpan, goodRoot, read, Step, go, stop, opened, closed}
+use Rattle.tape.specs.Reading.{Refusal, refuse, onlyIf, orElse, firstBad, badKind, badSpan, opensTo, goodRoot, read, Step, go, stop, opened, closed}
 use Rattle.tape.specs.declared.TapeCheck.{TapeCheck}
 use Rattle.tape.specs.declared.Reading.{Reading}
 
@@ -96,3 +96,18 @@ abbrev pub fromOne : List ℕ → List ℕ → ℕ → Option Refusal
 fromOne s t n =
     orElse (firstBad 5 (badKind t) 1 (n - 1))
     (orElse (firstBad 6 (badSpan s t) 1 (n - 1)) (orElse (onlyIf (not (goodRoot t)) (refuse 7 0)) (read t (n - 1) 1 [])))
+
+-- no kind and no span from node i on is bad
+pub record Clear (s t : List ℕ) (n i : ℕ) : Type 0 where
+  pub kinds : firstBad 5 (badKind t) i (n - i) ≡ none
+  pub spans : firstBad 6 (badSpan s t) i (n - i) ≡ none
+
+-- this link is not awaited
+abbrev pub Apart : ℕ → List ℕ → Type 0
+Apart link [] = Unit {0}
+Apart link (x ∷ awaited) = (x ≡ link → ⊥) × Apart link awaited
+
+-- the nodes from 1 to i read, with these links awaited: what is left gives what the whole gives, of the reading, and of the opens that have the root's link, if that isn't awaited
+pub record Paired (t : List ℕ) (n root i : ℕ) (awaited : List ℕ) : Type 0 where
+  pub opens : Apart root awaited → firstBad 7 (opensTo t root) i (n - i) ≡ firstBad 7 (opensTo t root) 1 (n - 1)
+  pub reading : read t (n - i) i awaited ≡ read t (n - 1) 1 []

@@ -1,12 +1,15 @@
 // The tape: nodes of 16 bytes, and the check of numbers 4 to 8.
 ghost use mathlib.Core.Path.{_≡_};
-ghost use mathlib.Core.Bool.{not};
-ghost use Prim.Native.Nat.{_+_, _<_, _≤_};
+ghost use mathlib.Core.Bool.{true, false, not};
+ghost use mathlib.Core.List.{[]};
+ghost use mathlib.Core.Option.{none};
+ghost use Prim.Native.Nat.{_+_, _-_, _<_, _≤_};
 ghost use lib.ListN.{length};
-ghost use Rattle.text.specs.Pick.{either, within};
+ghost use Rattle.text.specs.Pick.{either, within, pickNat};
+ghost use Rattle.text.specs.Characters.{starts};
 ghost use Rattle.tape.specs.Nodes.{count, half, word, kindAt, markerAt, startAt, lenAt, linkAt, isClose, kindOf};
 ghost use Rattle.tape.specs.Reading.{badSpan, opensTo, refusalOf, tapeRefusal};
-ghost use Rattle.tape.specs.Inner.{Sized, Known, Opened, Closed, Held, Stepped, spanAfter, rootBy, lastly, fromOne};
+ghost use Rattle.tape.specs.Inner.{Sized, Known, Opened, Closed, Held, Stepped, spanAfter, rootBy, lastly, fromOne, Clear, Paired};
 
 pub enum NodeKind {
     Root,
@@ -277,7 +280,7 @@ fn bad_kind(kind: u8) -> bool
 }
 
 // Numbers 5 to 8 from node 1 on, in one pass: a bad kind comes before all others, and the rest waits for the end.
-fn scan(source: &[u8], tape: &[u8], n: usize) -> TapeCheck
+fn scan_each(source: &[u8], tape: &[u8], n: usize) -> TapeCheck
     requires { ⌜ Sized (now tape) n ⌝ }
     ensures { λ r. ⌜ refusalOf r ≡ fromOne (now (source .entry)) (now (tape .entry)) n ⌝ }
 {
@@ -302,6 +305,105 @@ fn scan(source: &[u8], tape: &[u8], n: usize) -> TapeCheck
         i += 1;
     }
     answer(tape, n, root, span, taken, r)
+}
+
+// Whether the byte at a place shows that a character begins there, or the text ends. A place that fails may still be good.
+fn is_clear(s: &[u8], at: usize) -> bool
+    requires { ⌜ at ≤ length (now s) ⌝ }
+    ensures { λ r. ⌜ (r ≡ true → starts (now (s .entry)) at ≡ true) ⌝ }
+{
+    if at == s.len() {
+        return true;
+    }
+    s[at] / 64 != 2
+}
+
+// Whether both ends of a node's span show that it is good.
+fn is_clear_span(source: &[u8], tape: &[u8], i: usize) -> bool
+    requires { ⌜ i < count (now tape) ⌝ }
+    ensures { λ r. ⌜ (r ≡ true → badSpan (now (source .entry)) (now (tape .entry)) i ≡ false) ⌝ }
+{
+    let start = start_at(tape, i) as usize;
+    let end = start + len_at(tape, i) as usize;
+    if end <= source.len() {
+        return is_clear(source, start) & is_clear(source, end);
+    }
+    false
+}
+
+// Whether the kinds and spans from node 1 on show that they are good. Nodes differ in kind with no order that a processor
+// foretells, so no jump here depends on it.
+fn are_clear(source: &[u8], tape: &[u8], n: usize) -> bool
+    requires { ⌜ Sized (now tape) n ⌝ }
+    ensures { λ r. ⌜ (r ≡ true → Clear (now (source .entry)) (now (tape .entry)) n 1) ⌝ }
+{
+    let mut i: usize = 1;
+    while i < n {
+        let kind = kind_at(tape, i);
+        if bad_kind(kind) | !is_clear_span(source, tape, i) {
+            return false;
+        }
+        i += 1;
+    }
+    true
+}
+
+fn one_if(b: bool) -> usize
+    ensures { λ r. ⌜ (r ≡ pickNat b 1 0) × (r ≤ 1) ⌝ }
+{
+    if b { 1 } else { 0 }
+}
+
+// Whether each close before the root's link is the innermost awaited one, and all opens are closed there, so that none has the
+// root's link. Without jumps by kind, as above: each node's link is put above the top, where it is garbage unless the node
+// opens. The lowest element stays 0, which is no node from 1 on, so that a close with nothing awaited fails.
+fn are_paired(tape: &[u8], root: u32) -> bool
+    requires { ⌜ root ≤ count (now tape) ⌝ }
+    ensures { λ r. ⌜ (r ≡ true → Paired (now (tape .entry)) (count (now (tape .entry))) root (1 + (root - 1)) []) ⌝ }
+{
+    let mut stack = [0u32; 66];
+    let mut depth: usize = 0;
+    let mut i: usize = 1;
+    while i < root as usize {
+        let kind = kind_at(tape, i);
+        let link = link_at(tape, i);
+        let opens = kind == 1;
+        let closes = is_close(kind);
+        let top = stack[depth];
+        stack[depth + 1] = link;
+        if (closes & (top != i as u32)) | (opens & (depth == 64)) {
+            return false;
+        }
+        depth = depth + one_if(opens) - one_if(closes);
+        i += 1;
+    }
+    depth == 0
+}
+
+// Whether two quick passes show that no number from 5 on is given. A tape that fails may still be good.
+fn is_settled(source: &[u8], tape: &[u8], n: usize) -> bool
+    requires { ⌜ Sized (now tape) n ⌝ }
+    ensures { λ r. ⌜ (r ≡ true → fromOne (now (source .entry)) (now (tape .entry)) n ≡ none) ⌝ }
+{
+    let root = link_at(tape, 0);
+    if !good_root(tape, n, root, false) {
+        return false;
+    }
+    if !are_clear(source, tape, n) {
+        return false;
+    }
+    are_paired(tape, root)
+}
+
+// Numbers 5 to 8 from node 1 on. Most tapes are good, and quickly seen to be.
+fn scan(source: &[u8], tape: &[u8], n: usize) -> TapeCheck
+    requires { ⌜ Sized (now tape) n ⌝ }
+    ensures { λ r. ⌜ refusalOf r ≡ fromOne (now (source .entry)) (now (tape .entry)) n ⌝ }
+{
+    if is_settled(source, tape, n) {
+        return TapeCheck::Good;
+    }
+    scan_each(source, tape, n)
 }
 
 // Document 01's numbers 4 to 8 for a tape over a source.
