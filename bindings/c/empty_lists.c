@@ -18,7 +18,8 @@ static const uint64_t finding[HARKOXIN_FINDING_WORDS] = {1, HARKOXIN_INVALID_VER
 /* All that is written. */
 struct lists {
     uint32_t seen[2];
-    uint64_t opens[4], list[40], out[HARKOXIN_CHECK_WORDS], ends[1];
+    harkoxin_open_start opens[2];
+    uint64_t list[40], out[HARKOXIN_CHECK_WORDS], ends[1];
     uint8_t text[40];
 };
 
@@ -31,7 +32,7 @@ static void run(int function, unsigned empty, int is_null, struct lists *l)
     memset(l, 0x55, sizeof *l);
     switch (function) {
     case 0:
-        harkoxin_check(DOCUMENT, LENT(l->seen, 2, SEEN), LENT(l->opens, 4, OPENS), LENT(l->list, 40, LIST),
+        harkoxin_check(DOCUMENT, LENT(l->seen, 2, SEEN), LENT(l->opens, 2, OPENS), LENT(l->list, 40, LIST),
                        LENT(l->out, HARKOXIN_CHECK_WORDS, OUT));
         break;
     case 1:

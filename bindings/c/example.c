@@ -66,12 +66,12 @@ static uint64_t *check(const struct document *d, uint64_t answer[HARKOXIN_CHECK_
 {
     size_t nodes = d->tape.len / 16;
     uint32_t *seen = room(nodes, sizeof *seen);
-    uint64_t *opens = room(2 * nodes, sizeof *opens);
+    harkoxin_open_start *opens = room(nodes, sizeof *opens);
     size_t words = HARKOXIN_FINDING_WORDS * 16;
     uint64_t *list = room(words, sizeof *list);
     for (;;) {
         harkoxin_check(d->table.at, d->table.len, d->source.at, d->source.len, d->tape.at, d->tape.len,
-                       seen, nodes, opens, 2 * nodes, list, words, answer, HARKOXIN_CHECK_WORDS);
+                       seen, nodes, opens, nodes, list, words, answer, HARKOXIN_CHECK_WORDS);
         if (answer[HARKOXIN_CHECK_VERDICT] != HARKOXIN_CUT)
             break;
         /* Once more, with room for just as many findings as there are. */

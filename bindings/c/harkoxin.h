@@ -8,9 +8,9 @@
  *   source  UTF-8, at most 1,048,576 bytes
  *   tape    1 to 65,535 nodes of 16 bytes, little-endian: kind (1 byte), flags (1), marker (2), start, len, link (4 each)
  *
- * Each list is passed as a pointer and the number of its elements. A list that is written must not overlap another one, and a
- * list of words must be aligned as its type is. Nothing else is asked: lists may be of any length and hold anything, and the
- * pointer of a list of length 0 isn't read, so that it may be NULL.
+ * Each list is passed as a pointer and the number of its elements. A list that is written must not overlap another one, and
+ * each must be aligned as its type is. Nothing else is asked: lists may be of any length and hold anything, and the pointer of a
+ * list of length 0 isn't read, so that it may be NULL.
  *
  * Each function lays its answer over `out`, as far as that has room. Its first word is the verdict; a refusal says by a number
  * what turned the call back, and by a place where. Nothing is kept between calls, so that threads may call at the same time.
@@ -127,19 +127,28 @@ enum {
     HARKOXIN_CHECK_WORDS = 9
 };
 
+/* An entry of the open starts: a milestone's start that no end has taken yet. */
+typedef struct harkoxin_open_start {
+    uint32_t node;
+    uint32_t base_len; /* the length of its base, in bytes */
+} harkoxin_open_start;
+
+/* The library counts on 8 bytes for each; with another size this type is an error. */
+typedef char harkoxin_open_start_has_8_bytes[sizeof(harkoxin_open_start) == 8 ? 1 : -1];
+
 /*
  * Checks a document: its findings are laid over `list`, as far as that has room for whole ones. Numbers 1 to 10.
  *
- * The working lists `seen` and `opens` need an entry for each node, and an entry of `opens` is two words. What they hold doesn't
- * matter. After a checked document the entries of the nodes are zero, and the rest of each list is as it was. After a refusal
- * every list is as it was.
+ * The working lists `seen` and `opens` need an entry for each node. What they hold doesn't matter. After a checked document the
+ * entries of the nodes are zero, both fields of an open start, and the rest of each list is as it was. After a refusal every list
+ * is as it was.
  */
 void harkoxin_check(
     const uint8_t *table, size_t table_len,
     const uint8_t *source, size_t source_len,
     const uint8_t *tape, size_t tape_len,
     uint32_t *seen, size_t seen_len,
-    uint64_t *opens, size_t opens_len,
+    harkoxin_open_start *opens, size_t opens_len,
     uint64_t *list, size_t list_len,
     uint64_t *out, size_t out_len);
 

@@ -2,6 +2,9 @@
 
 use std::fmt::Debug;
 
+#[cfg(feature = "library")]
+use harkoxin::raw::OpenStart;
+
 use crate::pages::Pages;
 use crate::rng::Rng;
 
@@ -38,10 +41,27 @@ unsafe impl Element for u64 {
     }
 }
 
+#[cfg(feature = "library")]
+// SAFETY: two unsigned numbers, and the binding asserts that they fill it.
+unsafe impl Element for OpenStart {
+    /// One in four could be an open start of a small document, so that a check that reads it may take it for one. The base is
+    /// never empty, so that it shows whether a record was cleared.
+    fn of_word(word: u64) -> OpenStart {
+        let (node, base_len) = ((word >> 32) as u32, word as u32);
+        match base_len % 4 {
+            0 => OpenStart {
+                node: node % 64,
+                base_len: 1 + base_len / 4 % 8,
+            },
+            _ => OpenStart { node, base_len },
+        }
+    }
+}
+
 /// Where a list stands.
 #[derive(Clone, Copy, PartialEq, Debug)]
 pub enum Place {
-    /// Between two margins; a list of bytes at any alignment.
+    /// Between two margins, at any address that its elements may have.
     Between,
     /// Right behind an inaccessible page, a margin after it.
     First,
@@ -72,6 +92,7 @@ impl<T: Element> Default for Slot<T> {
 
 impl<T: Element> Slot<T> {
     const SIZE: usize = size_of::<T>();
+    const ALIGN: usize = align_of::<T>();
 
     /// Lends this content, at a place by the seed.
     pub fn put(&mut self, content: &[T], rng: &mut Rng) {
@@ -107,7 +128,7 @@ impl<T: Element> Slot<T> {
             self.pages = Pages::new(room);
         }
         self.start = match place {
-            Place::Between => MARGIN + by / Self::SIZE * Self::SIZE,
+            Place::Between => MARGIN + by / Self::ALIGN * Self::ALIGN,
             Place::First => 0,
             Place::Last => self.pages.len() - bytes,
         };
@@ -200,6 +221,18 @@ mod tests {
 
     const PLACES: [Place; 3] = [Place::Between, Place::First, Place::Last];
 
+    /// A record as `OpenStart` is, there without the library too.
+    #[derive(Clone, Copy, PartialEq, Debug)]
+    #[repr(C)]
+    struct Pair(u32, u32);
+
+    // SAFETY: two unsigned numbers.
+    unsafe impl Element for Pair {
+        fn of_word(word: u64) -> Pair {
+            Pair(word as u32, !word as u32)
+        }
+    }
+
     /// Calls `test` with the numbers 1 to 5 lent at each place.
     fn each_place<T: Element>(mut test: impl FnMut(Place, &mut Slot<T>)) {
         let mut slot = Slot::default();
@@ -228,13 +261,39 @@ mod tests {
         reaches_the_ends::<u8>();
         reaches_the_ends::<u32>();
         reaches_the_ends::<u64>();
+        reaches_the_ends::<Pair>();
+    }
+
+    /// By their rest by 8, the addresses at which a list is lent.
+    fn rests<T: Element>() -> [bool; 8] {
+        let mut seen = [false; 8];
+        each_place::<T>(|_, slot| seen[slot.list().as_ptr() as usize % 8] = true);
+        seen
     }
 
     #[test]
-    fn bytes_are_lent_at_every_alignment() {
-        let mut seen = [false; 8];
-        each_place::<u8>(|_, slot| seen[slot.list().as_ptr() as usize % 8] = true);
-        assert_eq!(seen, [true; 8]);
+    fn lists_are_lent_at_every_alignment() {
+        let by_4 = [true, false, false, false, true, false, false, false];
+        assert_eq!(rests::<u8>(), [true; 8]);
+        assert_eq!(rests::<u32>(), by_4);
+        assert_eq!(rests::<Pair>(), by_4);
+    }
+
+    #[test]
+    fn both_fields_of_a_record_are_looked_at() {
+        each_place::<Pair>(|_, slot| {
+            slot.list_mut()[0] = Pair(0, 0);
+            assert_eq!(slot.expect("list", &[Pair(0, 0)]), Ok(()));
+            for place in 0..5 {
+                let Pair(first, second) = slot.list()[place];
+                for other in [Pair(first ^ 1, second), Pair(first, second ^ 1)] {
+                    slot.list_mut()[place] = other;
+                    assert!(slot.expect("list", &[Pair(0, 0)]).is_err());
+                }
+                slot.list_mut()[place] = Pair(first, second);
+            }
+            assert_eq!(slot.expect("list", &[Pair(0, 0)]), Ok(()));
+        });
     }
 
     #[test]

@@ -3,7 +3,7 @@
 
 use std::ffi::c_uchar;
 
-use harkoxin::raw;
+use harkoxin::raw::{self, OpenStart};
 
 use crate::document::Document;
 
@@ -475,7 +475,7 @@ pub fn is_attached(source: &[u8], tape: &[u8], (parent, i): (usize, usize), at: 
 /// The lists that a caller lends to the check, and the one that its answer is laid over.
 pub struct Lent<'a> {
     pub seen: &'a mut [u32],
-    pub opens: &'a mut [u64],
+    pub opens: &'a mut [OpenStart],
     pub list: &'a mut [u64],
     pub answer: &'a mut [u64],
 }

@@ -8,6 +8,7 @@ mod slots;
 mod told;
 mod workers;
 
+use harkoxin::raw::OpenStart;
 use harkoxin::{Checker, Report, Table, Tape};
 
 use crate::differ::agree;
@@ -110,7 +111,7 @@ impl Comparison {
         let owed = self.reported(document)?;
         self.lend_lists(lengths, owed.texts.len(), rng);
         let (seen, opens) = lengths;
-        match working_list_refusal(document.node_count(), seen, opens / 2) {
+        match working_list_refusal(document.node_count(), seen, opens) {
             Some((number, place)) => self.check_refused((number.into(), place))?,
             None => self.check(&owed)?,
         }
@@ -173,8 +174,9 @@ impl Comparison {
         self.slots.opens.fill(opens, rng);
         self.slots.list.fill(room, rng);
         self.slots.fill_out(ANSWER_WORDS, rng);
-        let words = opens + room + self.slots.out.len();
-        self.counts.lent(&[4 * seen, 8 * words]);
+        let words = room + self.slots.out.len();
+        self.counts
+            .lent(&[4 * seen, size_of::<OpenStart>() * opens, 8 * words]);
     }
 
     fn check_refused(&mut self, (number, place): (u64, u64)) -> Result<(), String> {
@@ -217,9 +219,8 @@ impl Comparison {
         answer: [u64; ANSWER_WORDS],
     ) -> Result<(), String> {
         self.slots.seen.expect("the chapters seen", &vec![0; n])?;
-        self.slots
-            .opens
-            .expect("the open starts", &vec![0; 2 * n])?;
+        let cleared = vec![OpenStart::default(); n];
+        self.slots.opens.expect("the open starts", &cleared)?;
         self.slots.list.expect("the findings list", words)?;
         self.slots.expect_out("the answer", &answer)
     }

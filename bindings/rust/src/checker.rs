@@ -1,7 +1,7 @@
 //! The check with lists that are kept from one document to the next.
 
 use crate::document::{Table, Tape};
-use crate::raw::{self, FINDING_WORDS};
+use crate::raw::{self, FINDING_WORDS, OpenStart};
 use crate::refusal::Refusal;
 use crate::report::{Counts, Report};
 use crate::texts::{self, Room, Texts, lengthen};
@@ -43,7 +43,7 @@ struct Lent<'a> {
 #[derive(Clone, Debug)]
 pub struct Checker {
     seen: Vec<u32>,
-    opens: Vec<u64>,
+    opens: Vec<OpenStart>,
     list: Vec<u64>,
     room: Room,
     max_findings: usize,
@@ -129,7 +129,7 @@ impl Checker {
         // A longer tape is turned back by number 4 before the working lists are looked at.
         let nodes = nodes.min(MOST_NODES);
         lengthen(&mut self.seen, nodes);
-        lengthen(&mut self.opens, 2 * nodes);
+        lengthen(&mut self.opens, nodes);
         let first = nodes.min(self.max_findings);
         lengthen(&mut self.list, FINDING_WORDS * first);
         let (counts, written) = self.run(lent)?;

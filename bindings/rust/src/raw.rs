@@ -14,6 +14,8 @@
 
 // All `unsafe` code of the crate is here: the calls, and nodes as bytes.
 
+use std::mem::offset_of;
+
 use crate::node::Node;
 
 /// Words of a finding in a list.
@@ -40,7 +42,26 @@ pub const CUT: u64 = 1;
 /// A verdict: turned back.
 pub const REFUSED: u64 = 2;
 
+/// An entry of the open starts that [`check`] is lent: a milestone's start that no end has taken yet.
+#[derive(Clone, Copy, PartialEq, Eq, Debug, Default)]
+#[repr(C)]
+pub struct OpenStart {
+    /// The start's node.
+    pub node: u32,
+    /// The length of its base, in bytes.
+    pub base_len: u32,
+}
+
+// The library reads and writes the fields of a lent list at these places.
+const _: () = {
+    assert!(size_of::<OpenStart>() == 8 && align_of::<OpenStart>() == 4);
+    assert!(offset_of!(OpenStart, node) == 0);
+    assert!(offset_of!(OpenStart, base_len) == 4);
+};
+
 mod library {
+    use super::OpenStart;
+
     unsafe extern "C" {
         pub fn harkoxin_check(
             table: *const u8,
@@ -51,7 +72,7 @@ mod library {
             tape_len: usize,
             seen: *mut u32,
             seen_len: usize,
-            opens: *mut u64,
+            opens: *mut OpenStart,
             opens_len: usize,
             list: *mut u64,
             list_len: usize,
@@ -104,17 +125,35 @@ mod library {
 
 /// Checks a document: its findings are laid over `list`, as far as that has room.
 ///
-/// The working lists `seen` and `opens` need an entry for each node, and an entry of `opens` is two words; what they hold
-/// doesn't matter. After a checked document the entries of the nodes are zero, and the rest of each list is as it was. A
-/// refusal changes no list.
+/// The working lists `seen` and `opens` need an entry for each node; what they hold doesn't matter. After a checked document
+/// the entries of the nodes are zero, both fields of an open start, and the rest of each list is as it was. A refusal changes
+/// no list.
 ///
 /// `out`: verdict ([`DONE`], [`CUT`] or [`REFUSED`]), number, place, total, written, verses, errors, warnings, infos.
+///
+/// ```
+/// use harkoxin::raw::{self, OpenStart};
+/// use harkoxin::{Node, NodeKind, Tape};
+///
+/// let table = b"name=v\ncategory=verse\nrole=content\n";
+/// let nodes = [
+///     Node::new(NodeKind::Root, 0, 0, 0, 2),
+///     Node::new(NodeKind::Verse, 0, 0, 4, 0),
+/// ];
+/// let tape = Tape::from_nodes(&nodes);
+/// let (mut seen, mut opens) = ([0; 2], [OpenStart::default(); 2]);
+/// let mut list = [0; 4 * raw::FINDING_WORDS];
+/// let mut out = [0; raw::CHECK_WORDS];
+/// raw::check(table, b"\\v 2", tape.as_bytes(), &mut seen, &mut opens, &mut list, &mut out);
+/// let [verdict, _, _, total, written, ..] = out;
+/// assert_eq!((verdict, total, written), (raw::DONE, 4, 4));
+/// ```
 pub fn check(
     table: &[u8],
     source: &[u8],
     tape: &[u8],
     seen: &mut [u32],
-    opens: &mut [u64],
+    opens: &mut [OpenStart],
     list: &mut [u64],
     out: &mut [u64],
 ) {

@@ -193,7 +193,7 @@ fn tell_checked<'a>(table: &'a [u8], source: &'a [u8], tape: &[u8], r: Report, l
 {
     tell_counts(r);
     let mut index = [0u64; 512];
-    let Gate::Open(entries) = marking::table_gate(table, &mut index, source, tape, 65535, 131070)
+    let Gate::Open(entries) = marking::table_gate(table, &mut index, source, tape, 65535, 65535)
     else {
         return;
     };
@@ -214,7 +214,7 @@ fn exercise<'a>(table: &'a [u8], source: &'a [u8], tape: &[u8])
     let mut seen = numbers();
     let mut opens = words();
     let mut list = words();
-    match marking::check(table, source, tape, &mut seen, &mut opens, &mut list) {
+    match by_words::check_words(table, source, tape, &mut seen, &mut opens, &mut list) {
         Answer::Refused(number, place) => tell_refused(number, place),
         Answer::Checked(r) => tell_checked(table, source, tape, r, &list),
         Answer::Cut(r) => tell_checked(table, source, tape, r, &list),

@@ -5,34 +5,27 @@ use mathlib.Core.Path.{_≡_, refl, sym, ap, _∙_}
 use mathlib.Core.Bool.{Bool, true, false}
 use mathlib.Core.List.{List}
 use mathlib.Core.Option.{Option, some, none, Option·none-ne-some}
-use lib.Dec.{eqb}
 use lib.ListN.{length}
-use borrow.Author.Tests.{eq-eqb, ne-eqb}
+use borrow.Author.Tests.{ne-eqb}
 use Rattle.tape.specs.Nodes.{nodeAt, kindAt, markerAt, isOpen}
 use Rattle.table.specs.Entries.{Entry, Indexed, entries, nth, infoOf, entryOfInfo}
 use Rattle.table.specs.declared.Info.{Info}
-use Rattle.table.specs.declared.Info.the-variants as info
 use Rattle.table.specs.declared.MarkerInfo.{MarkerInfo}
 use Rattle.cursor.specs.Info.{hasMarker, onlyFor, infoAt}
 use Rattle.validate.specs.Checks.{entryOf}
+use Rattle.checker.specs.Walking.{onlyOpen}
 
-module _ (s t : List ℕ) (i k : ℕ) (is-kind : k ≡ kindAt t i) where
-  pub no-open : (k ≡ 1 → ⊥) → isOpen (kindAt t i) ≡ false
-  no-open h = rw (← is-kind) (ne-eqb k 1 h)
+-- what is read of a marker and of a leaf
+module _ (table t : List ℕ) (i k : ℕ) (is : k ≡ kindAt t i) where
+  pub read-open : (m : Info) → k ≡ 1 → infoOf m ≡ infoAt table t i → infoOf m ≡ onlyOpen (isOpen (kindAt t i)) (infoAt table t i)
+  read-open m h read = let one : kindAt t i ≡ 1 = sym is ∙ h in rw one read
 
-  pub is-open : k ≡ 1 → isOpen (kindAt t i) ≡ true
-  is-open h = rw (← is-kind) (eq-eqb k 1 h)
+  pub read-leaf : (k ≡ 1 → ⊥) → none ≡ onlyOpen (isOpen (kindAt t i)) (infoAt table t i)
+  read-leaf h = let other : isOpen (kindAt t i) ≡ false = ap isOpen (sym is) ∙ ne-eqb k 1 h in rw other
 
-module _ (table s t : List ℕ) (i : ℕ) (m : Info) (read : infoOf m ≡ infoAt table t i) where
-  at : entryOf table (nodeAt s t i) ≡ infoAt table t i
-  unfolding infoAt
-  at = refl
-
-  pub entry-none : m ≡ info.Missing → entryOf table (nodeAt s t i) ≡ none
-  entry-none h = at ∙ sym read ∙ ap infoOf h
-
-  pub entry-some : (e : MarkerInfo) → m ≡ info.Known e → entryOf table (nodeAt s t i) ≡ some (entryOfInfo e)
-  entry-some e h = at ∙ sym read ∙ ap infoOf h
+pub entry-read : (table s t : List ℕ) (i : ℕ) → entryOf table (nodeAt s t i) ≡ infoAt table t i
+unfolding infoAt
+entry-read table s t i = refl
 
 -- an entry's name lies in the table
 only-some : (b : Bool) (x : Option Entry) (e : Entry) → onlyFor b x ≡ some e → x ≡ some e

@@ -22,6 +22,7 @@ use Rattle.validate.specs.State as state
 use Rattle.validate.specs.Checks.{given, leafTold}
 use Rattle.validate.specs.Walk.{walk}
 use Rattle.validate.specs.Walk as Walk
+use Rattle.validate.specs.declared.OpenStart.{OpenStart}
 use Rattle.running.specs.Running.{stateOf, countsOf}
 use Rattle.running.specs.declared.Record.{Record}
 use Rattle.checker.specs.Walking.{nowhere, walkAt, Ready, Walked, quiet}
@@ -63,7 +64,7 @@ quiet-walk table o (leaf x r) st h = go (numbered (x .kind)) refl h (λ q. quiet
     go false e h rest = let k = either-false (eqb (x .kind) 3) (eqb (x .kind) 4) e in rw (k .0, k .1) (rest h)
 quiet-walk table o (node x c r) st h = absurd (false≢true h)
 
-pub quiet-walked : {table words : List ℕ} {entries : ℕ} {s t : List ℕ} {depth from to : ℕ} {seen opens : List ℕ} {r : Record} (o : state.Around) (l : List ℕ) → Ready table words entries s t depth from to seen opens r → r .anchor ≡ 0 → quiet (forest s t from to) ≡ true → Walked s t (walkAt table s t o from to seen opens r) depth from to l r seen opens l r
+pub quiet-walked : {table words : List ℕ} {entries : ℕ} {s t : List ℕ} {depth from to : ℕ} {seen : List ℕ} {opens : List OpenStart} {r : Record} (o : state.Around) (l : List ℕ) → Ready table words entries s t depth from to seen opens r → r .anchor ≡ 0 → quiet (forest s t from to) ≡ true → Walked s t (walkAt table s t o from to seen opens r) depth from to l r seen opens l r
 quiet-walked {table} {words} {entries} {s} {t} {depth} {from} {to} {seen} {opens} {r} o l ready a h =
     let same : walkAt table s t o from to seen opens r ≡ still (stateOf s t seen opens r) = rw a (quiet-walk table o (forest s t from to) (stateOf s t seen opens r) h) in
     rw same

@@ -13,22 +13,24 @@ use Rattle.text.specs.Pick.{either, pickNat}
 use Rattle.tape.specs.Nodes.{Node, count, nodeAt, kindAt, linkAt, isOpen}
 use Rattle.tape.specs.Forest.{Forest, end, leaf, node, followed, forest, Nested, done, Accepted}
 use Rattle.tape.proofs.Nest.{nested-join, nested-le, forest-join, forest-done}
-use Rattle.table.specs.Entries.{Entry}
-use Rattle.cursor.specs.Inner.{Run}
+use Rattle.table.specs.Entries.{Entry, Indexed}
+use Rattle.cursor.specs.Inner.{Run, Spanned}
 use Rattle.cursor.specs.Info.{infoAt}
 use Rattle.cursor.specs.Steps.{pastNode, holdsNodes}
 use Rattle.cursor.proofs.Runs.{one-nested, rest-nested, one-leaf, one-open, forest-at-leaf, forest-at-open, past-later, past-inside}
 use Rattle.numbers.specs.Label.{pickList, numbered}
 use Rattle.findings.specs.Finding.{Finding}
+use Rattle.findings.specs.Written.{Room}
 use Rattle.attachment.specs.Attached.{starts, attachedNumbers}
+use Rattle.attachment.specs.declared.Attached.{Attached}
 use Rattle.validate.specs.State.{State, Anchor, past, Told}
 use Rattle.validate.specs.State as state
 use Rattle.validate.specs.Checks.{entryOf, leafTold}
 use Rattle.validate.specs.Walk.{leafAnchor, pickAnchor, openTold, inside, before, after, thenWalk, byEntry, walk}
 use Rattle.validate.specs.Walk as def
-use Rattle.running.specs.Running.{stateOf, anchorOf, startsFor, withAnchor}
+use Rattle.running.specs.Running.{stateOf, countsOf, anchorOf, startsFor, withAnchor, Sane}
 use Rattle.running.specs.declared.Record.{Record}
-use Rattle.checker.specs.Walking.{Anchored, nowhere, behind, anchorAfter, numbersAfter, LeafPassed}
+use Rattle.checker.specs.Walking.{Anchored, nowhere, behind, anchorAfter, numbersAfter, LeafPassed, Leafy, Leaved, Unchanged, PassedBy}
 use Rattle.leaves.specs.Leaves.{LeafVisited}
 
 -- a marker with its entry, its children and what follows it
@@ -182,3 +184,15 @@ module _ {table s t : List ℕ} {o : state.Around} {i : ℕ} {seen l : List ℕ}
 
   pub leaf-old : numbered (kindAt t i) ≡ false → LeafPassed table s t o i seen l r seen′ l′ q
   leaf-old h = record { wrote = v .wrote; state = v .state; sane = v .sane; seen-few = v .seen-few; verses-few = v .verses-few; opens = v .opens; anchor = v .anchor ∙ rw h }
+
+-- what a Chapter or Verse asks for, one by one
+pub leafy-asks : {table words : List ℕ} {entries : ℕ} {s t : List ℕ} {o : state.Around} {i next to : ℕ} {seen : List ℕ} {r : Record} → Leafy table words entries s t o i next to seen r → Indexed table words entries × Spanned s t i × Sane r × (r .seen < length seen) × (r .verses < 4611686018427387904) × Room (countsOf r) (leafTold table o (stateOf s t seen [] r) (nodeAt s t i) .findings)
+leafy-asks a = (a .indexed, a .spanned, a .sane, a .seen-room, a .verses-room, a .room)
+
+-- the visit of a leaf, by what it is
+module _ {table s t : List ℕ} {o : state.Around} {i next to : ℕ} {numbers : Attached} {seen l : List ℕ} {r : Record} where
+  pub was-number : {seen′ l′ : List ℕ} {q : Record} {after : Attached} → numbered (kindAt t i) ≡ true → Leaved table s t o i next to numbers seen l r seen′ l′ q after → PassedBy table s t o i next to numbers seen l r seen′ l′ q after
+  was-number h v = record { number = λ _. v; other = λ e. absurd (false≢true (sym e ∙ h)) }
+
+  pub was-other : numbered (kindAt t i) ≡ false → PassedBy table s t o i next to numbers seen l r seen l r numbers
+  was-other h = record { number = λ e. absurd (false≢true (sym h ∙ e)); other = λ _. record { same-seen = refl; same-list = refl; same-record = refl; same-numbers = refl } }

@@ -1,9 +1,9 @@
 -- The visit of a marker, call by call.
 -- Assumes nothing.
-use Prim.Native.Nat.{ℕ, zero, suc, _+_, _-_, _*_, _%_, _<_, _≤_}
+use Prim.Native.Nat.{ℕ, zero, suc, _+_, _-_, _*_, _%_, _^_, _<_, _≤_}
 use native.Mathlib.Omega.{arith}
 use mathlib.Core.Path.{_≡_, refl, sym, ap, ap₂, subst, _∙_}
-use mathlib.Core.Bool.{true, not}
+use mathlib.Core.Bool.{Bool, true, not}
 use lib.Dec.{eqb}
 use borrow.Author.Tests.{ltb-false}
 use mathlib.Core.List.{List, [], _∷_, _++_}
@@ -29,10 +29,11 @@ use Rattle.validate.specs.Checks.{given, afterId}
 use Rattle.validate.specs.Milestones.{milestoneChecks, afterMilestone}
 use Rattle.validate.specs.Walk.{walk, openTold, inside}
 use Rattle.validate.specs.Walk as def
+use Rattle.validate.specs.declared.OpenStart.{OpenStart}
 use Rattle.running.specs.Running.{stateOf, countsOf, anchorOf, withCounts, withAnchor, Sane, Opens}
 use Rattle.running.specs.declared.Record.{Record}
 use Rattle.opens.specs.Own.{isId, childrenAt, ownAt, Marked}
-use Rattle.milestones.specs.Steps.{Stepped, Milestoned}
+use Rattle.milestones.specs.Steps.{Stepped, Milestoned, Steppable}
 use Rattle.checker.specs.Walking.{Anchored, nowhere, walkAt, Ready, Went, Walked, toldAt, below, visitFindings, visitState, Visited, Visitable, quiet}
 use Rattle.checker.proofs.Quiet.{quiet-walked}
 
@@ -43,12 +44,12 @@ count-low s t ok =
     ltb-false 65535 (count t) (either-false (not (eqb (length t % 16) 0)) _ (a .1) .1)
 
 -- what a visit begins with
-pub record Visit (table words : List ℕ) (entries : ℕ) (s t : List ℕ) (depth : ℕ) (o : state.Around) (i to : ℕ) (e : Entry) (numbers : Attached) (seen opens l : List ℕ) (r : Record) : Type 0 where
+pub record Visit (table words : List ℕ) (entries : ℕ) (s t : List ℕ) (depth : ℕ) (o : state.Around) (i to : ℕ) (e : Entry) (numbers : Attached) (seen : List ℕ) (opens : List OpenStart) (l : List ℕ) (r : Record) : Type 0 where
   pub ready : Ready table words entries s t depth i to seen opens r
   pub able : Visitable s t i to numbers r
   pub room : Room (countsOf r) (visitFindings table s t o e i to seen opens r)
 
-module _ {table words : List ℕ} {entries : ℕ} {s t : List ℕ} {depth : ℕ} {o : state.Around} {i to : ℕ} {e : Entry} {numbers : Attached} {seen opens l : List ℕ} {r : Record} (v : Visit table words entries s t depth o i to e numbers seen opens l r) where
+module _ {table words : List ℕ} {entries : ℕ} {s t : List ℕ} {depth : ℕ} {o : state.Around} {i to : ℕ} {e : Entry} {numbers : Attached} {seen : List ℕ} {opens : List OpenStart} {l : List ℕ} {r : Record} (v : Visit table words entries s t depth o i to e numbers seen opens l r) where
   abbrev x : Node
   x = nodeAt s t i
 
@@ -128,14 +129,14 @@ module _ {table words : List ℕ} {entries : ℕ} {s t : List ℕ} {depth : ℕ}
     pub milestone-room : Room (countsOf r₁) (given (milestoneChecks e (stateOf s t [] opens r₁) x))
     milestone-room = rw milestone-same (left-room after-own (room-first (countsOf r) (own ++ milestone) children roomy))
 
-    pub milestone-more : 2 * (r₁ .«open» + 1) ≤ length opens
+    pub milestone-more : r₁ .«open» < length opens
     milestone-more =
         let a = v .ready .open-room in
         let b = v .able .more in
         rw same-open (omega arith)
 
     -- after the milestone
-    module _ (l₂ opens₂ : List ℕ) (r₂ : Record) (lo : length opens₂ ≡ length opens) (done : Milestoned e s t i opens l₁ r₁ opens₂ l₂ r₂) where
+    module _ (l₂ : List ℕ) (opens₂ : List OpenStart) (r₂ : Record) (lo : length opens₂ ≡ length opens) (done : Milestoned e s t i opens l₁ r₁ opens₂ l₂ r₂) where
       stepped : Stepped e s t i opens (withCounts r₁ (countsOf r₂)) opens₂ r₂
       stepped = done .step
 
@@ -168,7 +169,7 @@ module _ {table words : List ℕ} {entries : ℕ} {s t : List ℕ} {depth : ℕ}
             nested = inner .children;
             start = omega arith;
             within = omega (arith, ll .1);
-            starts = stepped .opens;
+            starts = stepped .stays;
             sane = rw (stepped .verse, marked .verse) (v .ready .sane);
             seen-room = rw seen-now (omega (arith, ll .0, ll .1));
             open-room = rw lo (omega (arith, ll .0, ll .1));
@@ -183,7 +184,7 @@ module _ {table words : List ℕ} {entries : ℕ} {s t : List ℕ} {depth : ℕ}
       children-room o′ h =
           subst (λ (w : def.Walked). Room (countsOf r₂) (w .findings)) (sym (walk-same o′ h)) (left-room (left-wrote {gs = own ++ milestone} {fs = children} whole both-wrote) roomy)
 
-      pub visited : (o′ : state.Around) (seen′ opens′ l′ : List ℕ) (r₃ : Record) → o′ ≡ inside o e → Walked s t (walkAt table s t o′ (i + 1) (linkAt t i) seen opens₂ (withAnchor r₂ 0)) (depth - 1) (i + 1) (linkAt t i) l₂ (withAnchor r₂ 0) seen′ opens′ l′ r₃ → Visited table s t o e i to seen opens l r seen′ opens′ l′ (withAnchor r₃ (r .anchor))
+      pub visited : (o′ : state.Around) (seen′ : List ℕ) (opens′ : List OpenStart) (l′ : List ℕ) (r₃ : Record) → o′ ≡ inside o e → Walked s t (walkAt table s t o′ (i + 1) (linkAt t i) seen opens₂ (withAnchor r₂ 0)) (depth - 1) (i + 1) (linkAt t i) l₂ (withAnchor r₂ 0) seen′ opens′ l′ r₃ → Visited table s t o e i to seen opens l r seen′ opens′ l′ (withAnchor r₃ (r .anchor))
       visited o′ seen′ opens′ l′ r₃ h walked =
           let w = walked .went in
           let same = walk-same o′ h in
@@ -215,5 +216,68 @@ module _ {table words : List ℕ} {entries : ℕ} {s t : List ℕ} {depth : ℕ}
       pub visited-quiet : quiet c ≡ true → Visited table s t o e i to seen opens l r seen opens₂ l₂ (withAnchor r₂ (r .anchor))
       visited-quiet h = visited (inside o e) seen opens₂ l₂ (withAnchor r₂ 0) refl (quiet-walked (inside o e) l₂ children-ready refl h)
 
-pub visit-with : {table words : List ℕ} {entries : ℕ} {s t : List ℕ} {depth i to : ℕ} {numbers : Attached} {seen opens : List ℕ} {r : Record} (o : state.Around) (e : Entry) (l : List ℕ) → Ready table words entries s t depth i to seen opens r → Visitable s t i to numbers r → Room (countsOf r) (visitFindings table s t o e i to seen opens r) → Visit table words entries s t depth o i to e numbers seen opens l r
+pub visit-with : {table words : List ℕ} {entries : ℕ} {s t : List ℕ} {depth i to : ℕ} {numbers : Attached} {seen : List ℕ} {opens : List OpenStart} {r : Record} (o : state.Around) (e : Entry) (l : List ℕ) → Ready table words entries s t depth i to seen opens r → Visitable s t i to numbers r → Room (countsOf r) (visitFindings table s t o e i to seen opens r) → Visit table words entries s t depth o i to e numbers seen opens l r
 visit-with o e l ready able room = record { ready = ready; able = able; room = room }
+
+-- the marker checked and its milestone paired: the list, the open starts and the record before its children
+pub record Entered (table words : List ℕ) (entries : ℕ) (s t : List ℕ) (depth : ℕ) (o : state.Around) (i to : ℕ) (e : Entry) (numbers : Attached) (seen : List ℕ) (opens : List OpenStart) (l : List ℕ) (r : Record) (l₂ : List ℕ) (opens₂ : List OpenStart) (r₂ : Record) : Type 0 where
+  pub visit : Visit table words entries s t depth o i to e numbers seen opens l r
+  pub l₁ : List ℕ
+  pub r₁ : Record
+  pub marked : Marked table s t o (anchorOf s t (r .anchor) i) e i to l r l₁ r₁
+  pub long : length opens₂ ≡ length opens
+  pub done : Milestoned e s t i opens l₁ r₁ opens₂ l₂ r₂
+
+-- the walk of the children
+pub record Inner (table words : List ℕ) (entries : ℕ) (s t : List ℕ) (depth : ℕ) (o : state.Around) (i to : ℕ) (e : Entry) (numbers : Attached) (seen : List ℕ) (opens : List OpenStart) (l : List ℕ) (r : Record) (l₂ : List ℕ) (opens₂ : List OpenStart) (r₂ b q : Record) (from link d : ℕ) (o′ : state.Around) : Type 0 where
+  pub whole : Entered table words entries s t depth o i to e numbers seen opens l r l₂ opens₂ r₂
+  pub before : b ≡ r
+  pub now-is : q ≡ withAnchor r₂ 0
+  pub from-is : from ≡ i + 1
+  pub link-is : link ≡ linkAt t i
+  pub deeper : d ≡ depth - 1
+  pub around : o′ ≡ inside o e
+
+module _ {table words : List ℕ} {entries : ℕ} {s t : List ℕ} {depth : ℕ} {o : state.Around} {i to : ℕ} {e : Entry} {numbers : Attached} {seen : List ℕ} {opens : List OpenStart} {l : List ℕ} {r : Record} where
+  pub steppable : (v : Visit table words entries s t depth o i to e numbers seen opens l r) (l₁ : List ℕ) (r₁ : Record) → Marked table s t o (anchorOf s t (r .anchor) i) e i to l r l₁ r₁ → Steppable e s t i opens r₁
+  steppable v l₁ r₁ marked =
+      let low = visit-low v in
+      record {
+        spanned = visit-spanned v;
+        low = omega arith;
+        known = milestone-opens v l₁ r₁ marked;
+        more = milestone-more v l₁ r₁ marked;
+        room = milestone-room v l₁ r₁ marked;
+      }
+
+  pub enters : (v : Visit table words entries s t depth o i to e numbers seen opens l r) (l₁ : List ℕ) (r₁ : Record) → Marked table s t o (anchorOf s t (r .anchor) i) e i to l r l₁ r₁ → (l₂ : List ℕ) (opens₂ : List OpenStart) (r₂ : Record) → length opens₂ ≡ length opens → Milestoned e s t i opens l₁ r₁ opens₂ l₂ r₂ → Entered table words entries s t depth o i to e numbers seen opens l r l₂ opens₂ r₂
+  enters v l₁ r₁ marked l₂ opens₂ r₂ long done = record { visit = v; l₁ = l₁; r₁ = r₁; marked = marked; long = long; done = done }
+
+  module _ {l₂ : List ℕ} {opens₂ : List OpenStart} {r₂ : Record} (x : Entered table words entries s t depth o i to e numbers seen opens l r l₂ opens₂ r₂) (link : ℕ) (link-is : link ≡ linkAt t i) where
+    pub inner-run : Run s t (i + 1) link
+    inner-run = rw link-is (visit-children (x .visit))
+
+    pub visited-still : (q : Bool) → q ≡ quiet (forest s t (i + 1) link) → q ≡ true → (b p : Record) → b ≡ r → p ≡ withAnchor r₂ (b .anchor) → Visited table s t o e i to seen opens l r seen opens₂ l₂ p
+    visited-still q q-is h b p b-is p-is = rw (p-is, b-is) (visited-quiet (x .visit) (x .l₁) (x .r₁) (x .marked) l₂ opens₂ r₂ (x .long) (x .done) (rw link-is at (sym q-is ∙ h)))
+
+  module _ {l₂ : List ℕ} {opens₂ : List OpenStart} {r₂ b q : Record} {from link d : ℕ} {o′ : state.Around} (y : Inner table words entries s t depth o i to e numbers seen opens l r l₂ opens₂ r₂ b q from link d o′) where
+    pub inner-asks : Ready table words entries s t d from link seen opens₂ q × Room (countsOf q) (walkAt table s t o′ from link seen opens₂ q .findings)
+    inner-asks =
+        let x = y .whole in
+        rw (y .from-is, y .link-is, y .now-is, y .deeper)
+        (children-ready (x .visit) (x .l₁) (x .r₁) (x .marked) l₂ opens₂ r₂ (x .long) (x .done), children-room (x .visit) (x .l₁) (x .r₁) (x .marked) l₂ opens₂ r₂ (x .long) (x .done) o′ (y .around))
+
+    pub inner-less : 2 * d + 1 < 2 * depth
+    inner-less = let e = y .deeper in let h = visit-deep (y .whole .visit) in omega arith
+
+    pub visited-whole : (seen′ : List ℕ) (opens′ : List OpenStart) (l′ : List ℕ) (r₃ : Record) → Walked s t (walkAt table s t o′ from link seen opens₂ q) d from link l₂ q seen′ opens′ l′ r₃ → (p : Record) → p ≡ withAnchor r₃ (b .anchor) → Visited table s t o e i to seen opens l r seen′ opens′ l′ p
+    visited-whole seen′ opens′ l′ r₃ w p p-is =
+        let x = y .whole in
+        rw (p-is, y .before) (visited (x .visit) (x .l₁) (x .r₁) (x .marked) l₂ opens₂ r₂ (x .long) (x .done) o′ seen′ opens′ l′ r₃ (y .around) (rw (y .from-is, y .link-is, y .now-is, y .deeper) at w))
+
+-- numbers of a visit
+pub next-fits : {table words : List ℕ} {entries : ℕ} {s t : List ℕ} {depth : ℕ} {o : state.Around} {i to : ℕ} {e : Entry} {numbers : Attached} {seen : List ℕ} {opens : List OpenStart} {l : List ℕ} {r : Record} → Visit table words entries s t depth o i to e numbers seen opens l r → i + 1 < 2 ^ 64
+next-fits v = let low = visit-low v in omega arith
+
+pub same-depth : (d : ℕ) → 2 * d < 2 * d + 1
+same-depth d = omega arith

@@ -4,20 +4,23 @@ use running::Around;
 use running::Record;
 use table::Info;
 use table::MarkerInfo;
+use validate::OpenStart;
 ghost use mathlib.Core.Path.{_≡_};
 ghost use mathlib.Core.List.{[]};
 ghost use Prim.Native.Nat.{_+_, _<_, _≤_};
 ghost use lib.ListN.{length};
-ghost use Rattle.tape.specs.Nodes.{nodeAt};
+ghost use Rattle.tape.specs.Nodes.{nodeAt, kindAt, isOpen};
 ghost use Rattle.tape.specs.Nodes.{count as nodes};
 ghost use Rattle.tape.specs.Forest.{forest, Nested, Accepted};
-ghost use Rattle.table.specs.Entries.{Indexed, entryOfInfo};
+ghost use Rattle.table.specs.Entries.{Indexed, infoOf, entryOfInfo};
+ghost use Rattle.cursor.specs.Info.{infoAt};
+ghost use Rattle.numbers.specs.Label.{numbered};
 ghost use Rattle.cursor.specs.Inner.{Run, Spanned};
 ghost use Rattle.findings.specs.Written.{Room};
 ghost use Rattle.attachment.specs.Attached.{startsOf};
 ghost use Rattle.validate.specs.Checks.{leafTold};
 ghost use Rattle.running.specs.Running.{stateOf, aroundOf, anchorOf, startsFor, countsOf, Sane};
-ghost use Rattle.checker.specs.Walking.{Ready, Walked, Visited, Visitable, Anchored, walkAt, visitFindings, LeafPassed, numbersAfter, quiet};
+ghost use Rattle.checker.specs.Walking.{Ready, Walked, Visited, Visitable, Anchored, walkAt, visitFindings, LeafPassed, numbersAfter, onlyOpen, Passable, PassedBy, quiet};
 
 // The numbers attached to an anchor, among the siblings up to `to`; none without an anchor.
 fn anchored(
@@ -103,6 +106,64 @@ fn leaf(
     r
 }
 
+// Whether a node is a Chapter or a Verse.
+fn is_number(tape: &[u8], i: usize) -> bool
+    requires { ⌜ i < nodes (now tape) ⌝ }
+    ensures { λ r. ⌜ r ≡ numbered (kindAt (now (tape .entry)) i) ⌝ }
+{
+    numbers::is_numbered(tape::kind_at(tape, i))
+}
+
+// The table entry of a marker; a leaf has none here.
+fn marker(table: &[u8], words: &[u64], count: usize, tape: &[u8], i: usize) -> Info
+    requires { ⌜ (Indexed (now table) (now words) count) × (i < nodes (now tape)) ⌝ }
+    ensures { λ r. ⌜ infoOf r ≡ onlyOpen (isOpen (kindAt (now (tape .entry)) i)) (infoAt (now (table .entry)) (now (tape .entry)) i) ⌝ }
+{
+    if tape::kind_at(tape, i) == 1 {
+        return cursor::marker_info(table, words, count, tape, i);
+    }
+    Info::Missing
+}
+
+// The visit of a leaf, to which the record is lent: a Chapter or a Verse updates it, and any other node is passed. It gives the
+// numbers attached to what follows, from `next` on.
+fn visit_leaf(
+    table: &[u8],
+    words: &[u64],
+    count: usize,
+    source: &[u8],
+    tape: &[u8],
+    i: usize,
+    next: usize,
+    to: usize,
+    around: Around,
+    numbers: Attached,
+    rec: &mut Record,
+    seen: &mut [u32],
+    list: &mut [u64],
+) -> Attached
+    requires { ⌜ Passable (now table) (now words) count (now source) (now tape) (aroundOf around) i next to (now seen) (now rec) ⌝ }
+    ensures { λ r. ⌜ PassedBy (now (table .entry)) (now (source .entry)) (now (tape .entry)) (aroundOf around) i next to numbers (now (seen .entry)) (now (list .entry)) (now (rec .entry)) (now (seen .exit)) (now (list .exit)) (now (rec .exit)) r ⌝ }
+{
+    if is_number(tape, i) {
+        let before = *rec;
+        *rec = leaf(
+            table,
+            words,
+            count,
+            source,
+            tape,
+            i,
+            around,
+            before,
+            seen,
+            list,
+        );
+        return numbers_after(source, tape, i, next, to, numbers);
+    }
+    numbers
+}
+
 // Whether a run has no marker, no chapter and no verse. Most markers hold such a run, and the walk of it is spared.
 fn is_quiet(source: &[u8], tape: &[u8], from: usize, to: usize) -> bool
     requires { ⌜ Run (now source) (now tape) from to ⌝ }
@@ -125,6 +186,7 @@ fn is_quiet(source: &[u8], tape: &[u8], from: usize, to: usize) -> bool
     true
 }
 
+// What is said of a marker, and of what lies in it. The record is lent: it is updated.
 fn visit(
     table: &[u8],
     words: &[u64],
@@ -137,23 +199,25 @@ fn visit(
     m: MarkerInfo,
     around: Around,
     numbers: Attached,
-    rec: Record,
+    rec: &mut Record,
     seen: &mut [u32],
-    opens: &mut [u64],
+    opens: &mut [OpenStart],
     list: &mut [u64],
-) -> Record
-    requires { ⌜ (Ready (now table) (now words) count (now source) (now tape) depth i to (now seen) (now opens) rec) × (Visitable (now source) (now tape) i to numbers rec) × (m .«name_start» + m .«name_len» ≤ length (now table)) × Room (countsOf rec) (visitFindings (now table) (now source) (now tape) (aroundOf around) (entryOfInfo m) i to (now seen) (now opens) rec) ⌝ }
-    ensures { λ r. ⌜ Visited (now (table .entry)) (now (source .entry)) (now (tape .entry)) (aroundOf around) (entryOfInfo m) i to (now (seen .entry)) (now (opens .entry)) (now (list .entry)) rec (now (seen .exit)) (now (opens .exit)) (now (list .exit)) r ⌝ }
+)
+    requires { ⌜ (Ready (now table) (now words) count (now source) (now tape) depth i to (now seen) (now opens) (now rec)) × (Visitable (now source) (now tape) i to numbers (now rec)) × (m .«name_start» + m .«name_len» ≤ length (now table)) × Room (countsOf (now rec)) (visitFindings (now table) (now source) (now tape) (aroundOf around) (entryOfInfo m) i to (now seen) (now opens) (now rec)) ⌝ }
+    ensures { λ _. ⌜ Visited (now (table .entry)) (now (source .entry)) (now (tape .entry)) (aroundOf around) (entryOfInfo m) i to (now (seen .entry)) (now (opens .entry)) (now (list .entry)) (now (rec .entry)) (now (seen .exit)) (now (opens .exit)) (now (list .exit)) (now (rec .exit)) ⌝ }
 {
-    let anchor = rec.anchor;
-    let r1 = opens::visit_marker(table, m, source, tape, i, to, around, numbers, rec, list);
-    let r2 = milestones::milestone(m, source, tape, i, opens, r1, list);
+    let before = *rec;
+    let marked = opens::visit_marker(table, m, source, tape, i, to, around, numbers, before, list);
+    let paired = milestones::milestone(m, source, tape, i, opens, marked, list);
     let from = i + 1;
     let link = tape::link_at(tape, i) as usize;
     if is_quiet(source, tape, from, link) {
-        return running::with_anchor(r2, anchor);
+        *rec = running::with_anchor(paired, before.anchor);
+        return;
     }
-    let r3 = walk(
+    *rec = running::with_anchor(paired, 0);
+    walk(
         table,
         words,
         count,
@@ -163,12 +227,12 @@ fn visit(
         link,
         depth - 1,
         running::inside(around, m),
-        running::with_anchor(r2, 0),
+        rec,
         seen,
         opens,
         list,
     );
-    running::with_anchor(r3, anchor)
+    *rec = running::with_anchor(*rec, before.anchor);
 }
 
 // The findings of the nodes from one up to another, the record after them with its lists, and the last anchor.
@@ -182,40 +246,38 @@ pub fn walk(
     to: usize,
     depth: usize,
     around: Around,
-    rec: Record,
+    rec: &mut Record,
     seen: &mut [u32],
-    opens: &mut [u64],
+    opens: &mut [OpenStart],
     list: &mut [u64],
-) -> Record
-    requires { ⌜ (Ready (now table) (now words) count (now source) (now tape) depth from to (now seen) (now opens) rec) × Room (countsOf rec) (walkAt (now table) (now source) (now tape) (aroundOf around) from to (now seen) (now opens) rec .findings) ⌝ }
-    ensures { λ r. ⌜ Walked (now (source .entry)) (now (tape .entry)) (walkAt (now (table .entry)) (now (source .entry)) (now (tape .entry)) (aroundOf around) from to (now (seen .entry)) (now (opens .entry)) rec) depth from to (now (list .entry)) rec (now (seen .exit)) (now (opens .exit)) (now (list .exit)) r ⌝ }
+)
+    requires { ⌜ (Ready (now table) (now words) count (now source) (now tape) depth from to (now seen) (now opens) (now rec)) × Room (countsOf (now rec)) (walkAt (now table) (now source) (now tape) (aroundOf around) from to (now seen) (now opens) (now rec) .findings) ⌝ }
+    ensures { λ _. ⌜ Walked (now (source .entry)) (now (tape .entry)) (walkAt (now (table .entry)) (now (source .entry)) (now (tape .entry)) (aroundOf around) from to (now (seen .entry)) (now (opens .entry)) (now (rec .entry))) depth from to (now (list .entry)) (now (rec .entry)) (now (seen .exit)) (now (opens .exit)) (now (list .exit)) (now (rec .exit)) ⌝ }
 {
-    let mut r = rec;
     let mut numbers = anchored(source, tape, depth, rec.anchor, from, to);
     let mut i = from;
     while i < to {
         let here = i;
         i = cursor::past_node(tape, here);
-        if tape::kind_at(tape, here) != 1 {
-            r = leaf(
-                table,
-                words,
-                count,
-                source,
-                tape,
-                here,
-                around,
-                r,
-                seen,
-                list,
-            );
-            numbers = numbers_after(source, tape, here, i, to, numbers);
-            continue;
-        }
-        let Info::Known(m) = cursor::marker_info(table, words, count, tape, here) else {
+        numbers = visit_leaf(
+            table,
+            words,
+            count,
+            source,
+            tape,
+            here,
+            i,
+            to,
+            around,
+            numbers,
+            rec,
+            seen,
+            list,
+        );
+        let Info::Known(m) = marker(table, words, count, tape, here) else {
             continue;
         };
-        r = visit(
+        visit(
             table,
             words,
             count,
@@ -227,11 +289,10 @@ pub fn walk(
             m,
             around,
             numbers,
-            r,
+            rec,
             seen,
             opens,
             list,
         );
     }
-    r
 }

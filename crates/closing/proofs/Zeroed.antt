@@ -1,4 +1,4 @@
--- A working list whose first entries are made zero, one at a time.
+-- A working list whose first entries are made nothing, one at a time.
 -- Assumes nothing.
 use Prim.Native.Nat.{ℕ, zero, suc, _+_, _<_, _≤_}
 use mathlib.Core.Path.{_≡_, refl, ap, _∙_}
@@ -7,28 +7,32 @@ use native.Mathlib.Omega.{arith}
 use native.Mathlib.Numerals.{add-one}
 use lib.ListN.{length, getD, set, drop}
 use lib.Seq.{drop-cons, set-at}
-use Rattle.validate.specs.Outcome.{zeros, cleared}
+use Rattle.validate.specs.Outcome.{blanks, cleared}
 
-length-zeros : (n : ℕ) → length (zeros n) ≡ n
-unfolding zeros
-length-zeros zero = refl
-length-zeros (suc n) = ap suc (length-zeros n)
+module _ {A : Type 0} (nothing : A) where
+  length-blanks : (n : ℕ) → length (blanks nothing n) ≡ n
+  unfolding blanks
+  length-blanks zero = refl
+  length-blanks (suc n) = ap suc (length-blanks n)
 
-zeros-more : (n : ℕ) (ys : List ℕ) → zeros n ++ 0 ∷ ys ≡ zeros (suc n) ++ ys
-unfolding zeros
-zeros-more zero ys = refl
-zeros-more (suc n) ys = ap (λ (l : List ℕ). 0 ∷ l) (zeros-more n ys)
+  blanks-more : (n : ℕ) (ys : List A) → blanks nothing n ++ nothing ∷ ys ≡ blanks nothing (suc n) ++ ys
+  unfolding blanks
+  blanks-more zero ys = refl
+  blanks-more (suc n) ys = ap (λ (l : List A). nothing ∷ l) (blanks-more n ys)
 
-pub cleared-none : (l : List ℕ) → l ≡ cleared 0 l
-unfolding zeros
-cleared-none l = refl
+  pub cleared-none : (l : List A) → l ≡ cleared nothing 0 l
+  unfolding blanks
+  cleared-none l = refl
 
-pub cleared-more : (l₀ l : List ℕ) (i : ℕ) → l ≡ cleared i l₀ → i < length l₀ → set l i 0 ≡ cleared (i + 1) l₀
-cleared-more l₀ l i e h =
-    ap (λ (x : List ℕ). set x i 0) (e ∙ ap (λ (x : List ℕ). zeros i ++ x) (drop-cons l₀ i 0 h))
-    ∙ set-at (zeros i) (getD l₀ i 0) (drop (suc i) l₀) 0 i (length-zeros i)
-    ∙ zeros-more i (drop (suc i) l₀)
-    ∙ rw add-one
+  pub cleared-more : (l₀ l : List A) (i : ℕ) → l ≡ cleared nothing i l₀ → i < length l₀ → set l i nothing ≡ cleared nothing (i + 1) l₀
+  cleared-more l₀ l i e h =
+      ap (λ (x : List A). set x i nothing) (e ∙ ap (λ (x : List A). blanks nothing i ++ x) (drop-cons l₀ i nothing h))
+      ∙ set-at (blanks nothing i) (getD l₀ i nothing) (drop (suc i) l₀) nothing i (length-blanks i)
+      ∙ blanks-more i (drop (suc i) l₀)
+      ∙ rw add-one
 
-pub cleared-all : (l₀ l : List ℕ) (i n : ℕ) → l ≡ cleared i l₀ → i ≤ n → n ≤ i → l ≡ cleared n l₀
-cleared-all l₀ l i n e h g = let q : i ≡ n = omega arith in rw (← q) e
+  pub cleared-all : (l₀ l : List A) (i n : ℕ) → l ≡ cleared nothing i l₀ → i ≤ n → n ≤ i → l ≡ cleared nothing n l₀
+  cleared-all l₀ l i n e h g = let q : i ≡ n = omega arith in rw (← q) e
+
+pub here : (i n m : ℕ) → i < n → n ≤ m → i < m
+here i n m h l = omega arith

@@ -1,10 +1,16 @@
 -- What the functions before and after the walk promise.
-use Prim.Native.Nat.{ℕ}
+use Prim.Native.Nat.{ℕ, _<_}
 use mathlib.Core.Bool.{Bool, true, false, not}
 use mathlib.Core.List.{List, [], _∷_}
 use Rattle.text.specs.Pick.{both, either}
-use Rattle.validate.specs.Checks.{Check, when}
-use Rattle.validate.specs.Document.{ofDocument}
+use Rattle.tape.specs.Nodes.{count, nodeAt}
+use Rattle.findings.specs.Finding.{Finding}
+use Rattle.findings.specs.declared.Counts.{Counts}
+use Rattle.findings.specs.Written.{Room}
+use Rattle.validate.specs.Checks.{Check, when, error}
+use Rattle.validate.specs.declared.OpenStart.{OpenStart}
+use Rattle.validate.specs.Document.{ofDocument, unclosed}
+use Rattle.running.specs.Running.{starts, countsOf, Opens}
 use Rattle.running.specs.declared.Record.{Record}
 
 -- MissingIdMarker, MissingChapterMarker: the conditions of `closing`, of the code's record
@@ -13,3 +19,16 @@ missingChecks r =
     when (both (not (r .«has_id»)) (either (r .«has_chapter») (r .«has_verse»))) (ofDocument 4)
     ∷ when (both (either (r .«has_id») (r .«has_verse»)) (both (not (r .«has_chapter»)) (not (r .«front_matter»)))) (ofDocument 8)
     ∷ []
+
+-- the open starts that are left are known, and there is room for what is said of them
+pub record Left (s t : List ℕ) (opens : List OpenStart) (r : Record) : Type 0 where
+  pub known : Opens s t opens (r .«open»)
+  pub room : Room (countsOf r) (unclosed (starts s t opens (r .«open»)))
+
+-- what is said of one
+abbrev pub ofOpen : List ℕ → OpenStart → List Finding
+ofOpen t o = error (nodeAt [] t (o .node)) 16 0 ∷ []
+
+pub record Tellable (t : List ℕ) (o : OpenStart) (c : Counts) : Type 0 where
+  pub inside : o .node < count t
+  pub room : Room c (ofOpen t o)

@@ -7,6 +7,7 @@ use findings::MISSING_ID_MARKER;
 use findings::Severity;
 use findings::TEXT_BEFORE_ID;
 use running::Record;
+use validate::OpenStart;
 ghost use mathlib.Core.Path.{_≡_};
 ghost use mathlib.Core.Bool.{not};
 ghost use Prim.Native.Nat.{_≤_};
@@ -22,9 +23,9 @@ ghost use Rattle.findings.specs.Written.{Wrote, Room};
 ghost use Rattle.validate.specs.Checks.{given};
 ghost use Rattle.validate.specs.Document.{textBefore, ofDocument};
 ghost use Rattle.validate.specs.Document;
-ghost use Rattle.validate.specs.Outcome.{cleared};
-ghost use Rattle.running.specs.Running.{countsOf, starts, Opens};
-ghost use Rattle.closing.specs.Ends.{missingChecks};
+ghost use Rattle.validate.specs.Outcome.{noStart, cleared};
+ghost use Rattle.running.specs.Running.{countsOf, starts};
+ghost use Rattle.closing.specs.Ends.{missingChecks, Left, ofOpen, Tellable};
 
 // A finding of no node.
 fn of_document(code: u64) -> Finding
@@ -70,20 +71,40 @@ pub fn text_before(source: &[u8], tape: &[u8], to: usize, rec: Record, list: &mu
     )
 }
 
-// The open starts that are left, in opening order.
-pub fn unclosed(source: &[u8], tape: &[u8], opens: &[u64], rec: Record, list: &mut [u64]) -> Counts
-    requires { ⌜ (Opens (now source) (now tape) (now opens) (rec .«open»)) × Room (countsOf rec) (Document.unclosed (starts (now source) (now tape) (now opens) (rec .«open»))) ⌝ }
-    ensures { λ r. ⌜ Wrote (Document.unclosed (starts (now (source .entry)) (now (tape .entry)) (now (opens .entry)) (rec .«open»))) (now (list .entry)) (countsOf rec) (now (list .exit)) r ⌝ }
+// The finding of an open start that is left.
+fn tell_open(tape: &[u8], o: OpenStart, list: &mut [u64], c: Counts) -> Counts
+    requires { ⌜ Tellable (now tape) o c ⌝ }
+    ensures { λ r. ⌜ Wrote (ofOpen (now (tape .entry)) o) (now (list .entry)) c (now (list .exit)) r ⌝ }
 {
+    let f = running::about(
+        tape,
+        o.node as usize,
+        Severity::Error,
+        MILESTONE_MISMATCH,
+        0,
+        0,
+        0,
+    );
+    findings::push(list, c, f)
+}
+
+// The open starts that are left, in opening order.
+pub fn unclosed(
+    source: &[u8],
+    tape: &[u8],
+    opens: &mut [OpenStart],
+    rec: Record,
+    list: &mut [u64],
+) -> Counts
+    requires { ⌜ Left (now source) (now tape) (now opens) rec ⌝ }
+    ensures { λ r. ⌜ (now (opens .exit) ≡ now (opens .entry)) × Wrote (Document.unclosed (starts (now (source .entry)) (now (tape .entry)) (now (opens .entry)) (rec .«open»))) (now (list .entry)) (countsOf rec) (now (list .exit)) r ⌝ }
+{
+    let n = rec.open;
     let mut c = running::counts(rec);
     let mut k: usize = 0;
-    while k < rec.open {
-        let node = opens[2 * k] as usize;
-        c = findings::push(
-            list,
-            c,
-            running::about(tape, node, Severity::Error, MILESTONE_MISMATCH, 0, 0, 0),
-        );
+    while k < n {
+        let o = opens[k];
+        c = tell_open(tape, o, list, c);
         k += 1;
     }
     c
@@ -125,7 +146,7 @@ fn and(a: bool, b: bool) -> bool
 
 pub fn clear_seen(seen: &mut [u32], n: usize)
     requires { ⌜ n ≤ length (now seen) ⌝ }
-    ensures { λ r. ⌜ now (seen .exit) ≡ cleared n (now (seen .entry)) ⌝ }
+    ensures { λ r. ⌜ now (seen .exit) ≡ cleared 0 n (now (seen .entry)) ⌝ }
 {
     let mut i: usize = 0;
     while i < n {
@@ -134,13 +155,17 @@ pub fn clear_seen(seen: &mut [u32], n: usize)
     }
 }
 
-pub fn clear_opens(opens: &mut [u64], n: usize)
+pub fn clear_opens(opens: &mut [OpenStart], n: usize)
     requires { ⌜ n ≤ length (now opens) ⌝ }
-    ensures { λ r. ⌜ now (opens .exit) ≡ cleared n (now (opens .entry)) ⌝ }
+    ensures { λ r. ⌜ now (opens .exit) ≡ cleared noStart n (now (opens .entry)) ⌝ }
 {
+    let nothing = OpenStart {
+        node: 0,
+        base_len: 0,
+    };
     let mut i: usize = 0;
     while i < n {
-        opens[i] = 0;
+        opens[i] = nothing;
         i += 1;
     }
 }

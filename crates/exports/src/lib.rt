@@ -5,6 +5,7 @@ use messages::Asked;
 use messages::Told;
 use tally::Tallied;
 use telling::Texts;
+use validate::OpenStart;
 ghost use mathlib.Core.Path.{_≡_};
 ghost use Rattle.validate.specs.Outcome.{answer, listAfter, seenAfter, openAfter};
 ghost use Rattle.marking.specs.Entry.{answerOf, lent};
@@ -70,7 +71,7 @@ pub extern "C" fn harkoxin_check(
     source: &[u8],
     tape: &[u8],
     seen: &mut [u32],
-    opens: &mut [u64],
+    opens: &mut [OpenStart],
     list: &mut [u64],
     out: &mut [u64],
 )

@@ -1,6 +1,7 @@
 -- Bytes laid over a list one at a time.
 -- Assumes nothing.
-use Prim.Native.Nat.{ℕ, suc, _+_, _<_, _≤_}
+use Prim.Native.Nat.{ℕ, suc, _+_, _-_, _<_, _≤_, min}
+use native.Mathlib.Decide.{decLe}
 use native.Mathlib.Omega.{arith}
 use native.Mathlib.Nat.{add-zero, zero-add, add-assoc}
 use native.Mathlib.Numerals.{add-one}
@@ -34,6 +35,14 @@ module _ (s l₀ : List ℕ) (at : ℕ) (l : List ℕ) (i : ℕ) (y : Laying s l
 
   pub laying-end : length s ≤ i → l ≡ over l₀ at s
   laying-end h = sym (over-none l (at + i)) ∙ rw (drop-of-length-le s {i = i} h) at (y .whole)
+
+  -- all that has room is laid
+  pub laying-done : min (length s) (length l₀ - at) ≤ i → l ≡ over l₀ at s
+  laying-done h = go (decLe (length s) i)
+    where
+      go : Dec (length s ≤ i) → l ≡ over l₀ at s
+      go (yes k) = laying-end k
+      go (no k) = laying-full (let e = y .same in omega arith)
 
 -- the same from the list's start
 pub laying-first : (s l₀ l : List ℕ) (i : ℕ) → Laying s l₀ 0 l i → i < length s → i < length l → Laying s l₀ 0 (set l i (getD s i 0)) (i + 1)

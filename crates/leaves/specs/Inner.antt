@@ -12,6 +12,7 @@ use Rattle.numbers.specs.declared.PartRead.{PartRead}
 use Rattle.numbers.specs.declared.PartRead.the-variants as read
 use Rattle.validate.specs.State as state
 use Rattle.validate.specs.Checks.{afterChapter, afterVerse}
+use Rattle.validate.specs.declared.OpenStart.{OpenStart}
 use Rattle.running.specs.Running.{stateOf, Sane}
 use Rattle.running.specs.declared.Record.{Record}
 
@@ -27,7 +28,7 @@ pub record LabelRead (e : Option Entry) (x : Node) (label : List ℕ) (glued : B
 
 -- the record after the Chapter of node i, and the chapters seen; neither the source nor the open starts matter
 pub record PassedChapter (t : List ℕ) (i : ℕ) (seen : List ℕ) (r : Record) (seen′ : List ℕ) (q : Record) : Type 0 where
-  pub state : (s opens : List ℕ) → stateOf s t seen′ opens q ≡ afterChapter (stateOf s t seen opens r) (nodeAt s t i)
+  pub state : (s : List ℕ) (opens : List OpenStart) → stateOf s t seen′ opens q ≡ afterChapter (stateOf s t seen opens r) (nodeAt s t i)
   pub sane : Sane q
   pub one-seen : q .seen ≡ r .seen + 1
   pub opens : q .«open» ≡ r .«open»
@@ -35,7 +36,7 @@ pub record PassedChapter (t : List ℕ) (i : ℕ) (seen : List ℕ) (r : Record)
 
 -- the record after the Verse of node i, whatever chapters are seen and starts open
 pub record PassedVerse (e : Option Entry) (s t : List ℕ) (o : state.Around) (i : ℕ) (r q : Record) : Type 0 where
-  pub state : (seen opens : List ℕ) → stateOf s t seen opens q ≡ afterVerse e o (stateOf s t seen opens r) (nodeAt s t i)
+  pub state : (seen : List ℕ) (opens : List OpenStart) → stateOf s t seen opens q ≡ afterVerse e o (stateOf s t seen opens r) (nodeAt s t i)
   pub sane : Sane q
   pub same-seen : q .seen ≡ r .seen
   pub opens : q .«open» ≡ r .«open»

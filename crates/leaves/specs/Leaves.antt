@@ -7,13 +7,14 @@ use Rattle.findings.specs.Written.{Wrote}
 use Rattle.validate.specs.State.{State}
 use Rattle.validate.specs.State as state
 use Rattle.validate.specs.Checks.{leafTold}
+use Rattle.validate.specs.declared.OpenStart.{OpenStart}
 use Rattle.running.specs.Running.{stateOf, countsOf, Sane}
 use Rattle.running.specs.declared.Record.{Record}
 
 -- the findings of node i are written and counted, and the record is the one after it; the open starts may be any
 pub record LeafVisited (table s t : List ℕ) (o : state.Around) (i : ℕ) (seen l : List ℕ) (r : Record) (seen′ l′ : List ℕ) (q : Record) : Type 0 where
   pub wrote : Wrote (leafTold table o (stateOf s t seen [] r) (nodeAt s t i) .findings) l (countsOf r) l′ (countsOf q)
-  pub state : (opens : List ℕ) → stateOf s t seen′ opens q ≡ leafTold table o (stateOf s t seen opens r) (nodeAt s t i) .state
+  pub state : (opens : List OpenStart) → stateOf s t seen′ opens q ≡ leafTold table o (stateOf s t seen opens r) (nodeAt s t i) .state
   pub sane : Sane q
   pub seen-few : q .seen ≤ r .seen + 1
   pub verses-few : q .verses ≤ r .verses + 1

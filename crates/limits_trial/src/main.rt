@@ -184,7 +184,7 @@ fn starts() -> [u64; 131072]
 fn answer(table: &[u8], source: &[u8], nodes: &[u8], list: &mut [u64]) -> u64 {
     let mut seen = chapters();
     let mut opens = starts();
-    match marking::check(table, source, nodes, &mut seen, &mut opens, list) {
+    match by_words::check_words(table, source, nodes, &mut seen, &mut opens, list) {
         Answer::Refused(number, place) => {
             turned_back(number, place);
             0

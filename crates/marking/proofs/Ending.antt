@@ -25,9 +25,10 @@ use Rattle.validate.specs.Checks.{given}
 use Rattle.validate.specs.Walk.{walk}
 use Rattle.validate.specs.Walk as def
 use Rattle.validate.specs.Document.{textBefore, unclosed, closing, walked, findings}
-use Rattle.validate.specs.Outcome.{Lent, addIf, ofSeverity, smaller, checked, checkedOf, cleared, zeros}
+use Rattle.validate.specs.Outcome.{Lent, addIf, ofSeverity, smaller, checked, checkedOf, cleared, blanks}
 use Rattle.validate.proofs.Few.{text-few, walk-few, given-few, unclosed-length}
 use Rattle.validate.proofs.Counted.{Graded, graded}
+use Rattle.validate.specs.declared.OpenStart.{OpenStart}
 use Rattle.running.specs.Running.{latest, starts, stateOf, countsOf, withCounts, Opens}
 use Rattle.running.specs.declared.Record.{Record}
 use Rattle.running.proofs.Opened.{starts-length}
@@ -36,7 +37,7 @@ use Rattle.checker.specs.Walking.{nowhere, walkAt, Ready, Walked}
 use Rattle.marking.specs.Entry.{none-yet, fresh, Ran, Fit, reported, lent}
 use Rattle.checker.proofs.Visiting.{count-low}
 
-module _ {table words : List ℕ} {entries : ℕ} {s t seen opens : List ℕ} (fit : Fit table words entries s t seen opens) where
+module _ {table words : List ℕ} {entries : ℕ} {s t seen : List ℕ} {opens : List OpenStart} (fit : Fit table words entries s t seen opens) where
   abbrev to : ℕ
   to = linkAt t 0
 
@@ -89,7 +90,7 @@ module _ {table words : List ℕ} {entries : ℕ} {s t seen opens : List ℕ} (f
     walk-room = let o = one in let h = heavy in omega arith
 
     -- after the walk
-    module _ (seen′ opens′ l₂ : List ℕ) (r : Record) (walked-so : Walked s t (walkAt table s t outside 1 to seen opens (withCounts fresh c)) 64 1 to l₁ (withCounts fresh c) seen′ opens′ l₂ r) where
+    module _ (seen′ : List ℕ) (opens′ : List OpenStart) (l₂ : List ℕ) (r : Record) (walked-so : Walked s t (walkAt table s t outside 1 to seen opens (withCounts fresh c)) 64 1 to l₁ (withCounts fresh c) seen′ opens′ l₂ r) where
       total-after : total (countsOf r) ≤ 1 + 16777232 * 65535
       total-after =
           let o = one in
@@ -140,7 +141,7 @@ by-severity c (f ∷ fs) h = go (f .severity) (h .0 .0) (λ d. by-severity d fs 
     go (suc (suc zero)) l k = let q = k (bySeverity 2 c) in (omega (arith, q .0), omega (arith, q .1), omega (arith, q .2))
     go (suc (suc (suc n))) l k = absurd (omega arith)
 
-module _ {table words : List ℕ} {entries : ℕ} {s t seen opens : List ℕ} (fit : Fit table words entries s t seen opens) (l l′ : List ℕ) (q : Record) (ran-so : Ran table s t l l′ q) where
+module _ {table words : List ℕ} {entries : ℕ} {s t seen : List ℕ} {opens : List OpenStart} (fit : Fit table words entries s t seen opens) (l l′ : List ℕ) (q : Record) (ran-so : Ran table s t l l′ q) where
   abbrev fs : List Finding
   fs = findings table (top s t)
 
@@ -158,5 +159,5 @@ module _ {table words : List ℕ} {entries : ℕ} {s t seen opens : List ℕ} (f
   finished n e = rw (total-is, e, counts-are .0, counts-are .1, counts-are .2, ran-so .verses)
 
 -- the whole of a list cleared
-pub cleared-whole : (n : ℕ) (xs : List ℕ) → length xs ≡ n → cleared n xs ≡ zeros n
-cleared-whole n xs e = let h : length xs ≤ n = omega arith in rw (drop-of-length-le xs h) (append-nil (zeros n))
+pub cleared-whole : {A : Type 0} (nothing : A) (n : ℕ) (xs : List A) → length xs ≡ n → cleared nothing n xs ≡ blanks nothing n
+cleared-whole nothing n xs e = let h : length xs ≤ n = omega arith in rw (drop-of-length-le xs h) (append-nil (blanks nothing n))

@@ -37,11 +37,11 @@ module _ (n seen opens : ℕ) where
   pub short-seen : seen < n → refuse 10 n ≡ listsRefusal n seen opens
   short-seen h = rw (lt-ltb seen n h)
 
-  pub short-opens : n ≤ seen → opens / 2 < n → refuse 10 n ≡ listsRefusal n seen opens
-  short-opens h k = rw (le-ltb seen n h, lt-ltb (opens / 2) n k)
+  pub short-opens : n ≤ seen → opens < n → refuse 10 n ≡ listsRefusal n seen opens
+  short-opens h k = rw (le-ltb seen n h, lt-ltb opens n k)
 
-  pub long-lists : n ≤ seen → n ≤ opens / 2 → none ≡ listsRefusal n seen opens
-  long-lists h k = rw (le-ltb seen n h, le-ltb (opens / 2) n k)
+  pub long-lists : n ≤ seen → n ≤ opens → none ≡ listsRefusal n seen opens
+  long-lists h k = rw (le-ltb seen n h, le-ltb opens n k)
 
 -- a gate that is shut decides, and one that is open lets the next one decide
 pub shut-first : (g : Gate) (a b : ℕ) (x y : Option Refusal) → gateOf g ≡ x → g ≡ gate.Shut a b → refuse a b ≡ orElse x y

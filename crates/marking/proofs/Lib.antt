@@ -2,3 +2,17 @@ pub mod Gates
 pub mod Ending
 pub mod Whole
 pub mod Lists
+pub mod Course
+pub mod CallLinkAt
+pub mod CallBegun
+pub mod CallWalk
+pub mod CallUnclosed
+pub mod CallEnded
+pub mod CallRun
+pub mod CallClearSeen
+pub mod CallClearOpens
+pub mod CallReported
+pub mod CallNodeCount
+pub mod Through
+pub mod CallTableGate
+pub mod CallChecked

@@ -17,7 +17,8 @@ use Rattle.tape.proofs.OneNumber.{accepted, neither, either-false, only-not}
 use Rattle.table.specs.Entries.{Indexed}
 use Rattle.findings.specs.Written.{overlay}
 use Rattle.validate.specs.Document.{findings}
-use Rattle.validate.specs.Outcome.{Lent, of1, of2, of3, ofTape, of9, of10, refusal, checkedOf, refused, checked, answer, listAfter, seenAfter, openAfter, zeros, cleared, shortList}
+use Rattle.validate.specs.Outcome.{Lent, of1, of2, of3, ofTape, of9, of10, refusal, checkedOf, refused, checked, answer, listAfter, seenAfter, openAfter, cleared, shortList}
+use Rattle.validate.specs.declared.OpenStart.{OpenStart}
 use Rattle.marking.specs.declared.Answer.{Answer}
 use Rattle.marking.specs.declared.Gate.{Gate}
 use Rattle.marking.specs.declared.Gate.the-variants as gate
@@ -27,7 +28,7 @@ pub or-assoc : (a b c : Option Refusal) → orElse (orElse a b) c ≡ orElse a (
 or-assoc none b c = refl
 or-assoc (some r) b c = refl
 
-module _ (table s t seen opens l : List ℕ) where
+module _ (table s t seen : List ℕ) (opens : List OpenStart) (l : List ℕ) where
   abbrev it : Lent
   it = lent table s t seen opens l
 
@@ -64,16 +65,14 @@ module _ (table s t seen opens l : List ℕ) where
       long = only-not (shortList it) 10 (count t) (neither (of9 it) (of10 it) (neither (ofTape it) (orElse (of9 it) (of10 it)) fromTape-none .1) .1)
 
       pub seen-long : count t ≤ length seen
-      seen-long = ltb-false (length seen) (count t) (either-false (ltb (length seen) (count t)) (ltb (length opens / 2) (count t)) long .0)
+      seen-long = ltb-false (length seen) (count t) (either-false (ltb (length seen) (count t)) (ltb (length opens) (count t)) long .0)
 
-      pub opens-long : 2 * count t ≤ length opens
-      opens-long =
-          let k : count t ≤ length opens / 2 = ltb-false (length opens / 2) (count t) (either-false (ltb (length seen) (count t)) (ltb (length opens / 2) (count t)) long .1) in
-          omega arith
+      pub opens-long : count t ≤ length opens
+      opens-long = ltb-false (length opens) (count t) (either-false (ltb (length seen) (count t)) (ltb (length opens) (count t)) long .1)
 
-      pub fits : (words : List ℕ) → Passed table words g → Fit table words n s t (take (count t) seen) (take (2 * count t) opens)
-      fits words p = record { indexed = rw e at p; accepted = ok; short = short; seen-room = length-take-le (count t) seen seen-long; open-room = length-take-le (2 * count t) opens opens-long }
+      pub fits : (words : List ℕ) → Passed table words g → Fit table words n s t (take (count t) seen) (take (count t) opens)
+      fits words p = record { indexed = rw e at p; accepted = ok; short = short; seen-room = length-take-le (count t) seen seen-long; open-room = length-take-le (count t) opens opens-long }
 
-      pub went-through : (seen′ opens′ l′ : List ℕ) (r : Answer) → Finished table s t (take (count t) seen) (take (2 * count t) opens) l seen′ opens′ l′ r → (answerOf r ≡ answer it) × ((l′ ≡ listAfter it) × ((seen′ ++ drop (count t) seen ≡ seenAfter it) × (opens′ ++ drop (2 * count t) opens ≡ openAfter it)))
+      pub went-through : (seen′ : List ℕ) (opens′ : List OpenStart) (l′ : List ℕ) (r : Answer) → Finished table s t (take (count t) seen) (take (count t) opens) l seen′ opens′ l′ r → (answerOf r ≡ answer it) × ((l′ ≡ listAfter it) × ((seen′ ++ drop (count t) seen ≡ seenAfter it) × (opens′ ++ drop (count t) opens ≡ openAfter it)))
       unfolding checkedOf
       went-through seen′ opens′ l′ r f = (f .answers ∙ rw nothing, (f .words ∙ rw nothing, (rw (f .seen-zero, nothing), rw (f .opens-zero, nothing))))

@@ -1,13 +1,13 @@
 -- What the entry's answer says, in document 01's numbers, and what the functions below it promise.
-use Prim.Native.Nat.{ℕ, zero, suc, _+_, _-_, _*_, _/_, _<_, _≤_}
+use Prim.Native.Nat.{ℕ, zero, suc, _+_, _-_, _<_, _≤_}
 use mathlib.Core.Path.{_≡_}
 use mathlib.Core.Bool.{Bool, true, false}
 use mathlib.Core.List.{List, [], _∷_, _++_}
 use mathlib.Core.Option.{Option, some, none}
 use lib.Dec.{ltb}
 use lib.ListN.{length}
-use Rattle.tape.specs.Nodes.{count}
-use Rattle.tape.specs.Forest.{top, Accepted}
+use Rattle.tape.specs.Nodes.{count, linkAt}
+use Rattle.tape.specs.Forest.{top, forest, Accepted}
 use Rattle.text.specs.Pick.{either}
 use Rattle.text.specs.Utf8.{firstIllFormed}
 use Rattle.tape.specs.Reading.{Refusal, refuse, onlyIf, orElse, tapeRefusal}
@@ -18,10 +18,13 @@ use Rattle.table.specs.Entries.{Indexed}
 use Rattle.findings.specs.Finding.{Finding}
 use Rattle.findings.specs.declared.Counts.{Counts}
 use Rattle.findings.specs.Written.{Wrote, Room, total, limit, overlay}
-use Rattle.validate.specs.Document.{findings, versesVisited}
-use Rattle.validate.specs.Outcome.{Lent, Checked, refused, checked, cleared, zeros, smaller, atPlace, checkedOf}
+use Rattle.validate.specs.Checks.{given}
+use Rattle.validate.specs.Document.{findings, versesVisited, textBefore}
+use Rattle.validate.specs.Outcome.{Lent, Checked, refused, checked, cleared, blanks, noStart, smaller, atPlace, checkedOf}
 use Rattle.validate.specs.Outcome as outcome
-use Rattle.running.specs.Running.{countsOf}
+use Rattle.validate.specs.declared.OpenStart.{OpenStart}
+use Rattle.running.specs.Running.{countsOf, withCounts}
+use Rattle.closing.specs.Ends.{missingChecks}
 use Rattle.running.specs.declared.Record.{Record}
 use Rattle.marking.specs.declared.Report.{Report}
 use Rattle.marking.specs.declared.Answer.{Answer}
@@ -67,7 +70,7 @@ abbrev pub sourceRefusal : List ℕ → Option Refusal
 sourceRefusal s = orElse (onlyIf (ltb 1048576 (length s)) (refuse 2 0)) (atPlace 3 (firstIllFormed s))
 
 abbrev pub listsRefusal : ℕ → ℕ → ℕ → Option Refusal
-listsRefusal n seen opens = onlyIf (either (ltb seen n) (ltb (opens / 2) n)) (refuse 10 n)
+listsRefusal n seen opens = onlyIf (either (ltb seen n) (ltb opens n)) (refuse 10 n)
 
 abbrev pub fromLabels : List ℕ → List ℕ → List ℕ → ℕ → ℕ → Option Refusal
 fromLabels table s t seen opens = orElse (labelRefusal table s t) (listsRefusal (count t) seen opens)
@@ -110,12 +113,12 @@ pub record Ran (table s t l l′ : List ℕ) (q : Record) : Type 0 where
   pub low : total (countsOf q) ≤ limit
 
 -- what the check asks for when nothing turns it back
-pub record Fit (table words : List ℕ) (entries : ℕ) (s t seen opens : List ℕ) : Type 0 where
+pub record Fit (table words : List ℕ) (entries : ℕ) (s t seen : List ℕ) (opens : List OpenStart) : Type 0 where
   pub indexed : Indexed table words entries
   pub accepted : Accepted s t
   pub short : length s ≤ 1048576
   pub seen-room : length seen ≡ count t
-  pub open-room : length opens ≡ 2 * count t
+  pub open-room : length opens ≡ count t
 
 -- the answer of a record whose counts are those of the whole list, with room for so many findings
 abbrev pub reported : Record → ℕ → outcome.Answer
@@ -131,12 +134,26 @@ reported r room =
       cut = ltb (smaller (total (countsOf r)) room) (total (countsOf r));
     })
 
-abbrev pub lent : List ℕ → List ℕ → List ℕ → List ℕ → List ℕ → List ℕ → Lent
+abbrev pub lent : List ℕ → List ℕ → List ℕ → List ℕ → List OpenStart → List ℕ → Lent
 lent table s t seen opens l = record { table = table; source = s; tape = t; seen = seen; openStarts = opens; list = l }
 
 -- the answer and the lists of a document that nothing turns back
-pub record Finished (table s t seen opens l seen′ opens′ l′ : List ℕ) (r : Answer) : Type 0 where
+pub record Finished (table s t seen : List ℕ) (opens : List OpenStart) (l seen′ : List ℕ) (opens′ : List OpenStart) (l′ : List ℕ) (r : Answer) : Type 0 where
   pub answers : answerOf r ≡ checked (checkedOf (lent table s t seen opens l))
   pub words : l′ ≡ overlay l 0 (findings table (top s t))
-  pub seen-zero : seen′ ≡ zeros (count t)
-  pub opens-zero : opens′ ≡ zeros (2 * count t)
+  pub seen-zero : seen′ ≡ blanks 0 (count t)
+  pub opens-zero : opens′ ≡ blanks noStart (count t)
+
+-- the record before the walk: the text before `\\id` is written and counted
+pub record Begun (s t l l′ : List ℕ) (q : Record) : Type 0 where
+  pub text : Wrote (textBefore (forest s t 1 (linkAt t 0))) l none-yet l′ (countsOf q)
+  pub record-is : q ≡ withCounts fresh (countsOf q)
+
+-- what is told after the walk has room
+pub record Endable (r : Record) (c : Counts) : Type 0 where
+  pub room : Room c (given (missingChecks r))
+
+-- the record with the last findings counted
+pub record Ended (r : Record) (c : Counts) (l l′ : List ℕ) (q : Record) : Type 0 where
+  pub wrote : Wrote (given (missingChecks r)) l c l′ (countsOf q)
+  pub record-is : q ≡ withCounts r (countsOf q)

@@ -1,4 +1,5 @@
 // The check of a document: whatever is lent, the answer and every lent list at exit are the definition's.
+use findings::Counts;
 use numbers::LabelCheck;
 use numbers::Suffix;
 use numbers::VersePart;
@@ -7,16 +8,20 @@ use running::Record;
 use table::Layout;
 use tape::TapeCheck;
 use text::Utf8;
+use validate::OpenStart;
 ghost use mathlib.Core.Path.{_≡_};
-ghost use Prim.Native.Nat.{_≤_};
+ghost use Prim.Native.Nat.{_/_, _≤_};
 ghost use lib.ListN.{length};
+ghost use Rattle.tape.specs.Nodes.{linkAt};
+ghost use Rattle.tape.specs.Nodes.{count as nodes};
 ghost use Rattle.tape.specs.Forest.{Accepted};
+ghost use Rattle.cursor.specs.Inner.{Run};
 ghost use Rattle.tape.specs.Reading.{tapeRefusal};
 ghost use Rattle.table.specs.Entries.{Indexed};
 ghost use Rattle.findings.specs.Written.{total, limit};
 ghost use Rattle.validate.specs.Outcome.{answer, listAfter, seenAfter, openAfter};
 ghost use Rattle.running.specs.Running.{countsOf};
-ghost use Rattle.marking.specs.Entry.{answerOf, gateOf, sourceRefusal, listsRefusal, fromLabels, fromTape, fromSource, fromTable, Opened, Passed, fresh, Ran, Fit, reported, Finished, lent};
+ghost use Rattle.marking.specs.Entry.{answerOf, gateOf, sourceRefusal, listsRefusal, fromLabels, fromTape, fromSource, fromTable, Opened, Passed, fresh, Begun, Endable, Ended, Ran, Fit, reported, Finished, lent};
 
 fn initial() -> Record
     ensures { λ r. ⌜ r ≡ fresh ⌝ }
@@ -42,6 +47,23 @@ fn initial() -> Record
     }
 }
 
+// The record before the walk.
+fn begun(source: &[u8], tape: &[u8], to: usize, list: &mut [u64]) -> Record
+    requires { ⌜ (Run (now source) (now tape) 1 to) × (to ≡ linkAt (now tape) 0) ⌝ }
+    ensures { λ r. ⌜ Begun (now (source .entry)) (now (tape .entry)) (now (list .entry)) (now (list .exit)) r ⌝ }
+{
+    let start = initial();
+    running::with_counts(start, closing::text_before(source, tape, to, start, list))
+}
+
+// The record after the open starts that are left are told.
+fn ended(rec: Record, list: &mut [u64], left: Counts) -> Record
+    requires { ⌜ Endable rec left ⌝ }
+    ensures { λ r. ⌜ Ended rec left (now (list .entry)) (now (list .exit)) r ⌝ }
+{
+    running::with_counts(rec, closing::missing(rec, list, left))
+}
+
 // The whole list of an accepted document.
 fn run(
     table: &[u8],
@@ -50,21 +72,20 @@ fn run(
     source: &[u8],
     tape: &[u8],
     seen: &mut [u32],
-    opens: &mut [u64],
+    opens: &mut [OpenStart],
     list: &mut [u64],
 ) -> Record
     requires { ⌜ Fit (now table) (now words) count (now source) (now tape) (now seen) (now opens) ⌝ }
     ensures { λ r. ⌜ Ran (now (table .entry)) (now (source .entry)) (now (tape .entry)) (now (list .entry)) (now (list .exit)) r ⌝ }
 {
     let to = tape::link_at(tape, 0) as usize;
-    let start = initial();
-    let c = closing::text_before(source, tape, to, start, list);
+    let mut rec = begun(source, tape, to, list);
     let outside = Around {
         body: false,
         note: false,
         char: false,
     };
-    let r = checker::walk(
+    checker::walk(
         table,
         words,
         count,
@@ -74,13 +95,13 @@ fn run(
         to,
         64,
         outside,
-        running::with_counts(start, c),
+        &mut rec,
         seen,
         opens,
         list,
     );
-    let left = closing::unclosed(source, tape, opens, r, list);
-    running::with_counts(r, closing::missing(r, list, left))
+    let left = closing::unclosed(source, tape, opens, rec, list);
+    ended(rec, list, left)
 }
 
 pub struct Report {
@@ -139,7 +160,7 @@ fn lists_gate(entries: usize, n: usize, seen: usize, opens: usize) -> Gate
     if seen < n {
         return Gate::Shut(10, n as u64);
     }
-    if opens / 2 < n {
+    if opens < n {
         return Gate::Shut(10, n as u64);
     }
     Gate::Open(entries)
@@ -221,13 +242,19 @@ pub fn table_gate(
     }
 }
 
-// The answer of a document that was walked.
-fn reported(r: Record, room: usize) -> Answer
+fn node_count(tape: &[u8]) -> usize
+    ensures { λ r. ⌜ r ≡ nodes (now (tape .entry)) ⌝ }
+{
+    tape.len() / 16
+}
+
+// The answer of a document that was walked, by the length of the findings list.
+fn reported(r: Record, len: usize) -> Answer
     requires { ⌜ total (countsOf r) ≤ limit ⌝ }
-    ensures { λ q. ⌜ answerOf q ≡ reported r room ⌝ }
+    ensures { λ q. ⌜ answerOf q ≡ reported r (len / 8) ⌝ }
 {
     let total = r.errors + r.warnings + r.infos;
-    let room = room as u64;
+    let room = (len / 8) as u64;
     if room < total {
         return Answer::Cut(Report {
             total: total,
@@ -256,17 +283,17 @@ fn checked(
     source: &[u8],
     tape: &[u8],
     seen: &mut [u32],
-    opens: &mut [u64],
+    opens: &mut [OpenStart],
     list: &mut [u64],
 ) -> Answer
     requires { ⌜ Fit (now table) (now words) entries (now source) (now tape) (now seen) (now opens) ⌝ }
     ensures { λ r. ⌜ Finished (now (table .entry)) (now (source .entry)) (now (tape .entry)) (now (seen .entry)) (now (opens .entry)) (now (list .entry)) (now (seen .exit)) (now (opens .exit)) (now (list .exit)) r ⌝ }
 {
     let r = run(table, words, entries, source, tape, seen, opens, list);
-    let n = tape.len() / 16;
+    let n = node_count(tape);
     closing::clear_seen(seen, n);
-    closing::clear_opens(opens, 2 * n);
-    reported(r, list.len() / 8)
+    closing::clear_opens(opens, n);
+    reported(r, list.len())
 }
 
 // The check: whatever is lent, the answer and every lent list at exit are the definition's.
@@ -275,7 +302,7 @@ pub fn check(
     source: &[u8],
     tape: &[u8],
     seen: &mut [u32],
-    opens: &mut [u64],
+    opens: &mut [OpenStart],
     list: &mut [u64],
 ) -> Answer
     ensures answer { λ r. ⌜ answerOf r ≡ answer (lent (now (table .entry)) (now (source .entry)) (now (tape .entry)) (now (seen .entry)) (now (opens .entry)) (now (list .entry))) ⌝ }
@@ -287,7 +314,7 @@ pub fn check(
     match table_gate(table, &mut words, source, tape, seen.len(), opens.len()) {
         Gate::Shut(number, place) => Answer::Refused(number, place),
         Gate::Open(entries) => {
-            let n = tape.len() / 16;
+            let n = node_count(tape);
             checked(
                 table,
                 &words,
@@ -295,7 +322,7 @@ pub fn check(
                 source,
                 tape,
                 &mut seen[..n],
-                &mut opens[..2 * n],
+                &mut opens[..n],
                 list,
             )
         }

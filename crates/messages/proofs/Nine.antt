@@ -34,7 +34,7 @@ or-none none = refl
 or-none (some r) = refl
 
 module _ (table s t : List ℕ) where
-  long-enough : (x : Option Refusal) → tapeRefusal s t ≡ x → orElse x (orElse (labelRefusal table s t) (listsRefusal (count t) 65535 131070)) ≡ orElse x (labelRefusal table s t)
+  long-enough : (x : Option Refusal) → tapeRefusal s t ≡ x → orElse x (orElse (labelRefusal table s t) (listsRefusal (count t) 65535 65535)) ≡ orElse x (labelRefusal table s t)
   long-enough (some r) e = refl
   long-enough none e =
       let odd = not (eqb (length t % 16) 0) in
@@ -42,13 +42,13 @@ module _ (table s t : List ℕ) where
       let few : count t ≤ 65535 = ltb-false 65535 (count t) (either-false odd many (either-false (eqb (length t) 0) (either odd many) (accepted s t .0 e .sized) .1) .1) in
       ap (orElse (labelRefusal table s t)) (rw (le-ltb 65535 (count t) few)) ∙ or-none (labelRefusal table s t)
 
-  nine : fromTable table s t 65535 131070 ≡ firstNine table s t
+  nine : fromTable table s t 65535 65535 ≡ firstNine table s t
   unfolding firstNine
   nine =
       let d = document table s t in
-      ap (orElse (of1 d)) (or-assoc (of2 d) (of3 d) (fromTape table s t 65535 131070) ∙ ap (λ (z : Option Refusal). orElse (of2 d) (orElse (of3 d) z)) (long-enough (tapeRefusal s t) refl))
+      ap (orElse (of1 d)) (or-assoc (of2 d) (of3 d) (fromTape table s t 65535 65535) ∙ ap (λ (z : Option Refusal). orElse (of2 d) (orElse (of3 d) z)) (long-enough (tapeRefusal s t) refl))
 
-  module _ (g : Gate) (says : gateOf g ≡ fromTable table s t 65535 131070) where
+  module _ (g : Gate) (says : gateOf g ≡ fromTable table s t 65535 65535) where
     pub shut : (a b : ℕ) → g ≡ gate.Shut a b → firstNine table s t ≡ refuse a b
     shut a b e = sym nine ∙ sym says ∙ ap gateOf e
 

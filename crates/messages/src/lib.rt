@@ -394,7 +394,7 @@ pub fn message<'a>(table: &'a [u8], source: &'a [u8], tape: &[u8], q: Asked, out
     ensures bytes { λ r. ⌜ now (out .exit) ≡ bytesAfter (now (table .entry)) (now (source .entry)) (now (tape .entry)) (askedBy q) (now (out .entry)) ⌝ }
 {
     let mut words = [0u64; 512];
-    match marking::table_gate(table, &mut words, source, tape, 65535, 131070) {
+    match marking::table_gate(table, &mut words, source, tape, 65535, 65535) {
         Gate::Shut(number, place) => Told::Refused(number, place),
         Gate::Open(entries) => message_in(table, &words, entries, source, tape, q, out),
     }

@@ -53,28 +53,6 @@ module _ (name : List ℕ) (letter : ℕ) (h : 2 ≤ length name) where
 pub no-base : (name : List ℕ) → length name < 2 → [] ≡ baseIn name
 no-base name h = let e : length name - 2 ≡ 0 = omega arith in rw e
 
--- by the table's category, and the two tests of the name
-module _ (m : MarkerInfo) (name : List ℕ) (x : Bool) (is : m .category ≡ Milestone) (x-is : x ≡ endsIn 0x73 name) where
-  pub by-start : x ≡ true → true ≡ named (entryOfInfo m) name
-  by-start h = rw (is, ← x-is, h)
-
-  pub by-end : (y : Bool) → x ≡ false → y ≡ endsIn 0x65 name → y ≡ named (entryOfInfo m) name
-  by-end y h e = rw (is, ← x-is, h) e
-
--- the arm of all variants but Milestone
-pub no-milestone : (m : MarkerInfo) (name : List ℕ) → OneOf (0 ∷ 1 ∷ 2 ∷ 3 ∷ 4 ∷ 5 ∷ 7 ∷ []) (tagOf declared.the-type (m .category)) → false ≡ named (entryOfInfo m) name
-no-milestone m name h = go (m .category) h
-  where
-    go : (c : Category) → OneOf (0 ∷ 1 ∷ 2 ∷ 3 ∷ 4 ∷ 5 ∷ 7 ∷ []) (tagOf declared.the-type c) → false ≡ both (eqb (categoryOf c) 6) (either (endsIn 0x73 name) (endsIn 0x65 name))
-    go Identification h = refl
-    go Chapter h = refl
-    go Verse h = refl
-    go Paragraph h = refl
-    go Character h = refl
-    go Note h = refl
-    go Milestone h = absurd (miss (0 ∷ 1 ∷ 2 ∷ 3 ∷ 4 ∷ 5 ∷ 7 ∷ []) 6 tt h)
-    go Other h = refl
-
 -- the base of a node whose length is known
 module _ (s t : List ℕ) (node len : ℕ) (m : Measured s t node len) where
   pub apart : (base : List ℕ) → (len ≡ length base → ⊥) → false ≡ equal (baseOf (nodeAt s t node)) base
@@ -104,3 +82,7 @@ module _ (s t : List ℕ) (node len : ℕ) (m : Measured s t node len) where
           let z : b + len - b ≡ length (nameOf x) - 2 = omega (arith, own-length) in
           let f = take-take (length (nameOf x) - 2) (namePart x .len) (drop (namePart x .start) x) (omega (arith, name-inside .0)) in
           e ∙ rw (z, h .is, sym f, is)
+
+-- a part that lies in its list is as long as it says
+pub part-long : (s : List ℕ) (at len : ℕ) → at + len ≤ length s → length (take len (drop at s)) ≡ len
+part-long s at len h = length-take-le len (drop at s) (rw length-drop (omega arith))

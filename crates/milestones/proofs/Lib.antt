@@ -4,3 +4,12 @@ pub mod Search
 pub mod Moves
 pub mod Kept
 pub mod Whole
+pub mod Reading
+pub mod Pairing
+pub mod CallHasBase
+pub mod CallPush
+pub mod CallNearest
+pub mod CallRemove
+pub mod CallStepOf
+pub mod CallPair
+pub mod CallAfterPair

@@ -11,30 +11,32 @@ use Rattle.tape.specs.Nodes.{Node, nodeAt}
 use Rattle.table.specs.Bytes.{equal}
 use Rattle.validate.specs.Milestones.{baseOf, sameBase, waits, pickNodes, without}
 use Rattle.running.specs.Running.{starts, Opens}
+use Rattle.validate.specs.Outcome.{noStart}
+use Rattle.validate.specs.declared.OpenStart.{OpenStart}
 use Rattle.milestones.specs.Inner.{Measured, pickFound, nearestIn}
 use Rattle.milestones.specs.declared.Found.{Found}
 use Rattle.milestones.specs.declared.Found.the-variants.{At, Nothing}
 
 -- a turn of the search
-module _ (s t words : List ℕ) (j : ℕ) (base : List ℕ) where
-  pub nowhere : j ≤ 0 → nearestIn s t words j base ≡ Nothing
+module _ (s t : List ℕ) (opens : List OpenStart) (j : ℕ) (base : List ℕ) where
+  pub nowhere : j ≤ 0 → nearestIn s t opens j base ≡ Nothing
   unfolding nearestIn
   nowhere h = let e : j ≡ 0 = omega arith in rw e
 
   module _ (h : 0 < j) where
-    turn : nearestIn s t words j base ≡ pickFound (equal (baseOf (nodeAt s t (getD words (2 * (j - 1)) 0))) base) (At (j - 1)) (nearestIn s t words (j - 1) base)
+    turn : nearestIn s t opens j base ≡ pickFound (equal (baseOf (nodeAt s t (getD opens (j - 1) noStart .node))) base) (At (j - 1)) (nearestIn s t opens (j - 1) base)
     unfolding nearestIn
-    turn = let e : j ≡ suc (j - 1) = omega arith in ap (λ (n : ℕ). nearestIn s t words n base) e
+    turn = let e : j ≡ suc (j - 1) = omega arith in ap (λ (n : ℕ). nearestIn s t opens n base) e
 
-    module _ (x : Bool) (is : x ≡ equal (baseOf (nodeAt s t (getD words (2 * (j - 1)) 0))) base) where
-      pub hit : x ≡ true → nearestIn s t words j base ≡ At (j - 1)
+    module _ (x : Bool) (is : x ≡ equal (baseOf (nodeAt s t (getD opens (j - 1) noStart .node))) base) where
+      pub hit : x ≡ true → nearestIn s t opens j base ≡ At (j - 1)
       hit e = turn ∙ rw (← is, e)
 
-      pub miss : x ≡ false → nearestIn s t words j base ≡ nearestIn s t words (j - 1) base
+      pub miss : x ≡ false → nearestIn s t opens j base ≡ nearestIn s t opens (j - 1) base
       miss e = turn ∙ rw (← is, e)
 
-pub entry : (s t words : List ℕ) (k j : ℕ) → Opens s t words k → j < k → Measured s t (getD words (2 * j) 0) (getD words (2 * j + 1) 0)
-entry s t words k j o h = record { spanned = o .spanned j h; is = o .bases j h }
+pub entry : (s t : List ℕ) (opens : List OpenStart) (k j : ℕ) → Opens s t opens k → j < k → Measured s t (getD opens j noStart .node) (getD opens j noStart .«base_len»)
+entry s t opens k j o h = record { spanned = o .spanned j h; is = o .bases j h }
 
 abbrev pub isFound : Found → Bool
 isFound (At j) = true
@@ -43,64 +45,64 @@ isFound Nothing = false
 nothing-at : {A : Type 0} (j : ℕ) → Nothing ≡ At j → A
 nothing-at j e = let z : _≡_ {A = ℕ} 0 1 = cc in absurd (omega arith)
 
-module _ (s t words base : List ℕ) where
-  pub found-inside : (k at : ℕ) → nearestIn s t words k base ≡ At at → at < k
+module _ (s t : List ℕ) (opens : List OpenStart) (base : List ℕ) where
+  pub found-inside : (k at : ℕ) → nearestIn s t opens k base ≡ At at → at < k
   unfolding nearestIn
   found-inside zero at e = nothing-at at e
-  found-inside (suc k) at e = go (equal (baseOf (nodeAt s t (getD words (2 * k) 0))) base) e (found-inside k at)
+  found-inside (suc k) at e = go (equal (baseOf (nodeAt s t (getD opens k noStart .node))) base) e (found-inside k at)
     where
-      go : (b : Bool) → pickFound b (At k) (nearestIn s t words k base) ≡ At at → (nearestIn s t words k base ≡ At at → at < k) → at < suc k
+      go : (b : Bool) → pickFound b (At k) (nearestIn s t opens k base) ≡ At at → (nearestIn s t opens k base ≡ At at → at < k) → at < suc k
       go true h f = let z : k ≡ at = cc in omega arith
       go false h f = let z = f h in omega arith
 
-module _ (s t words : List ℕ) (x : Node) where
-  pub waits-found : (k : ℕ) → waits x (starts s t words k) ≡ isFound (nearestIn s t words k (baseOf x))
+module _ (s t : List ℕ) (opens : List OpenStart) (x : Node) where
+  pub waits-found : (k : ℕ) → waits x (starts s t opens k) ≡ isFound (nearestIn s t opens k (baseOf x))
   unfolding waits starts nearestIn
   waits-found zero = refl
-  waits-found (suc k) = go (sameBase (nodeAt s t (getD words (2 * k) 0)) x) (waits-found k)
+  waits-found (suc k) = go (sameBase (nodeAt s t (getD opens k noStart .node)) x) (waits-found k)
     where
-      go : (b : Bool) → waits x (starts s t words k) ≡ isFound (nearestIn s t words k (baseOf x)) → either b (waits x (starts s t words k)) ≡ isFound (pickFound b (At k) (nearestIn s t words k (baseOf x)))
+      go : (b : Bool) → waits x (starts s t opens k) ≡ isFound (nearestIn s t opens k (baseOf x)) → either b (waits x (starts s t opens k)) ≡ isFound (pickFound b (At k) (nearestIn s t opens k (baseOf x)))
       go true h = refl
       go false h = h
 
   -- without an open start of the base none is taken
-  pub none-taken : (k : ℕ) → nearestIn s t words k (baseOf x) ≡ Nothing → without x (starts s t words k) ≡ starts s t words k
+  pub none-taken : (k : ℕ) → nearestIn s t opens k (baseOf x) ≡ Nothing → without x (starts s t opens k) ≡ starts s t opens k
   unfolding without starts nearestIn
   none-taken zero e = refl
-  none-taken (suc k) e = go (sameBase (nodeAt s t (getD words (2 * k) 0)) x) e (none-taken k)
+  none-taken (suc k) e = go (sameBase (nodeAt s t (getD opens k noStart .node)) x) e (none-taken k)
     where
-      go : (b : Bool) → pickFound b (At k) (nearestIn s t words k (baseOf x)) ≡ Nothing → (nearestIn s t words k (baseOf x) ≡ Nothing → without x (starts s t words k) ≡ starts s t words k) → pickNodes b (starts s t words k) (nodeAt s t (getD words (2 * k) 0) ∷ without x (starts s t words k)) ≡ nodeAt s t (getD words (2 * k) 0) ∷ starts s t words k
+      go : (b : Bool) → pickFound b (At k) (nearestIn s t opens k (baseOf x)) ≡ Nothing → (nearestIn s t opens k (baseOf x) ≡ Nothing → without x (starts s t opens k) ≡ starts s t opens k) → pickNodes b (starts s t opens k) (nodeAt s t (getD opens k noStart .node) ∷ without x (starts s t opens k)) ≡ nodeAt s t (getD opens k noStart .node) ∷ starts s t opens k
       go true h f = nothing-at k (sym h)
-      go false h f = ap (λ (ys : List Node). nodeAt s t (getD words (2 * k) 0) ∷ ys) (f h)
+      go false h f = ap (λ (ys : List Node). nodeAt s t (getD opens k noStart .node) ∷ ys) (f h)
 
--- the words behind an entry have moved down by one entry, up to n entries
-pub record Gone (words words′ : List ℕ) (n at : ℕ) : Type 0 where
-  pub kept : (m : ℕ) → m < 2 * at → getD words′ m 0 ≡ getD words m 0
-  pub moved : (m : ℕ) → 2 * at ≤ m → m < 2 * n → getD words′ m 0 ≡ getD words (m + 2) 0
+-- the entries behind an entry have moved down by one entry, up to n entries
+pub record Gone (opens opens′ : List OpenStart) (n at : ℕ) : Type 0 where
+  pub kept : (m : ℕ) → m < at → getD opens′ m noStart ≡ getD opens m noStart
+  pub moved : (m : ℕ) → at ≤ m → m < n → getD opens′ m noStart ≡ getD opens (m + 1) noStart
 
-module _ (s t words words′ : List ℕ) (at : ℕ) where
-  same-starts : (n k : ℕ) → Gone words words′ n at → k ≤ at → starts s t words′ k ≡ starts s t words k
+module _ (s t : List ℕ) (opens opens′ : List OpenStart) (at : ℕ) where
+  same-starts : (n k : ℕ) → Gone opens opens′ n at → k ≤ at → starts s t opens′ k ≡ starts s t opens k
   unfolding starts
   same-starts n zero g h = refl
-  same-starts n (suc k) g h = rw (g .kept (2 * k) (omega arith)) (ap (λ (ys : List Node). nodeAt s t (getD words (2 * k) 0) ∷ ys) (same-starts n k g (omega arith)))
+  same-starts n (suc k) g h = rw (g .kept k (omega arith)) (ap (λ (ys : List Node). nodeAt s t (getD opens k noStart .node) ∷ ys) (same-starts n k g (omega arith)))
 
-  fewer : (n : ℕ) → Gone words words′ (suc n) at → Gone words words′ n at
+  fewer : (n : ℕ) → Gone opens opens′ (suc n) at → Gone opens opens′ n at
   fewer n g = record { kept = g .kept; moved = λ m a b. g .moved m a (omega arith) }
 
   -- the latest of the base is taken
-  pub one-taken : (x : Node) (n : ℕ) → Gone words words′ n at → nearestIn s t words (suc n) (baseOf x) ≡ At at → without x (starts s t words (suc n)) ≡ starts s t words′ n
+  pub one-taken : (x : Node) (n : ℕ) → Gone opens opens′ n at → nearestIn s t opens (suc n) (baseOf x) ≡ At at → without x (starts s t opens (suc n)) ≡ starts s t opens′ n
   unfolding without starts nearestIn
-  one-taken x zero g e = go (sameBase (nodeAt s t (getD words (2 * 0) 0)) x) e
+  one-taken x zero g e = go (sameBase (nodeAt s t (getD opens 0 noStart .node)) x) e
     where
-      go : (b : Bool) → pickFound b (At 0) Nothing ≡ At at → pickNodes b [] (nodeAt s t (getD words (2 * 0) 0) ∷ []) ≡ []
+      go : (b : Bool) → pickFound b (At 0) Nothing ≡ At at → pickNodes b [] (nodeAt s t (getD opens 0 noStart .node) ∷ []) ≡ []
       go true h = refl
       go false h = nothing-at at h
-  one-taken x (suc n) g e = go (sameBase (nodeAt s t (getD words (2 * suc n) 0)) x) e (one-taken x n (fewer n g))
+  one-taken x (suc n) g e = go (sameBase (nodeAt s t (getD opens (suc n) noStart .node)) x) e (one-taken x n (fewer n g))
     where
-      go : (b : Bool) → pickFound b (At (suc n)) (nearestIn s t words (suc n) (baseOf x)) ≡ At at → (nearestIn s t words (suc n) (baseOf x) ≡ At at → without x (starts s t words (suc n)) ≡ starts s t words′ n) → pickNodes b (starts s t words (suc n)) (nodeAt s t (getD words (2 * suc n) 0) ∷ without x (starts s t words (suc n))) ≡ starts s t words′ (suc n)
+      go : (b : Bool) → pickFound b (At (suc n)) (nearestIn s t opens (suc n) (baseOf x)) ≡ At at → (nearestIn s t opens (suc n) (baseOf x) ≡ At at → without x (starts s t opens (suc n)) ≡ starts s t opens′ n) → pickNodes b (starts s t opens (suc n)) (nodeAt s t (getD opens (suc n) noStart .node) ∷ without x (starts s t opens (suc n))) ≡ starts s t opens′ (suc n)
       go true h f = let z : suc n ≡ at = cc in sym (same-starts (suc n) (suc n) g (omega arith))
       go false h f =
-          let l = found-inside s t words (baseOf x) (suc n) at h in
-          let p : 2 * n + 2 ≡ 2 * suc n = omega arith in
-          let q : getD words′ (2 * n) 0 ≡ getD words (2 * suc n) 0 = g .moved (2 * n) (omega arith) (omega arith) ∙ ap (λ (k : ℕ). getD words k 0) p in
+          let l = found-inside s t opens (baseOf x) (suc n) at h in
+          let p : n + 1 ≡ suc n = omega arith in
+          let q : getD opens′ n noStart ≡ getD opens (suc n) noStart = g .moved n (omega arith) (omega arith) ∙ ap (λ (k : ℕ). getD opens k noStart) p in
           rw (f h, q)

@@ -1,27 +1,29 @@
 -- What a milestone does: the finding of an end that nothing waits for, and the record and the open starts after it.
 -- Assumes nothing.
-use Prim.Native.Nat.{ℕ, suc, _+_, _-_, _*_, _<_, _≤_}
+use Prim.Native.Nat.{ℕ, suc, _+_, _-_, _<_, _≤_}
 use native.Mathlib.Omega.{arith}
 use mathlib.Core.Path.{_≡_, refl, sym, ap, subst, _∙_}
 use mathlib.Core.Bool.{Bool, true, false, not}
 use mathlib.Core.List.{List, [], _∷_, append-nil}
-use borrow.Author.Tests.{not-true, not-false}
-use lib.Dec.{eqb}
-use lib.ListN.{length}
-use Rattle.text.specs.Pick.{both, cut}
-use Rattle.tape.specs.Nodes.{Node, nodeAt, span}
+use lib.ListN.{length, take, drop, set}
+use Rattle.text.specs.Pick.{both}
+use Rattle.tape.specs.Nodes.{Node, nodeAt}
 use Rattle.table.specs.Entries.{Entry}
-use Rattle.cursor.specs.Names.{nameOf}
 use Rattle.cursor.specs.Inner.{Spanned}
 use Rattle.findings.specs.Finding.{Finding}
 use Rattle.findings.specs.declared.Counts.{Counts}
 use Rattle.findings.specs.Written.{counted, overlay, only, Wrote, Room}
 use Rattle.validate.specs.Checks.{given, when, error}
-use Rattle.validate.specs.Milestones.{endsIn, isStart, isMilestone, baseOf, waits, milestoneChecks, pickNodes, openAfter, without, withOpen, afterMilestone}
+use Rattle.validate.specs.Milestones.{isStart, isMilestone, baseOf, waits, milestoneChecks, pickNodes, openAfter, without, withOpen, afterMilestone}
+use Rattle.validate.specs.declared.OpenStart.{OpenStart}
 use Rattle.running.specs.Running.{starts, stateOf, countsOf, withCounts, Opens}
 use Rattle.running.specs.declared.Record.{Record}
-use Rattle.milestones.specs.Inner.{baseIn, named, Measured, nearestIn, pushed, removed, withOpens, ToldAlone}
+use Rattle.milestones.specs.Inner.{Measured, Read, nearestIn, removed, takenBy, opensBy, pairedBy, withOpens, ToldAlone, Counted, Countable}
 use Rattle.milestones.specs.Steps.{Stepped, Milestoned}
+use Rattle.milestones.specs.declared.Step.{Step}
+use Rattle.milestones.specs.declared.Step.the-variants as step
+use Rattle.milestones.specs.declared.Paired.{Paired}
+use Rattle.milestones.specs.declared.Paired.the-variants as paired
 use Rattle.milestones.specs.declared.Found.{Found}
 use Rattle.milestones.specs.declared.Found.the-variants.{At, Nothing}
 use Rattle.milestones.proofs.Search.{Gone, isFound, found-inside, waits-found, none-taken, one-taken}
@@ -46,142 +48,119 @@ told-alone t i l l′ r q f c d f-is c-is w q-is =
     let w′ : Wrote (error (nodeAt [] t i) 16 1 ∷ []) l (countsOf r) l′ d = subst (λ (z : Finding). Wrote (z ∷ []) l (countsOf r) l′ d) f-is (subst (λ (z : Counts). Wrote (f ∷ []) l z l′ d) c-is w) in
     subst (ToldAlone t i l r l′) (sym q-is) (record { wrote = w′; same = refl })
 
--- a marker of another category is no milestone, whatever its name
-pub other-category : (e : Entry) (name : List ℕ) (b : Bool) → b ≡ eqb (e .category) 6 → b ≡ false → false ≡ named e name
-other-category e name b is h = let q : eqb (e .category) 6 ≡ false = sym is ∙ h in rw q
+-- a node among the open starts
+module _ (e : Entry) (s t : List ℕ) (i : ℕ) (opens : List OpenStart) (l : List ℕ) (r : Record) (o : Opens s t opens (r .«open»)) where
+  abbrev x : Node
+  x = nodeAt s t i
 
--- a node by its name and its entry
-module _ (e : Entry) (s t : List ℕ) (i : ℕ) (name : List ℕ) (is : name ≡ nameOf (cut (span t i) s)) (y : Bool) (y-is : y ≡ named e name) where
-  milestone : isMilestone e (nodeAt s t i) ≡ y
-  milestone = ap (named e) (sym is) ∙ sym y-is
+  abbrev alone : Bool
+  alone = both (isMilestone e x) (both (not (isStart x)) (not (waits x (starts s t opens (r .«open»)))))
 
-  begins : (z : Bool) → z ≡ endsIn 0x73 name → isStart (nodeAt s t i) ≡ z
-  begins z z-is = ap (endsIn 0x73) (sym is) ∙ sym z-is
+  -- without a finding the counts are the same
+  quiet : false ≡ alone → {opens′ : List OpenStart} {q : Record} → Stepped e s t i opens r opens′ q → Milestoned e s t i opens l r opens′ l q
+  unfolding overlay counted
+  quiet h {opens′} {q} st =
+      record {
+        wrote = one-wrote alone false (error x 16 1) (error x 16 1) h refl (countsOf r) (countsOf r) l l (countsOf q) refl (record { words = refl; counts = st .counts });
+        step = subst (λ (k : Counts). Stepped e s t i opens (withCounts r k) opens′ q) (sym (st .counts)) st;
+      }
 
-  nearest-is : (words : List ℕ) (k : ℕ) (b : List ℕ) (f : Found) → b ≡ baseIn name → f ≡ nearestIn s t words k b → f ≡ nearestIn s t words k (baseOf (nodeAt s t i))
-  nearest-is words k b f b-is f-is = f-is ∙ ap (nearestIn s t words k) (b-is ∙ ap baseIn is)
+  -- a step doesn't read the counts
+  recounted : (k : Counts) {opens′ : List OpenStart} {q : Record} → Stepped e s t i opens r opens′ q → Stepped e s t i opens (withCounts r k) opens′ (withCounts q k)
+  recounted k st =
+      record {
+        state = st .state;
+        stays = st .stays;
+        few = st .few;
+        counts = refl;
+        seen = st .seen;
+        anchor = st .anchor;
+        verse = st .verse;
+        verses = st .verses;
+      }
 
-  module _ (words : List ℕ) (k : ℕ) where
-    alone-other : not y ≡ true → false ≡ both (isMilestone e (nodeAt s t i)) (both (not (isStart (nodeAt s t i))) (not (waits (nodeAt s t i) (starts s t words k))))
-    alone-other h = let q : isMilestone e (nodeAt s t i) ≡ false = milestone ∙ not-true y h in rw q
+  stepped : (opens′ : List OpenStart) (n : ℕ) → starts s t opens′ n ≡ pickNodes (isMilestone e x) (openAfter (isStart x) x (starts s t opens (r .«open»))) (starts s t opens (r .«open»)) → Opens s t opens′ n → n ≤ r .«open» + 1 → Stepped e s t i opens r opens′ (withOpens r n)
+  unfolding afterMilestone
+  stepped opens′ n p o′ h =
+      record {
+        state = λ seen. ap (withOpen (stateOf s t seen opens r)) p;
+        stays = o′;
+        few = h;
+        counts = refl;
+        seen = refl;
+        anchor = refl;
+        verse = refl;
+        verses = refl;
+      }
 
-    module _ (h : not y ≡ false) (z : Bool) (z-is : z ≡ endsIn 0x73 name) where
-      alone-start : z ≡ true → false ≡ both (isMilestone e (nodeAt s t i)) (both (not (isStart (nodeAt s t i))) (not (waits (nodeAt s t i) (starts s t words k))))
-      alone-start g =
-          let q : isMilestone e (nodeAt s t i) ≡ true = milestone ∙ not-false y h in
-          let p : isStart (nodeAt s t i) ≡ true = begins z z-is ∙ g in
-          rw q (rw p)
+  -- no milestone
+  other : isMilestone e x ≡ false → Milestoned e s t i opens l r opens l r
+  other h = let z : false ≡ alone = rw h in quiet z (stepped opens (r .«open») (rw h) o (omega arith))
 
-      alone-end : z ≡ false → (b : List ℕ) (f v : Found) → b ≡ baseIn name → f ≡ nearestIn s t words k b → f ≡ v → not (isFound v) ≡ both (isMilestone e (nodeAt s t i)) (both (not (isStart (nodeAt s t i))) (not (waits (nodeAt s t i) (starts s t words k))))
-      alone-end g b f v b-is f-is v-is =
-          let q : isMilestone e (nodeAt s t i) ≡ true = milestone ∙ not-false y h in
-          let p : isStart (nodeAt s t i) ≡ false = begins z z-is ∙ g in
-          let w : waits (nodeAt s t i) (starts s t words k) ≡ isFound v = waits-found s t words (nodeAt s t i) k ∙ ap isFound (sym (nearest-is words k b f b-is f-is) ∙ v-is) in
-          rw q (rw p (rw w))
+  -- a start
+  started : (b : OpenStart) → isMilestone e x ≡ true → isStart x ≡ true → b .node ≡ i → b .«base_len» ≡ length (baseOf x) → Spanned s t i → r .«open» < length opens → Milestoned e s t i opens l r (set opens (r .«open») b) l (withOpens r (r .«open» + 1))
+  started b y z here len sp room =
+      let m : Measured s t (b .node) (b .«base_len») = rw here (record { spanned = sp; is = len }) in
+      let w : starts s t (set opens (r .«open») b) (r .«open» + 1) ≡ x ∷ starts s t opens (r .«open») = starts-pushed opens (r .«open») b room s t ∙ ap (λ (n : ℕ). nodeAt s t n ∷ starts s t opens (r .«open»)) here in
+      let v : false ≡ alone = rw (y, z) in
+      quiet v (stepped (set opens (r .«open») b) (r .«open» + 1) (rw (y, z) w) (opens-pushed opens (r .«open») b room s t o m) (omega arith))
 
-  -- the record and the open starts after the node
-  module _ (words l : List ℕ) (r : Record) (o : Opens s t words (r .«open»)) where
-    abbrev alone : Bool
-    alone = both (isMilestone e (nodeAt s t i)) (both (not (isStart (nodeAt s t i))) (not (waits (nodeAt s t i) (starts s t words (r .«open»)))))
+  -- an end
+  module _ (y : isMilestone e x ≡ true) (z : isStart x ≡ false) where
+    alone-is : (f : Found) → nearestIn s t opens (r .«open») (baseOf x) ≡ f → not (isFound f) ≡ alone
+    alone-is f h =
+        let w : waits x (starts s t opens (r .«open»)) ≡ isFound f = waits-found s t opens x (r .«open») ∙ ap isFound h in
+        rw (y, z, w)
 
-    -- without a finding the counts are the same
-    quiet : false ≡ alone → {words′ : List ℕ} {q : Record} → Stepped e s t i words r words′ q → Milestoned e s t i words l r words′ l q
-    unfolding overlay counted
-    quiet h {words′} {q} st =
+    by-itself : nearestIn s t opens (r .«open») (baseOf x) ≡ Nothing → (l′ : List ℕ) (r′ : Record) → ToldAlone t i l r l′ r′ → Milestoned e s t i opens l r opens l′ r′
+    by-itself n l′ r′ told =
+        let st : Stepped e s t i opens r opens r = stepped opens (r .«open») (rw (y, z) (sym (none-taken s t opens x (r .«open») n))) o (omega arith) in
         record {
-          wrote = one-wrote alone false (error (nodeAt s t i) 16 1) (error (nodeAt s t i) 16 1) h refl (countsOf r) (countsOf r) l l (countsOf q) refl (record { words = refl; counts = st .counts });
-          step = subst (λ (k : Counts). Stepped e s t i words (withCounts r k) words′ q) (sym (st .counts)) st;
+          wrote = one-wrote alone true (error x 16 1) (error x 16 1) (alone-is Nothing n) refl (countsOf r) (countsOf r) l l′ (countsOf r′) refl (told .wrote);
+          step = subst (λ (q : Record). Stepped e s t i opens (withCounts r (countsOf r′)) opens q) (sym (told .same)) (recounted (countsOf r′) st);
         }
 
-    -- a step doesn't read the counts
-    recounted : (k : Counts) {words′ : List ℕ} {q : Record} → Stepped e s t i words r words′ q → Stepped e s t i words (withCounts r k) words′ (withCounts q k)
-    recounted k st =
-        record {
-          state = st .state;
-          opens = st .opens;
-          few = st .few;
-          counts = refl;
-          seen = st .seen;
-          anchor = st .anchor;
-          verse = st .verse;
-          verses = st .verses;
-        }
+    room-alone : nearestIn s t opens (r .«open») (baseOf x) ≡ Nothing → Room (countsOf r) (given (milestoneChecks e (stateOf s t [] opens r) x)) → Room (countsOf r) (error (nodeAt [] t i) 16 1 ∷ [])
+    room-alone n = one-fits alone true (error x 16 1) (error x 16 1) (alone-is Nothing n) refl (countsOf r) (countsOf r) refl
 
-    stepped : (words′ : List ℕ) (n : ℕ) → starts s t words′ n ≡ pickNodes (isMilestone e (nodeAt s t i)) (openAfter (isStart (nodeAt s t i)) (nodeAt s t i) (starts s t words (r .«open»))) (starts s t words (r .«open»)) → Opens s t words′ n → n ≤ r .«open» + 1 → Stepped e s t i words r words′ (withOpens r n)
-    unfolding afterMilestone
-    stepped words′ n p o′ h =
-        record {
-          state = λ seen. ap (withOpen (stateOf s t seen words r)) p;
-          opens = o′;
-          few = h;
-          counts = refl;
-          seen = refl;
-          anchor = refl;
-          verse = refl;
-          verses = refl;
-        }
+    ended : (at : ℕ) → nearestIn s t opens (r .«open») (baseOf x) ≡ At at → (opens′ : List OpenStart) → opens′ ≡ removed opens (r .«open») at → length opens′ ≡ length opens → Milestoned e s t i opens l r opens′ l (withOpens r (r .«open» - 1))
+    ended at n opens′ w len =
+        let a = found-inside s t opens (baseOf x) (r .«open») at n in
+        let up : r .«open» ≡ suc (r .«open» - 1) = omega arith in
+        let up′ : r .«open» ≡ r .«open» - 1 + 1 = omega arith in
+        let g : Gone opens opens′ (r .«open» - 1) at = rw w (gone opens (r .«open») at a (o .room)) in
+        let found : nearestIn s t opens (suc (r .«open» - 1)) (baseOf x) ≡ At at = ap (λ (n : ℕ). nearestIn s t opens n (baseOf x)) (sym up) ∙ n in
+        let taken : without x (starts s t opens (r .«open»)) ≡ starts s t opens′ (r .«open» - 1) = ap (λ (n : ℕ). without x (starts s t opens n)) up ∙ one-taken s t opens opens′ at x (r .«open» - 1) g found in
+        let o′ : Opens s t opens (r .«open» - 1 + 1) = rw up′ at o in
+        quiet (alone-is (At at) n) (stepped opens′ (r .«open» - 1) (rw (y, z) (sym taken)) (opens-gone s t opens opens′ (r .«open» - 1) at g (omega arith) len o′) (omega arith))
 
-    step-other : not y ≡ true → Stepped e s t i words r words r
-    step-other h =
-        let q : isMilestone e (nodeAt s t i) ≡ false = milestone ∙ not-true y h in
-        stepped words (r .«open») (rw q) o (omega arith)
+  -- by what is read of the node, the entry that it takes, and what is counted
+  pub countable : (step : Step) → Read e s t i step → (p : Paired) → p ≡ pairedBy step (takenBy s t opens (r .«open») step) (r .«open») → Room (countsOf r) (given (milestoneChecks e (stateOf s t [] opens r) x)) → Countable t i p r
+  countable step.Neither rd p p-is h = rw p-is tt
+  countable (step.Start b) rd p p-is h = rw p-is tt
+  countable (step.End at len) rd p p-is h = rw p-is (go (nearestIn s t opens (r .«open») (take len (drop at s))) refl)
+    where
+      go : (f : Found) → nearestIn s t opens (r .«open») (take len (drop at s)) ≡ f → Countable t i (pairedBy (step.End at len) f (r .«open»)) r
+      go (At j) n = tt
+      go Nothing n = room-alone (rd .0) (rd .1) (rw (rd .2) at n) h
 
-    pub done-other : not y ≡ true → Milestoned e s t i words l r words l r
-    done-other h = quiet (alone-other words (r .«open») h) (step-other h)
+  pub milestoned : (step : Step) → Read e s t i step → Spanned s t i → r .«open» < length opens → (opens′ : List OpenStart) → opens′ ≡ opensBy step (takenBy s t opens (r .«open») step) opens (r .«open») → length opens′ ≡ length opens → (p : Paired) → p ≡ pairedBy step (takenBy s t opens (r .«open») step) (r .«open») → (l′ : List ℕ) (q : Record) → Counted t i p l r l′ q → Milestoned e s t i opens l r opens′ l′ q
+  milestoned step.Neither rd sp room opens′ w len p p-is l′ q c =
+      let c′ : Counted t i (paired.Now (r .«open»)) l r l′ q = rw p-is at c in
+      rw (w, c′ .0, c′ .1) (other rd)
+  milestoned (step.Start b) rd sp room opens′ w len p p-is l′ q c =
+      let c′ : Counted t i (paired.Now (r .«open» + 1)) l r l′ q = rw p-is at c in
+      rw (w, c′ .0, c′ .1) (started b (rd .0) (rd .1) (rd .2) (rd .3) sp room)
+  milestoned (step.End at len) rd sp room opens′ w long p p-is l′ q c = go (nearestIn s t opens (r .«open») (take len (drop at s))) refl w p-is
+    where
+      go : (f : Found) → nearestIn s t opens (r .«open») (take len (drop at s)) ≡ f → opens′ ≡ opensBy (step.End at len) f opens (r .«open») → p ≡ pairedBy (step.End at len) f (r .«open») → Milestoned e s t i opens l r opens′ l′ q
+      go (At j) n w p-is =
+          let c′ : Counted t i (paired.Now (r .«open» - 1)) l r l′ q = rw p-is at c in
+          rw (c′ .0, c′ .1) (ended (rd .0) (rd .1) j (rw (rd .2) at n) opens′ w long)
+      go Nothing n w p-is =
+          let c′ : Counted t i paired.Alone l r l′ q = rw p-is at c in
+          rw w (by-itself (rd .0) (rd .1) (rw (rd .2) at n) l′ q c′)
 
-    module _ (h : not y ≡ false) (z : Bool) (z-is : z ≡ endsIn 0x73 name) (b : List ℕ) (b-is : b ≡ baseIn name) where
-      is-one : isMilestone e (nodeAt s t i) ≡ true
-      is-one = milestone ∙ not-false y h
-
-      step-start : z ≡ true → Spanned s t i → 2 * (r .«open» + 1) ≤ length words → (words′ : List ℕ) (r′ : Record) → words′ ≡ pushed words (r .«open») i (length b) → r′ ≡ withOpens r (r .«open» + 1) → Stepped e s t i words r words′ r′
-      step-start g sp room words′ r′ w v =
-          let p : isStart (nodeAt s t i) ≡ true = begins z z-is ∙ g in
-          let m : Measured s t i (length b) = record { spanned = sp; is = ap length (b-is ∙ ap baseIn is) } in
-          rw (w, v) (stepped (pushed words (r .«open») i (length b)) (r .«open» + 1) (rw is-one (rw p (starts-pushed words (r .«open») i (length b) room s t))) (opens-pushed words (r .«open») i (length b) room s t o m) (omega arith))
-
-      pub done-start : z ≡ true → Spanned s t i → 2 * (r .«open» + 1) ≤ length words → (words′ : List ℕ) (r′ : Record) → words′ ≡ pushed words (r .«open») i (length b) → r′ ≡ withOpens r (r .«open» + 1) → Milestoned e s t i words l r words′ l r′
-      done-start g sp room words′ r′ w v = quiet (alone-start words (r .«open») h z z-is g) (step-start g sp room words′ r′ w v)
-
-      module _ (g : z ≡ false) (f : Found) (f-is : f ≡ nearestIn s t words (r .«open») b) where
-        no-start : isStart (nodeAt s t i) ≡ false
-        no-start = begins z z-is ∙ g
-
-        step-alone : f ≡ Nothing → Stepped e s t i words r words r
-        step-alone n =
-            let w : nearestIn s t words (r .«open») (baseOf (nodeAt s t i)) ≡ Nothing = sym (nearest-is words (r .«open») b f b-is f-is) ∙ n in
-            stepped words (r .«open») (rw is-one (rw no-start (sym (none-taken s t words (nodeAt s t i) (r .«open») w)))) o (omega arith)
-
-        is-alone : f ≡ Nothing → true ≡ alone
-        is-alone n = alone-end words (r .«open») h z z-is g b f Nothing b-is f-is n
-
-        pub alone-fits : f ≡ Nothing → Room (countsOf r) (given (milestoneChecks e (stateOf s t [] words r) (nodeAt s t i))) → Room (countsOf r) (error (nodeAt [] t i) 16 1 ∷ [])
-        alone-fits n = one-fits alone true (error (nodeAt s t i) 16 1) (error (nodeAt s t i) 16 1) (is-alone n) refl (countsOf r) (countsOf r) refl
-
-        pub done-alone : f ≡ Nothing → (l′ : List ℕ) (r′ : Record) → ToldAlone t i l r l′ r′ → Milestoned e s t i words l r words l′ r′
-        done-alone n l′ r′ told =
-            record {
-              wrote = one-wrote alone true (error (nodeAt s t i) 16 1) (error (nodeAt s t i) 16 1) (is-alone n) refl (countsOf r) (countsOf r) l l′ (countsOf r′) refl (told .wrote);
-              step = subst (λ (q : Record). Stepped e s t i words (withCounts r (countsOf r′)) words q) (sym (told .same)) (recounted (countsOf r′) (step-alone n));
-            }
-
-        module _ (at : ℕ) (n : f ≡ At at) where
-          there : nearestIn s t words (r .«open») (baseOf (nodeAt s t i)) ≡ At at
-          there = sym (nearest-is words (r .«open») b f b-is f-is) ∙ n
-
-          pub at-inside : at < r .«open»
-          at-inside = found-inside s t words (baseOf (nodeAt s t i)) (r .«open») at there
-
-          step-end : (words′ : List ℕ) (r′ : Record) → words′ ≡ removed words (r .«open») at → length words′ ≡ length words → r′ ≡ withOpens r (r .«open» - 1) → Stepped e s t i words r words′ r′
-          step-end words′ r′ w len v =
-              let a = at-inside in
-              let x : Node = nodeAt s t i in
-              let up : r .«open» ≡ suc (r .«open» - 1) = omega arith in
-              let up′ : r .«open» ≡ r .«open» - 1 + 1 = omega arith in
-              let e : Gone words words′ (r .«open» - 1) at = rw w (gone words (r .«open») at a (o .room)) in
-              let found : nearestIn s t words (suc (r .«open» - 1)) (baseOf x) ≡ At at = ap (λ (n : ℕ). nearestIn s t words n (baseOf x)) (sym up) ∙ there in
-              let taken : without x (starts s t words (r .«open»)) ≡ starts s t words′ (r .«open» - 1) = ap (λ (n : ℕ). without x (starts s t words n)) up ∙ one-taken s t words words′ at x (r .«open» - 1) e found in
-              let o′ : Opens s t words (r .«open» - 1 + 1) = rw up′ at o in
-              rw v (stepped words′ (r .«open» - 1) (rw is-one (rw no-start (sym taken))) (opens-gone s t words words′ (r .«open» - 1) at e (omega arith) len o′) (omega arith))
-
-          pub done-end : (words′ : List ℕ) (r′ : Record) → words′ ≡ removed words (r .«open») at → length words′ ≡ length words → r′ ≡ withOpens r (r .«open» - 1) → Milestoned e s t i words l r words′ l r′
-          done-end words′ r′ w len v = quiet (alone-end words (r .«open») h z z-is g b f (At at) b-is f-is n) (step-end words′ r′ w len v)
+-- the room that is asked for, where an end stands alone
+pub countable-alone : (t : List ℕ) (i : ℕ) (p : Paired) (r : Record) → p ≡ paired.Alone → Countable t i p r → Room (countsOf r) (error (nodeAt [] t i) 16 1 ∷ [])
+countable-alone t i p r h c = rw h at c

@@ -1,5 +1,5 @@
--- What the inner functions promise: the search among the open starts, and the list of words without an entry and with one more.
-use Prim.Native.Nat.{ℕ, zero, suc, _+_, _-_, _*_}
+-- What the inner functions promise: how a marker is read, the search among the open starts, and their list without an entry and with one more.
+use Prim.Native.Nat.{ℕ, zero, suc, _+_, _-_, _≤_}
 use mathlib.Core.Path.{_≡_}
 use mathlib.Core.Bool.{Bool, true, false}
 use mathlib.Core.List.{List, [], _∷_, _++_}
@@ -10,11 +10,17 @@ use Rattle.tape.specs.Nodes.{nodeAt}
 use Rattle.table.specs.Bytes.{equal}
 use Rattle.table.specs.Entries.{Entry}
 use Rattle.cursor.specs.Inner.{Spanned}
-use Rattle.findings.specs.Written.{Wrote}
+use Rattle.findings.specs.Written.{Wrote, Room}
 use Rattle.validate.specs.Checks.{error}
-use Rattle.validate.specs.Milestones.{endsIn, baseOf}
+use Rattle.validate.specs.Milestones.{endsIn, isStart, isMilestone, baseOf}
+use Rattle.validate.specs.Outcome.{noStart}
+use Rattle.validate.specs.declared.OpenStart.{OpenStart}
 use Rattle.running.specs.Running.{countsOf, withCounts}
 use Rattle.running.specs.declared.Record.{Record}
+use Rattle.milestones.specs.declared.Step.{Step}
+use Rattle.milestones.specs.declared.Step.the-variants as step
+use Rattle.milestones.specs.declared.Paired.{Paired}
+use Rattle.milestones.specs.declared.Paired.the-variants as paired
 use Rattle.milestones.specs.declared.Found.{Found}
 use Rattle.milestones.specs.declared.Found.the-variants.{At, Nothing}
 
@@ -36,17 +42,50 @@ pickFound true a b = a
 pickFound false a b = b
 
 -- the latest of the first k entries with the base
-unfoldable pub nearestIn : List ℕ → List ℕ → List ℕ → ℕ → List ℕ → Found
-nearestIn s t words zero base = Nothing
-nearestIn s t words (suc k) base = pickFound (equal (baseOf (nodeAt s t (getD words (2 * k) 0))) base) (At k) (nearestIn s t words k base)
+unfoldable pub nearestIn : List ℕ → List ℕ → List OpenStart → ℕ → List ℕ → Found
+nearestIn s t opens zero base = Nothing
+nearestIn s t opens (suc k) base = pickFound (equal (baseOf (nodeAt s t (getD opens k noStart .node))) base) (At k) (nearestIn s t opens k base)
 
--- one entry more behind k entries
-abbrev pub pushed : List ℕ → ℕ → ℕ → ℕ → List ℕ
-pushed words k node len = set (set words (2 * k) node) (2 * k + 1) len
+-- the later ones of the first k entries each moved down by one, from an entry on
+unfoldable pub removed : List OpenStart → ℕ → ℕ → List OpenStart
+removed opens k at = take at opens ++ take (k - 1 - at) (drop (at + 1) opens) ++ drop (at + (k - 1 - at)) opens
 
--- the later ones of the first k entries each moved down to the entry before, from an entry on
-unfoldable pub removed : List ℕ → ℕ → ℕ → List ℕ
-removed words k at = take (2 * at) words ++ take (2 * (k - 1) - 2 * at) (drop (2 * at + 2) words) ++ drop (2 * at + (2 * (k - 1) - 2 * at)) words
+-- what a marker is among milestones, as the code reads it: a start as an entry, an end with the place of its base in the source, or neither
+abbrev pub Read : Entry → List ℕ → List ℕ → ℕ → Step → Type 0
+Read e s t i step.Neither = isMilestone e (nodeAt s t i) ≡ false
+Read e s t i (step.Start o) = (isMilestone e (nodeAt s t i) ≡ true) × (isStart (nodeAt s t i) ≡ true) × (o .node ≡ i) × (o .«base_len» ≡ length (baseOf (nodeAt s t i)))
+Read e s t i (step.End at len) =
+    (isMilestone e (nodeAt s t i) ≡ true) × (isStart (nodeAt s t i) ≡ false) × (take len (drop at s) ≡ baseOf (nodeAt s t i)) × (at + len ≤ length s)
+
+-- the place of an end's base lies in the source
+abbrev pub Placed : List ℕ → Step → Type 0
+Placed s (step.End at len) = at + len ≤ length s
+Placed s (step.Start o) = Unit {0}
+Placed s step.Neither = Unit {0}
+
+-- the base that stands at a place of the source
+abbrev pub baseAt : List ℕ → ℕ → ℕ → List ℕ
+baseAt s at len = take len (drop at s)
+
+-- the entry that an end takes
+abbrev pub takenBy : List ℕ → List ℕ → List OpenStart → ℕ → Step → Found
+takenBy s t opens k (step.End at len) = nearestIn s t opens k (baseAt s at len)
+takenBy s t opens k (step.Start o) = Nothing
+takenBy s t opens k step.Neither = Nothing
+
+-- the open starts after it: one more, one less, or as they were
+abbrev pub opensBy : Step → Found → List OpenStart → ℕ → List OpenStart
+opensBy step.Neither f opens k = opens
+opensBy (step.Start o) f opens k = set opens k o
+opensBy (step.End at len) (At j) opens k = removed opens k j
+opensBy (step.End at len) Nothing opens k = opens
+
+-- how many they are, or that an end stands alone
+abbrev pub pairedBy : Step → Found → ℕ → Paired
+pairedBy step.Neither f k = paired.Now k
+pairedBy (step.Start o) f k = paired.Now (k + 1)
+pairedBy (step.End at len) (At j) k = paired.Now (k - 1)
+pairedBy (step.End at len) Nothing k = paired.Alone
 
 -- the record with another number of open starts
 abbrev pub withOpens : Record → ℕ → Record
@@ -72,3 +111,13 @@ withOpens r n =
 pub record ToldAlone (t : List ℕ) (i : ℕ) (l : List ℕ) (r : Record) (l′ : List ℕ) (q : Record) : Type 0 where
   pub wrote : Wrote (error (nodeAt [] t i) 16 1 ∷ []) l (countsOf r) l′ (countsOf q)
   pub same : q ≡ withCounts r (countsOf q)
+
+-- the record after a marker, by how many open starts there are now: an end that stands alone is told
+abbrev pub Counted : List ℕ → ℕ → Paired → List ℕ → Record → List ℕ → Record → Type 0
+Counted t i (paired.Now n) l r l′ q = (q ≡ withOpens r n) × (l′ ≡ l)
+Counted t i paired.Alone l r l′ q = ToldAlone t i l r l′ q
+
+-- there is room for what is told
+abbrev pub Countable : List ℕ → ℕ → Paired → Record → Type 0
+Countable t i (paired.Now n) r = Unit {0}
+Countable t i paired.Alone r = Room (countsOf r) (error (nodeAt [] t i) 16 1 ∷ [])

@@ -1,19 +1,22 @@
 -- What a milestone promises: its finding and its step.
-use Prim.Native.Nat.{ℕ, _+_, _≤_}
+use Prim.Native.Nat.{ℕ, _+_, _<_, _≤_}
 use mathlib.Core.Path.{_≡_}
 use mathlib.Core.List.{List, []}
+use lib.ListN.{length}
 use Rattle.tape.specs.Nodes.{nodeAt}
 use Rattle.table.specs.Entries.{Entry}
-use Rattle.findings.specs.Written.{Wrote}
+use Rattle.findings.specs.Written.{Wrote, Room}
+use Rattle.cursor.specs.Inner.{Spanned}
 use Rattle.validate.specs.Checks.{given}
 use Rattle.validate.specs.Milestones.{milestoneChecks, afterMilestone}
+use Rattle.validate.specs.declared.OpenStart.{OpenStart}
 use Rattle.running.specs.Running.{stateOf, countsOf, withCounts, Opens}
 use Rattle.running.specs.declared.Record.{Record}
 
 -- the record and the open starts are those after node i with its table entry; the chapters seen may be any
-pub record Stepped (e : Entry) (s t : List ℕ) (i : ℕ) (words : List ℕ) (r : Record) (words′ : List ℕ) (q : Record) : Type 0 where
-  pub state : (seen : List ℕ) → stateOf s t seen words′ q ≡ afterMilestone e (stateOf s t seen words r) (nodeAt s t i)
-  pub opens : Opens s t words′ (q .«open»)
+pub record Stepped (e : Entry) (s t : List ℕ) (i : ℕ) (opens : List OpenStart) (r : Record) (opens′ : List OpenStart) (q : Record) : Type 0 where
+  pub state : (seen : List ℕ) → stateOf s t seen opens′ q ≡ afterMilestone e (stateOf s t seen opens r) (nodeAt s t i)
+  pub stays : Opens s t opens′ (q .«open»)
   pub few : q .«open» ≤ r .«open» + 1
   pub counts : countsOf q ≡ countsOf r
   pub seen : q .seen ≡ r .seen
@@ -22,6 +25,14 @@ pub record Stepped (e : Entry) (s t : List ℕ) (i : ℕ) (words : List ℕ) (r 
   pub verses : q .verses ≡ r .verses
 
 -- the finding is written if there is one, and the step is that of the record with it counted
-pub record Milestoned (e : Entry) (s t : List ℕ) (i : ℕ) (words l : List ℕ) (r : Record) (words′ l′ : List ℕ) (q : Record) : Type 0 where
-  pub wrote : Wrote (given (milestoneChecks e (stateOf s t [] words r) (nodeAt s t i))) l (countsOf r) l′ (countsOf q)
-  pub step : Stepped e s t i words (withCounts r (countsOf q)) words′ q
+pub record Milestoned (e : Entry) (s t : List ℕ) (i : ℕ) (opens : List OpenStart) (l : List ℕ) (r : Record) (opens′ : List OpenStart) (l′ : List ℕ) (q : Record) : Type 0 where
+  pub wrote : Wrote (given (milestoneChecks e (stateOf s t [] opens r) (nodeAt s t i))) l (countsOf r) l′ (countsOf q)
+  pub step : Stepped e s t i opens (withCounts r (countsOf q)) opens′ q
+
+-- what a marker asks for: it is a node of the tape, the open starts are known and have room for one more, and there is room for its finding
+pub record Steppable (e : Entry) (s t : List ℕ) (i : ℕ) (opens : List OpenStart) (r : Record) : Type 0 where
+  pub spanned : Spanned s t i
+  pub low : i < 4294967296
+  pub known : Opens s t opens (r .«open»)
+  pub more : r .«open» < length opens
+  pub room : Room (countsOf r) (given (milestoneChecks e (stateOf s t [] opens r) (nodeAt s t i)))

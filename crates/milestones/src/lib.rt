@@ -1,28 +1,42 @@
-// Milestones: starts and ends by their names, and the open starts, which are lent as two words each: a node's number and the length of its base.
+// Milestones: starts and ends by their names, and the open starts, a lent list of records.
 use findings::Severity;
 use running::Record;
-use table::Category;
 use table::MarkerInfo;
+use validate::OpenStart;
 ghost use mathlib.Core.Path.{_≡_};
 ghost use mathlib.Core.List.{[], _∷_};
 ghost use Rattle.text.specs.Pick.{both};
-ghost use Prim.Native.Nat.{_+_, _*_, _<_, _≤_};
-ghost use lib.ListN.{length, drop};
+ghost use Prim.Native.Nat.{_+_, _<_, _≤_};
+ghost use lib.ListN.{length, drop, set};
 ghost use Rattle.tape.specs.Nodes.{nodeAt, count};
 ghost use Rattle.table.specs.Bytes.{equal};
-ghost use Rattle.table.specs.Entries.{entryOfInfo};
+ghost use Rattle.table.specs.Entries.{Entry, entryOfInfo};
 ghost use Rattle.cursor.specs.Inner.{Spanned};
 ghost use Rattle.findings.specs.Written.{Room};
 ghost use Rattle.validate.specs.Checks.{given, error};
 ghost use Rattle.validate.specs.Milestones.{endsIn, baseOf, milestoneChecks};
 ghost use Rattle.running.specs.Running.{stateOf, countsOf, Opens};
-ghost use Rattle.milestones.specs.Inner.{baseIn, named, Measured, nearestIn, pushed, removed, withOpens, ToldAlone};
-ghost use Rattle.milestones.specs.Steps.{Milestoned};
+ghost use Rattle.milestones.specs.Inner.{baseIn, Measured, Read, Placed, baseAt, nearestIn, removed, takenBy, opensBy, pairedBy, withOpens, ToldAlone, Counted, Countable};
+ghost use Rattle.milestones.specs.Steps.{Milestoned, Steppable};
 
 // An entry among the open starts, if there is one.
-enum Found {
+pub enum Found {
     At(usize),
     Nothing,
+}
+
+// What a marker is among milestones: a start as an entry of the open starts, an end with the place of its base in the source, or
+// neither.
+pub enum Step {
+    Start(OpenStart),
+    End(usize, usize),
+    Neither,
+}
+
+// How many open starts there are after a marker, or that it is an end that none waits for.
+pub enum Paired {
+    Now(usize),
+    Alone,
 }
 
 // Whether a name ends in a hyphen and the letter.
@@ -50,19 +64,39 @@ pub fn base(name: &[u8]) -> &[u8]
     &name[..n - 2]
 }
 
-fn is_milestone(m: MarkerInfo, name: &[u8]) -> bool
-    ensures { λ r. ⌜ r ≡ named (entryOfInfo m) (now (name .entry)) ⌝ }
+// What a marker whose category is milestone is, by its name.
+fn step_named(source: &[u8], tape: &[u8], i: usize) -> Step
+    requires { ⌜ (Spanned (now source) (now tape) i) × (i < 4294967296) ⌝ }
+    ensures { λ r. ⌜ ((e : Entry) → e .category ≡ 6 → Read e (now (source .entry)) (now (tape .entry)) i r) ⌝ }
 {
-    let category = m.category;
-    match category {
-        Category::Milestone => {
-            if ends_in(name, b's') {
-                return true;
-            }
-            ends_in(name, b'e')
-        }
-        _ => false,
+    let a = tape::start_at(tape, i) as usize;
+    let n = tape::len_at(tape, i) as usize;
+    let text = &source[a..a + n];
+    let at = cursor::name_span(text);
+    let b = at.start;
+    let e = at.end;
+    let name = &text[b..e];
+    if ends_in(name, b's') {
+        return Step::Start(OpenStart {
+            node: i as u32,
+            base_len: (e - b - 2) as u32,
+        });
     }
+    if ends_in(name, b'e') {
+        return Step::End(a + b, e - b - 2);
+    }
+    Step::Neither
+}
+
+// What a marker is. Most are no milestones, and their names aren't read.
+pub fn step_of(m: MarkerInfo, source: &[u8], tape: &[u8], i: usize) -> Step
+    requires { ⌜ (Spanned (now source) (now tape) i) × (i < 4294967296) ⌝ }
+    ensures { λ r. ⌜ Read (entryOfInfo m) (now (source .entry)) (now (tape .entry)) i r ⌝ }
+{
+    if running::is_of(m, 6) {
+        return step_named(source, tape, i);
+    }
+    Step::Neither
 }
 
 // Whether eight bytes of two lists are the same, if what stands behind them is. No byte ends the loop, so that it becomes one
@@ -96,56 +130,20 @@ fn same_base(a: &[u8], b: &[u8]) -> bool
     table::same(&a[i..], &b[i..])
 }
 
-// Whether a node has the base; the length of its own is known, and most differ by it.
-fn has_base(source: &[u8], tape: &[u8], node: usize, len: usize, base: &[u8]) -> bool
-    requires { ⌜ Measured (now source) (now tape) node len ⌝ }
-    ensures { λ r. ⌜ r ≡ equal (baseOf (nodeAt (now (source .entry)) (now (tape .entry)) node)) (now (base .entry)) ⌝ }
+// Whether an open start has the base that stands at a place of the source; the length of its own is known, and most differ by it.
+fn has_base(source: &[u8], tape: &[u8], o: OpenStart, at: usize, len: usize) -> bool
+    requires { ⌜ (Measured (now source) (now tape) (o .node) (o .«base_len»)) × (at + len ≤ length (now source)) ⌝ }
+    ensures { λ r. ⌜ r ≡ equal (baseOf (nodeAt (now (source .entry)) (now (tape .entry)) (o .node))) (baseAt (now (source .entry)) at len) ⌝ }
 {
-    if len != base.len() {
+    let n = o.base_len as usize;
+    if n != len {
         return false;
     }
-    let text = cursor::text(source, tape, node);
+    let text = cursor::text(source, tape, o.node as usize);
     let start = cursor::name_start(text);
-    let end = start + len;
-    same_base(&text[start..end], base)
-}
-
-// The latest of the first k entries with the base.
-fn nearest(source: &[u8], tape: &[u8], opens: &[u64], k: usize, base: &[u8]) -> Found
-    requires { ⌜ Opens (now source) (now tape) (now opens) k ⌝ }
-    ensures { λ r. ⌜ r ≡ nearestIn (now (source .entry)) (now (tape .entry)) (now (opens .entry)) k (now (base .entry)) ⌝ }
-{
-    let mut j = k;
-    while 0 < j {
-        j -= 1;
-        let node = opens[2 * j] as usize;
-        let len = opens[2 * j + 1] as usize;
-        if has_base(source, tape, node, len, base) {
-            return Found::At(j);
-        }
-    }
-    Found::Nothing
-}
-
-fn push(opens: &mut [u64], k: usize, node: u64, len: u64)
-    requires { ⌜ 2 * (k + 1) ≤ length (now opens) ⌝ }
-    ensures { λ _. ⌜ now (opens .exit) ≡ pushed (now (opens .entry)) k node len ⌝ }
-{
-    opens[2 * k] = node;
-    opens[2 * k + 1] = len;
-}
-
-// The later entries move down by one.
-fn remove(opens: &mut [u64], k: usize, at: usize)
-    requires { ⌜ (at < k) × (2 * k ≤ length (now opens)) ⌝ }
-    ensures { λ _. ⌜ now (opens .exit) ≡ removed (now (opens .entry)) k at ⌝ }
-{
-    let last = 2 * (k - 1);
-    let mut i = 2 * at;
-    while i < last {
-        opens[i] = opens[i + 2];
-        i += 1;
-    }
+    let end = start + n;
+    let to = at + len;
+    same_base(&text[start..end], &source[at..to])
 }
 
 fn with_open(r: Record, n: usize) -> Record
@@ -187,53 +185,97 @@ fn tell_alone(tape: &[u8], i: usize, rec: Record, list: &mut [u64]) -> Record
     running::with_counts(rec, findings::push(list, running::counts(rec), f))
 }
 
-// A milestone, by its name: a start is one more open start; an end takes the latest of its base. One search tells whether it has one, and which.
-fn milestone_named(
-    m: MarkerInfo,
+// The latest of the first k open starts with the base that stands at a place of the source.
+fn nearest(
     source: &[u8],
     tape: &[u8],
-    i: usize,
-    opens: &mut [u64],
-    rec: Record,
-    list: &mut [u64],
-) -> Record
-    requires { ⌜ (Spanned (now source) (now tape) i) × (Opens (now source) (now tape) (now opens) (rec .«open»)) × (2 * (rec .«open» + 1) ≤ length (now opens)) × Room (countsOf rec) (given (milestoneChecks (entryOfInfo m) (stateOf (now source) (now tape) [] (now opens) rec) (nodeAt (now source) (now tape) i))) ⌝ }
-    ensures { λ r. ⌜ Milestoned (entryOfInfo m) (now (source .entry)) (now (tape .entry)) i (now (opens .entry)) (now (list .entry)) rec (now (opens .exit)) (now (list .exit)) r ⌝ }
+    opens: &mut [OpenStart],
+    k: usize,
+    at: usize,
+    len: usize,
+) -> Found
+    requires { ⌜ (Opens (now source) (now tape) (now opens) k) × (at + len ≤ length (now source)) ⌝ }
+    ensures { λ r. ⌜ (now (opens .exit) ≡ now (opens .entry)) × (r ≡ nearestIn (now (source .entry)) (now (tape .entry)) (now (opens .entry)) k (baseAt (now (source .entry)) at len)) ⌝ }
 {
-    let name = cursor::marker_name(source, tape, i);
-    if !is_milestone(m, name) {
-        return rec;
-    }
-    let k = rec.open;
-    let key = base(name);
-    if ends_in(name, b's') {
-        push(opens, k, i as u64, key.len() as u64);
-        return with_open(rec, k + 1);
-    }
-    match nearest(source, tape, opens, k, key) {
-        Found::At(at) => {
-            remove(opens, k, at);
-            with_open(rec, k - 1)
+    let mut j = k;
+    while 0 < j {
+        j -= 1;
+        let o = opens[j];
+        if has_base(source, tape, o, at, len) {
+            return Found::At(j);
         }
-        Found::Nothing => tell_alone(tape, i, rec, list),
+    }
+    Found::Nothing
+}
+
+fn push(opens: &mut [OpenStart], k: usize, o: OpenStart)
+    requires { ⌜ k < length (now opens) ⌝ }
+    ensures { λ _. ⌜ now (opens .exit) ≡ set (now (opens .entry)) k o ⌝ }
+{
+    opens[k] = o;
+}
+
+// The later open starts move down by one.
+fn remove(opens: &mut [OpenStart], k: usize, at: usize)
+    requires { ⌜ (at < k) × (k ≤ length (now opens)) ⌝ }
+    ensures { λ _. ⌜ now (opens .exit) ≡ removed (now (opens .entry)) k at ⌝ }
+{
+    let last = k - 1;
+    let mut i = at;
+    while i < last {
+        let next = i + 1;
+        let o = opens[next];
+        opens[i] = o;
+        i = next;
     }
 }
 
-// The same of any marker. Most are no milestones, and their names aren't read.
+// The open starts after a marker, of which there are k before it: a start is one more, an end takes the latest of its base.
+fn pair(source: &[u8], tape: &[u8], step: Step, opens: &mut [OpenStart], k: usize) -> Paired
+    requires { ⌜ (Opens (now source) (now tape) (now opens) k) × (k < length (now opens)) × (Placed (now source) step) ⌝ }
+    ensures { λ r. ⌜ (now (opens .exit) ≡ opensBy step (takenBy (now (source .entry)) (now (tape .entry)) (now (opens .entry)) k step) (now (opens .entry)) k) × (r ≡ pairedBy step (takenBy (now (source .entry)) (now (tape .entry)) (now (opens .entry)) k step) k) ⌝ }
+{
+    match step {
+        Step::Neither => Paired::Now(k),
+        Step::Start(o) => {
+            push(opens, k, o);
+            Paired::Now(k + 1)
+        }
+        Step::End(at, len) => match nearest(source, tape, opens, k, at, len) {
+            Found::At(j) => {
+                remove(opens, k, j);
+                Paired::Now(k - 1)
+            }
+            Found::Nothing => Paired::Alone,
+        },
+    }
+}
+
+// The record after a marker, by how many open starts there are now.
+pub fn after_pair(tape: &[u8], i: usize, p: Paired, rec: Record, list: &mut [u64]) -> Record
+    requires { ⌜ (i < count (now tape)) × Countable (now tape) i p rec ⌝ }
+    ensures { λ r. ⌜ Counted (now (tape .entry)) i p (now (list .entry)) rec (now (list .exit)) r ⌝ }
+{
+    match p {
+        Paired::Now(n) => with_open(rec, n),
+        Paired::Alone => tell_alone(tape, i, rec, list),
+    }
+}
+
+// The finding and the step of a marker: most are no milestones.
 pub fn milestone(
     m: MarkerInfo,
     source: &[u8],
     tape: &[u8],
     i: usize,
-    opens: &mut [u64],
+    opens: &mut [OpenStart],
     rec: Record,
     list: &mut [u64],
 ) -> Record
-    requires { ⌜ (Spanned (now source) (now tape) i) × (Opens (now source) (now tape) (now opens) (rec .«open»)) × (2 * (rec .«open» + 1) ≤ length (now opens)) × Room (countsOf rec) (given (milestoneChecks (entryOfInfo m) (stateOf (now source) (now tape) [] (now opens) rec) (nodeAt (now source) (now tape) i))) ⌝ }
+    requires { ⌜ Steppable (entryOfInfo m) (now source) (now tape) i (now opens) rec ⌝ }
     ensures { λ r. ⌜ Milestoned (entryOfInfo m) (now (source .entry)) (now (tape .entry)) i (now (opens .entry)) (now (list .entry)) rec (now (opens .exit)) (now (list .exit)) r ⌝ }
 {
-    if running::is_of(m, 6) {
-        return milestone_named(m, source, tape, i, opens, rec, list);
-    }
-    rec
+    let step = step_of(m, source, tape, i);
+    let p = pair(source, tape, step, opens, rec.open);
+    after_pair(tape, i, p, rec, list)
 }

@@ -54,7 +54,7 @@ first-end s e is more h =
     go true y on = absurd (omega (arith, stops blank s 0 (omega arith) y))
 
 -- the part of a part, from the place k on
-part-from : (s : List ℕ) (b e k : ℕ) → k ≤ e - b → e ≤ length s → take (e - (b + k)) (drop (b + k) s) ≡ drop k (take (e - b) (drop b s))
+pub part-from : (s : List ℕ) (b e k : ℕ) → k ≤ e - b → e ≤ length s → take (e - (b + k)) (drop (b + k) s) ≡ drop k (take (e - b) (drop b s))
 part-from s b e k h i =
     let n : e - b ≡ k + (e - (b + k)) = omega arith in
     let m = length-take-le k (drop b s) (omega (arith, length-drop b s)) in

@@ -17,6 +17,7 @@ use Rattle.rows.specs.Row.{rowFindings}
 use Rattle.validate.specs.State.{State, Anchor}
 use Rattle.validate.specs.State as state
 use Rattle.validate.specs.Checks.{given, idName, trName, bookCode, idChecks, afterId, placeChecks, contentChecks}
+use Rattle.validate.specs.declared.OpenStart.{OpenStart}
 use Rattle.running.specs.Running.{stateOf, countsOf, SameLists}
 use Rattle.running.specs.declared.Record.{Record}
 
@@ -41,6 +42,6 @@ ownAt table s t o a e i to r =
 
 pub record Marked (table s t : List ℕ) (o : state.Around) (a : Option Anchor) (e : Entry) (i to : ℕ) (l : List ℕ) (r : Record) (l′ : List ℕ) (q : Record) : Type 0 where
   pub wrote : Wrote (ownAt table s t o a e i to r) l (countsOf r) l′ (countsOf q)
-  pub state : (seen opens : List ℕ) → stateOf s t seen opens q ≡ afterId (isId table e) (stateOf s t seen opens r) (childrenAt s t i)
+  pub state : (seen : List ℕ) (opens : List OpenStart) → stateOf s t seen opens q ≡ afterId (isId table e) (stateOf s t seen opens r) (childrenAt s t i)
   pub same : SameLists r q
   pub verse : q .verse ≡ r .verse

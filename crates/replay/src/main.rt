@@ -325,7 +325,7 @@ fn answered(
 ) -> Outcome
     requires { ⌜ (24 ≤ length (now head)) × (length (now recorded) ≤ 1048576) × (8 * count ≤ length (now list)) ⌝ }
 {
-    match marking::check(table, source, tape, seen, opens, list) {
+    match by_words::check_words(table, source, tape, seen, opens, list) {
         Answer::Refused(number, place) => refused(head, number, place, seen, opens, list),
         Answer::Checked(r) => checked(head, r, tape, recorded, count, seen, opens, list),
         Answer::Cut(_) => Outcome::Total,

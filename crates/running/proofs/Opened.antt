@@ -4,9 +4,10 @@ use Prim.Native.Nat.{ℕ, zero, suc}
 use mathlib.Core.Path.{_≡_, refl, ap}
 use mathlib.Core.List.{List}
 use lib.ListN.{length}
+use Rattle.validate.specs.declared.OpenStart.{OpenStart}
 use Rattle.running.specs.Running.{starts}
 
-pub starts-length : (s t words : List ℕ) (k : ℕ) → length (starts s t words k) ≡ k
+pub starts-length : (s t : List ℕ) (opens : List OpenStart) (k : ℕ) → length (starts s t opens k) ≡ k
 unfolding starts
-starts-length s t words zero = refl
-starts-length s t words (suc k) = ap suc (starts-length s t words k)
+starts-length s t opens zero = refl
+starts-length s t opens (suc k) = ap suc (starts-length s t opens k)

@@ -1,5 +1,5 @@
 -- What the code's running values mean: the definition's record, what lies around, and the anchor.
-use Prim.Native.Nat.{ℕ, zero, suc, _+_, _*_, _<_, _≤_}
+use Prim.Native.Nat.{ℕ, zero, suc, _<_, _≤_}
 use mathlib.Core.Path.{_≡_}
 use mathlib.Core.Bool.{Bool, true, false}
 use mathlib.Core.List.{List, [], _∷_}
@@ -15,6 +15,8 @@ use Rattle.attachment.specs.Attached.{attachedNumbers}
 use Rattle.attachment.specs.Attached as attached
 use Rattle.validate.specs.State as state
 use Rattle.validate.specs.Milestones.{baseOf}
+use Rattle.validate.specs.Outcome.{noStart}
+use Rattle.validate.specs.declared.OpenStart.{OpenStart}
 use Rattle.running.specs.declared.Record.{Record}
 use Rattle.running.specs.declared.Around.{Around}
 
@@ -23,13 +25,13 @@ unfoldable pub latest : List ℕ → ℕ → List ℕ
 latest words zero = []
 latest words (suc k) = getD words k 0 ∷ latest words k
 
--- the open starts of the first k entries, the last of them first; an entry is a node's number and the length of its base
-unfoldable pub starts : List ℕ → List ℕ → List ℕ → ℕ → List Node
-starts s t words zero = []
-starts s t words (suc k) = nodeAt s t (getD words (2 * k) 0) ∷ starts s t words k
+-- the open starts of the first k entries, the last of them first
+unfoldable pub starts : List ℕ → List ℕ → List OpenStart → ℕ → List Node
+starts s t opens zero = []
+starts s t opens (suc k) = nodeAt s t (getD opens k noStart .node) ∷ starts s t opens k
 
 -- the definition's record
-abbrev pub stateOf : List ℕ → List ℕ → List ℕ → List ℕ → Record → state.State
+abbrev pub stateOf : List ℕ → List ℕ → List ℕ → List OpenStart → Record → state.State
 stateOf s t seen opens r =
     record {
       hasId = r .«has_id»;
@@ -75,10 +77,10 @@ anchorOf s t zero at = none
 anchorOf s t (suc n) at = some (record { kind = kindAt t (suc n); passed = forest s t (pastNode t (suc n)) at })
 
 -- the first k entries of the open starts are nodes of the tape with the lengths of their bases
-pub record Opens (s t words : List ℕ) (k : ℕ) : Type 0 where
-  pub room : 2 * k ≤ length words
-  pub spanned : (j : ℕ) → j < k → Spanned s t (getD words (2 * j) 0)
-  pub bases : (j : ℕ) → j < k → getD words (2 * j + 1) 0 ≡ length (baseOf (nodeAt s t (getD words (2 * j) 0)))
+pub record Opens (s t : List ℕ) (opens : List OpenStart) (k : ℕ) : Type 0 where
+  pub room : k ≤ length opens
+  pub spanned : (j : ℕ) → j < k → Spanned s t (getD opens j noStart .node)
+  pub bases : (j : ℕ) → j < k → getD opens j noStart .«base_len» ≡ length (baseOf (nodeAt s t (getD opens j noStart .node)))
 
 -- the start offsets of the numbers attached to an anchor, of the siblings passed since and those from here on
 abbrev pub startsFor : Option state.Anchor → Forest → List ℕ

@@ -83,7 +83,7 @@ pub fn tell<'a>(
     ensures ends { λ r. ⌜ now (ends .exit) ≡ endsAfter (now (table .entry)) (now (source .entry)) (now (tape .entry)) (now (list .entry)) (length (now (out .entry))) (now (ends .entry)) ⌝ }
 {
     let mut words = [0u64; 512];
-    match marking::table_gate(table, &mut words, source, tape, 65535, 131070) {
+    match marking::table_gate(table, &mut words, source, tape, 65535, 65535) {
         Gate::Shut(number, place) => Texts::Refused(number, place),
         Gate::Open(entries) => tell_in(table, &words, entries, source, tape, list, ends, out),
     }

@@ -1,21 +1,22 @@
--- A text laid byte by byte, its values in their places.
+-- A text laid run by run, its values in their places.
 -- Assumes nothing.
-use Prim.Native.Nat.{ℕ, suc, _+_, _*_, _<_, _≤_}
+use Prim.Native.Nat.{ℕ, zero, suc, _+_, _-_, _*_, _<_, _≤_}
+use native.Mathlib.Decide.{decLt}
 use native.Mathlib.Omega.{arith}
 use native.Mathlib.Nat.{zero-add, add-zero}
 use native.Mathlib.Numerals.{add-one}
-use mathlib.Core.Path.{_≡_, refl, sym, _∙_}
+use mathlib.Core.Path.{_≡_, refl, sym, ap, _∙_}
 use mathlib.Core.Bool.{Bool, true, false}
 use mathlib.Core.List.{List, [], _∷_, _++_}
 use borrow.Author.Tests.{ne-eqb}
 use lib.Dec.{eqb}
-use lib.ListN.{length, drop, getD, length-append, drop-of-length-le}
-use lib.Seq.{drop-cons}
+use lib.ListN.{length, take, drop, getD, length-append, length-drop, drop-of-length-le}
+use lib.Seq.{drop-cons, drop-drop, getD-drop, length-take-le}
 use Rattle.numbers.specs.Label.{pickList}
 use Rattle.laying.specs.Over.{over, Put}
 use Rattle.laying.proofs.Over.{over-over, over-none}
 use Rattle.texts.specs.Filled.{Values, byteOf, filled}
-use Rattle.texts.specs.Inner.{values, Short}
+use Rattle.texts.specs.Inner.{values, Short, Plain}
 use Rattle.texts.proofs.Capitals.{length-upper}
 
 -- a byte that stands for no value stands for itself
@@ -30,6 +31,36 @@ byte-short : (n : ℕ) (a b c : List ℕ) → Short a b c → length (byteOf n (
 byte-short n a b c z =
     shorter (eqb n 1) _ _ (z .a-short) (shorter (eqb n 2) _ _ (z .b-short) (shorter (eqb n 3) _ _ (z .c-short) (shorter (eqb n 4) _ _ (rw (length-upper a) (z .a-short)) (omega arith))))
 
+-- bytes that stand for no value are laid as they are
+run-here : (n : ℕ) (s : List ℕ) (v : Values) → n ≤ length s → ((k : ℕ) → k < n → 5 ≤ getD s k 0) → filled s v ≡ take n s ++ filled (drop n s) v
+unfolding filled
+run-here zero s v h above = refl
+run-here (suc n) [] v h above = absurd (omega arith)
+run-here (suc n) (x ∷ s) v h above =
+    let z : 5 ≤ x = above 0 (omega arith) in
+    rw (itself x v (λ e. omega arith) (λ e. omega arith) (λ e. omega arith) (λ e. omega arith)) (ap (x ∷_) (run-here n s v (omega arith) (λ k l. above (suc k) (omega arith))))
+
+run-filled : (text : List ℕ) (i j : ℕ) → Plain text i j → (v : Values) → filled (drop i text) v ≡ take (j - i) (drop i text) ++ filled (drop j text) v
+run-filled text i j z v =
+    let h = z .start in
+    let k = z .inside in
+    let e : i + (j - i) ≡ j = omega arith in
+    let far : drop (j - i) (drop i text) ≡ drop j text = rw (drop-drop (j - i) i text, e) in
+    rw far at (run-here (j - i) (drop i text) v (rw (length-drop i text) (omega arith)) (λ n l. rw (getD-drop i text n 0) (z .above (i + n) (omega arith) (omega arith))))
+
+run-length : (text : List ℕ) (i j : ℕ) → Plain text i j → length (take (j - i) (drop i text)) ≡ j - i
+run-length text i j z = length-take-le (j - i) (drop i text) (rw (length-drop i text) (let h = z .inside in omega arith))
+
+pub plain-start : (text : List ℕ) (i : ℕ) → i ≤ length text → Plain text i i
+plain-start text i h = record { start = omega arith; inside = h; above = λ k l m. absurd (omega arith) }
+
+pub plain-on : (text : List ℕ) (i j : ℕ) → Plain text i j → j < length text → 5 ≤ getD text j 0 → Plain text i (j + 1)
+plain-on text i j z h new = record { start = (let s = z .start in omega arith); inside = omega arith; above = λ k l m. more k l m (decLt k j) }
+  where
+    more : (k : ℕ) → i ≤ k → k < j + 1 → Dec (k < j) → 5 ≤ getD text k 0
+    more k l m (yes p) = z .above k l p
+    more k l m (no q) = let e : k ≡ j = omega arith in rw e new
+
 -- what is left of the text gives what the whole gives
 pub record Filling (text : List ℕ) (v : Values) (l₀ l : List ℕ) (at i : ℕ) : Type 0 where
   pub left : i ≤ length text
@@ -41,24 +72,33 @@ pub record Filling (text : List ℕ) (v : Values) (l₀ l : List ℕ) (at i : �
 pub filling-start : (text : List ℕ) (v : Values) (l : List ℕ) → Filling text v l l 0 0
 filling-start text v l = record { left = omega arith; whole = refl; ending = zero-add (length (filled text v)); low = omega arith; same = refl }
 
-module _ (text a b c l₀ l : List ℕ) (at i : ℕ) (y : Filling text (values a b c) l₀ l at i) where
-  pub filling-on : i < length text → Short a b c → (l′ : List ℕ) (r : ℕ) → Put (byteOf (getD text i 0) (values a b c)) l at l′ r → length l′ ≡ length l → Filling text (values a b c) l₀ l′ r (i + 1)
-  unfolding filled
-  filling-on h z l′ r p e =
-      let v = values a b c in
-      let n = getD text i 0 in
-      let rest = filled (drop (suc i) text) v in
-      let here : filled (drop i text) v ≡ byteOf n v ++ rest = rw (drop-cons text i 0 h) in
-      let few = byte-short n a b c z in
-      let long : at + (length (byteOf n v) + length rest) ≡ length (filled text v) = rw (← length-append (byteOf n v) rest, ← here) (y .ending) in
+module _ (text a b c l₀ l : List ℕ) (at i : ℕ) (y : Filling text (values a b c) l₀ l at i) (l′ : List ℕ) (r : ℕ) (e : length l′ ≡ length l) where
+  -- bytes that the text gives from a place up to another are laid
+  filling-by : (s : List ℕ) (j : ℕ) → i ≤ j → j ≤ length text → filled (drop i text) (values a b c) ≡ s ++ filled (drop j text) (values a b c) → length s ≤ 1048576 * (j - i) → Put s l at l′ r → Filling text (values a b c) l₀ l′ r j
+  filling-by s j h k here few p =
+      let rest = filled (drop j text) (values a b c) in
+      let long : at + (length s + length rest) ≡ length (filled text (values a b c)) = rw (← length-append s rest, ← here) (y .ending) in
       record {
-        left = omega arith;
-        whole = rw (add-one i, p .list, p .end, over-over l at (byteOf n v) rest, ← here) (y .whole);
-        ending = rw (add-one i, p .end) (omega arith);
+        left = k;
+        whole = rw (p .list, p .end, over-over l at s rest, ← here) (y .whole);
+        ending = rw (p .end) (omega arith);
         low = rw (p .end) (omega arith);
         same = e ∙ y .same;
       }
 
+  pub filling-run : (j : ℕ) → Plain text i j → Put (take (j - i) (drop i text)) l at l′ r → Filling text (values a b c) l₀ l′ r j
+  filling-run j z p = filling-by (take (j - i) (drop i text)) j (z .start) (z .inside) (run-filled text i j z (values a b c)) (rw (run-length text i j z) (omega arith)) p
+
+  pub filling-on : i < length text → Short a b c → Put (byteOf (getD text i 0) (values a b c)) l at l′ r → Filling text (values a b c) l₀ l′ r (i + 1)
+  unfolding filled
+  filling-on h z p =
+      let v = values a b c in
+      let n = getD text i 0 in
+      let here : filled (drop i text) v ≡ byteOf n v ++ filled (drop (i + 1) text) v = rw (add-one i, drop-cons text i 0 h) in
+      let few = byte-short n a b c z in
+      filling-by (byteOf n v) (i + 1) (omega arith) (omega arith) here (omega arith) p
+
+module _ (text a b c l₀ l : List ℕ) (at i : ℕ) (y : Filling text (values a b c) l₀ l at i) where
   pub filling-end : length text ≤ i → Put (filled text (values a b c)) l₀ 0 l at
   unfolding filled
   filling-end h =

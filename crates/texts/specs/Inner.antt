@@ -1,9 +1,9 @@
 -- What the functions that lay a text promise.
-use Prim.Native.Nat.{ℕ, zero, suc, _≤_}
+use Prim.Native.Nat.{ℕ, zero, suc, _<_, _≤_}
 use mathlib.Core.Path.{_≡_}
 use mathlib.Core.List.{List, [], _∷_}
 use mathlib.Core.Option.{Option, some, none}
-use lib.ListN.{length}
+use lib.ListN.{length, getD}
 use Rattle.texts.specs.Texts.{Code}
 use Rattle.texts.specs.Filled.{Values, filledBy, textIn, lengthOf, overBy}
 use Rattle.texts.specs.declared.Laid.{Laid}
@@ -17,6 +17,12 @@ pub record Short (a b c : List ℕ) : Type 0 where
   pub a-short : length a ≤ 1048576
   pub b-short : length b ≤ 1048576
   pub c-short : length c ≤ 1048576
+
+-- a run of a text in which no byte stands for a value, as 1 to 4 do
+pub record Plain (text : List ℕ) (from end : ℕ) : Type 0 where
+  pub start : from ≤ end
+  pub inside : end ≤ length text
+  pub above : (k : ℕ) → from ≤ k → k < end → 5 ≤ getD text k 0
 
 abbrev pub laidOf : Laid → Option ℕ
 laidOf (laid.Length n) = some n

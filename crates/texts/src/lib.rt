@@ -2,13 +2,13 @@
 ghost use mathlib.Core.Path.{_≡_};
 ghost use mathlib.Core.List.{[], _∷_, _++_};
 ghost use Prim.Native.Nat.{_-_, _≤_};
-ghost use lib.ListN.{length};
+ghost use lib.ListN.{length, drop};
 ghost use Rattle.text.specs.Pick.{within, pickNat};
 ghost use Rattle.validate.specs.Checks.{upper};
 ghost use Rattle.laying.specs.Over.{Put, limit};
 ghost use Rattle.texts.specs.Texts.{numberTexts, markerTexts, attributeTexts};
 ghost use Rattle.texts.specs.Filled.{byteOf, filled, allTexts};
-ghost use Rattle.texts.specs.Inner.{values, Short, LaidFrom, LaidOf};
+ghost use Rattle.texts.specs.Inner.{values, Short, Plain, LaidFrom, LaidOf};
 
 // How long the text is that was laid, or that there is none.
 pub enum Laid {
@@ -56,7 +56,19 @@ fn put_value(n: u8, a: &[u8], b: &[u8], c: &[u8], out: &mut [u8], at: usize) -> 
     }
 }
 
-// Lays a text with its values in their places, and gives its length. The bounds keep the sum of the lengths in 64 bits.
+// The end of a run of bytes from a place on that stand for themselves, as all from 5 on do.
+fn plain_end(text: &[u8], from: usize) -> usize
+    requires { ⌜ from ≤ length (now text) ⌝ }
+    ensures { λ r. ⌜ Plain (now (text .entry)) from r ⌝ }
+{
+    let mut i: usize = from;
+    while i < text.len() && 5 <= text[i] {
+        i += 1;
+    }
+    i
+}
+
+// Lays a text with its values in their places, and gives its length. A text is mostly bytes that stand for themselves: each run of them is laid at once. The bounds keep the sum of the lengths in 64 bits.
 fn fill(text: &[u8], a: &[u8], b: &[u8], c: &[u8], out: &mut [u8]) -> usize
     requires { ⌜ (length (now text) ≤ 256) × Short (now a) (now b) (now c) ⌝ }
     ensures { λ r. ⌜ Put (filled (now (text .entry)) (values (now (a .entry)) (now (b .entry)) (now (c .entry)))) (now (out .entry)) 0 (now (out .exit)) r ⌝ }
@@ -64,8 +76,13 @@ fn fill(text: &[u8], a: &[u8], b: &[u8], c: &[u8], out: &mut [u8]) -> usize
     let mut at: usize = 0;
     let mut i: usize = 0;
     while i < text.len() {
-        at = put_value(text[i], a, b, c, out, at);
-        i += 1;
+        let end = plain_end(text, i);
+        at = laying::put(out, at, &text[i..end]);
+        if end == text.len() {
+            return at;
+        }
+        at = put_value(text[end], a, b, c, out, at);
+        i = end + 1;
     }
     at
 }
@@ -114,6 +131,8 @@ fn four(
     two(form - 2, text2, text3, a, b, c, out)
 }
 
+// A text is made in its own arm, by a `*`: a byte string that is borrowed as it stands is stored where its function starts, whatever the code is.
+
 // The codes of the document and its book, else those below.
 fn document_text(code: u64, form: u64, a: &[u8], b: &[u8], c: &[u8], out: &mut [u8]) -> Laid
     requires { ⌜ Short (now a) (now b) (now c) ⌝ }
@@ -121,91 +140,141 @@ fn document_text(code: u64, form: u64, a: &[u8], b: &[u8], c: &[u8], out: &mut [
 {
     match code {
         4 => {
-            let text = b"document has chapters/verses but no \\id (book) marker";
-            one(form, text, a, b, c, out)
+            let text = *b"document has chapters/verses but no \\id (book) marker";
+            one(form, &text, a, b, c, out)
         }
         5 => {
-            let text0 = b"book code \"\x01\" should be uppercase: \"\x04\"";
-            let text1 = b"\"\x01\" is not a valid USFM book code";
-            two(form, text0, text1, a, b, c, out)
+            let text0 = *b"book code \"\x01\" should be uppercase: \"\x04\"";
+            let text1 = *b"\"\x01\" is not a valid USFM book code";
+            two(form, &text0, &text1, a, b, c, out)
         }
-        6 => one(form, b"more than one \\id marker", a, b, c, out),
-        7 => one(form, b"text appears before the \\id marker", a, b, c, out),
+        6 => {
+            let text = *b"more than one \\id marker";
+            one(form, &text, a, b, c, out)
+        }
+        7 => {
+            let text = *b"text appears before the \\id marker";
+            one(form, &text, a, b, c, out)
+        }
         8 => {
-            let text = b"the document has no \\c (chapter) marker";
-            one(form, text, a, b, c, out)
+            let text = *b"the document has no \\c (chapter) marker";
+            one(form, &text, a, b, c, out)
         }
         _ => number_text(code, form, a, b, c, out),
     }
 }
 
-// The codes of chapters and verses, else those below.
+// Of the codes of chapters and verses the first five, else those below.
 fn number_text(code: u64, form: u64, a: &[u8], b: &[u8], c: &[u8], out: &mut [u8]) -> Laid
     requires { ⌜ Short (now a) (now b) (now c) ⌝ }
     ensures { λ r. ⌜ LaidFrom (numberTexts ++ markerTexts ++ attributeTexts) code form (now (a .entry)) (now (b .entry)) (now (c .entry)) (now (out .entry)) (now (out .exit)) r ⌝ }
 {
     match code {
-        9 => one(form, b"expected chapter \x01 but found \x02", a, b, c, out),
-        10 => one(form, b"chapter \x01 appears more than once", a, b, c, out),
-        11 => one(form, b"expected verse \x01 but found \x02", a, b, c, out),
+        9 => {
+            let text = *b"expected chapter \x01 but found \x02";
+            one(form, &text, a, b, c, out)
+        }
+        10 => {
+            let text = *b"chapter \x01 appears more than once";
+            one(form, &text, a, b, c, out)
+        }
+        11 => {
+            let text = *b"expected verse \x01 but found \x02";
+            one(form, &text, a, b, c, out)
+        }
         12 => {
             let text =
-                b"\\v is not inside a body paragraph (e.g. \\c or \\s directly followed by \\v with no \\p)";
-            one(form, text, a, b, c, out)
+                *b"\\v is not inside a body paragraph (e.g. \\c or \\s directly followed by \\v with no \\p)";
+            one(form, &text, a, b, c, out)
         }
         15 => {
-            let text0 = b"chapter number `\x01` has leading zeros";
-            let text1 = b"verse number `\x01` has leading zeros";
-            two(form, text0, text1, a, b, c, out)
+            let text0 = *b"chapter number `\x01` has leading zeros";
+            let text1 = *b"verse number `\x01` has leading zeros";
+            two(form, &text0, &text1, a, b, c, out)
         }
-        18 => one(form, b"\\c is missing its chapter number", a, b, c, out),
-        19 => one(form, b"\\v is missing its verse number", a, b, c, out),
+        _ => more_number_text(code, form, a, b, c, out),
+    }
+}
+
+// The others of them, else those below.
+fn more_number_text(code: u64, form: u64, a: &[u8], b: &[u8], c: &[u8], out: &mut [u8]) -> Laid
+    requires { ⌜ Short (now a) (now b) (now c) ⌝ }
+    ensures { λ r. ⌜ LaidFrom (drop 5 numberTexts ++ markerTexts ++ attributeTexts) code form (now (a .entry)) (now (b .entry)) (now (c .entry)) (now (out .entry)) (now (out .exit)) r ⌝ }
+{
+    match code {
+        18 => {
+            let text = *b"\\c is missing its chapter number";
+            one(form, &text, a, b, c, out)
+        }
+        19 => {
+            let text = *b"\\v is missing its verse number";
+            one(form, &text, a, b, c, out)
+        }
         20 => {
-            let text = b"a character marker spans a verse boundary (\\v inside a \\char span)";
-            one(form, text, a, b, c, out)
+            let text = *b"a character marker spans a verse boundary (\\v inside a \\char span)";
+            one(form, &text, a, b, c, out)
         }
         34 => {
-            let text = b"\\\x01 needs a space before its number; read as \\\x02 \x03";
-            one(form, text, a, b, c, out)
+            let text = *b"\\\x01 needs a space before its number; read as \\\x02 \x03";
+            one(form, &text, a, b, c, out)
         }
         _ => marker_text(code, form, a, b, c, out),
     }
 }
 
-// The codes of markers, else those below.
+// Of the codes of markers the first four, else those below.
 fn marker_text(code: u64, form: u64, a: &[u8], b: &[u8], c: &[u8], out: &mut [u8]) -> Laid
     requires { ⌜ Short (now a) (now b) (now c) ⌝ }
     ensures { λ r. ⌜ LaidFrom (markerTexts ++ attributeTexts) code form (now (a .entry)) (now (b .entry)) (now (c .entry)) (now (out .entry)) (now (out .exit)) r ⌝ }
 {
     match code {
-        13 => one(form, b"\\\x01 is only valid inside a note", a, b, c, out),
+        13 => {
+            let text = *b"\\\x01 is only valid inside a note";
+            one(form, &text, a, b, c, out)
+        }
         14 => {
-            let text = b"\\b (blank line) must not contain content";
-            one(form, text, a, b, c, out)
+            let text = *b"\\b (blank line) must not contain content";
+            one(form, &text, a, b, c, out)
         }
         16 => {
-            let text0 = b"milestone \\\x01-s has no matching \\\x01-e";
-            let text1 = b"milestone \\\x01-e has no matching \\\x01-s";
-            two(form, text0, text1, a, b, c, out)
+            let text0 = *b"milestone \\\x01-s has no matching \\\x01-e";
+            let text1 = *b"milestone \\\x01-e has no matching \\\x01-s";
+            two(form, &text0, &text1, a, b, c, out)
         }
-        21 => one(form, b"\\fig has no caption content", a, b, c, out),
+        21 => {
+            let text = *b"\\fig has no caption content";
+            one(form, &text, a, b, c, out)
+        }
+        _ => more_marker_text(code, form, a, b, c, out),
+    }
+}
+
+// The others of them, else those below.
+fn more_marker_text(code: u64, form: u64, a: &[u8], b: &[u8], c: &[u8], out: &mut [u8]) -> Laid
+    requires { ⌜ Short (now a) (now b) (now c) ⌝ }
+    ensures { λ r. ⌜ LaidFrom (drop 4 markerTexts ++ attributeTexts) code form (now (a .entry)) (now (b .entry)) (now (c .entry)) (now (out .entry)) (now (out .exit)) r ⌝ }
+{
+    match code {
         23 => {
-            let text = b"\\rb is missing its required \"gloss\" attribute";
-            one(form, text, a, b, c, out)
+            let text = *b"\\rb is missing its required \"gloss\" attribute";
+            one(form, &text, a, b, c, out)
         }
         24 => {
-            let text = b"body paragraph \\\x01 appears before any \\c (chapter)";
-            one(form, text, a, b, c, out)
+            let text = *b"body paragraph \\\x01 appears before any \\c (chapter)";
+            one(form, &text, a, b, c, out)
         }
-        25 => one(form, b"\\w has no text content or attributes", a, b, c, out),
+        25 => {
+            let text = *b"\\w has no text content or attributes";
+            one(form, &text, a, b, c, out)
+        }
         27 => {
-            let text = b"expected table column \x01 but found column \x02";
-            one(form, text, a, b, c, out)
+            let text = *b"expected table column \x01 but found column \x02";
+            one(form, &text, a, b, c, out)
         }
         33 => {
             let text =
-                b"\\\x01 must directly follow its \\\x02 (at most once per \x03); it is kept as character text";
-            one(form, text, a, b, c, out)
+                *b"\\\x01 must directly follow its \\\x02 (at most once per \x03); it is kept as character text";
+            one(form, &text, a, b, c, out)
         }
         _ => attribute_text(code, form, a, b, c, out),
     }
@@ -218,16 +287,19 @@ fn attribute_text(code: u64, form: u64, a: &[u8], b: &[u8], c: &[u8], out: &mut 
 {
     match code {
         17 => {
-            let text0 = b"empty attribute list after `|`";
-            let text1 = b"attribute key without a `=\"value\"`";
-            let text2 = b"attribute has an empty value (e.g. `lemma=\"\"`)";
-            let text3 = b"unterminated quoted attribute value";
-            four(form, text0, text1, text2, text3, a, b, c, out)
+            let text0 = *b"empty attribute list after `|`";
+            let text1 = *b"attribute key without a `=\"value\"`";
+            let text2 = *b"attribute has an empty value (e.g. `lemma=\"\"`)";
+            let text3 = *b"unterminated quoted attribute value";
+            four(form, &text0, &text1, &text2, &text3, a, b, c, out)
         }
-        22 => one(form, b"attribute value must be quoted", a, b, c, out),
+        22 => {
+            let text = *b"attribute value must be quoted";
+            one(form, &text, a, b, c, out)
+        }
         32 => {
-            let text = b"\\\x01 has no default attribute; the value after `|` is invalid";
-            one(form, text, a, b, c, out)
+            let text = *b"\\\x01 has no default attribute; the value after `|` is invalid";
+            one(form, &text, a, b, c, out)
         }
         _ => Laid::Lacks,
     }

@@ -1,5 +1,5 @@
 -- The entry's outcome: the first refusal in checking order, else the checked document's numbers and lists.
-use Prim.Native.Nat.{ℕ, zero, suc, _*_, _/_}
+use Prim.Native.Nat.{ℕ, zero, suc}
 use mathlib.Core.Bool.{Bool, true, false}
 use mathlib.Core.List.{List, [], _∷_, _++_}
 use mathlib.Core.Option.{Option, some, none}
@@ -15,14 +15,15 @@ use Rattle.findings.specs.Finding.{Finding}
 use Rattle.findings.specs.Written.{room, overlay}
 use Rattle.numbers.specs.Label.{labelRefusal}
 use Rattle.validate.specs.Document.{findings, versesVisited}
+use Rattle.validate.specs.declared.OpenStart.{OpenStart}
 
--- all that a caller lends: the open starts are two words each
+-- all that a caller lends: "The open starts are a lent list of two-field records: node and base length."
 pub record Lent : Type 0 where
   pub table : List ℕ
   pub source : List ℕ
   pub tape : List ℕ
   pub seen : List ℕ
-  pub openStarts : List ℕ
+  pub openStarts : List OpenStart
   pub list : List ℕ
 
 abbrev pub atPlace : ℕ → Option ℕ → Option Refusal
@@ -50,7 +51,7 @@ of9 l = labelRefusal (l .table) (l .source) (l .tape)
 
 -- 10: "A working list has fewer than n entries; place n."
 abbrev pub shortList : Lent → Bool
-shortList l = either (ltb (length (l .seen)) (count (l .tape))) (ltb (length (l .openStarts) / 2) (count (l .tape)))
+shortList l = either (ltb (length (l .seen)) (count (l .tape))) (ltb (length (l .openStarts)) (count (l .tape)))
 
 abbrev pub of10 : Lent → Option Refusal
 of10 l = onlyIf (shortList l) (refuse 10 (count (l .tape)))
@@ -114,23 +115,27 @@ abbrev pub answer : Lent → Answer
 answer l = answerBy (refusal l) (checkedOf l)
 
 -- what the lent lists hold afterwards: "A refusal writes to no lent list"
-abbrev pub wordsBy : Option Refusal → List ℕ → List ℕ → List ℕ
+abbrev pub wordsBy : {A : Type 0} → Option Refusal → List A → List A → List A
 wordsBy (some r) before after = before
 wordsBy none before after = after
 
 abbrev pub listAfter : Lent → List ℕ
 listAfter l = wordsBy (refusal l) (l .list) (overlay (l .list) 0 (listOf l))
 
-unfoldable pub zeros : ℕ → List ℕ
-zeros zero = []
-zeros (suc n) = 0 ∷ zeros n
+-- so many entries of nothing
+unfoldable pub blanks : {A : Type 0} → A → ℕ → List A
+blanks nothing zero = []
+blanks nothing (suc n) = nothing ∷ blanks nothing n
 
 -- "After a checked document the first n entries of both working lists are zero (n nodes), the rest unchanged."
-abbrev pub cleared : ℕ → List ℕ → List ℕ
-cleared n words = zeros n ++ drop n words
+abbrev pub cleared : {A : Type 0} → A → ℕ → List A → List A
+cleared nothing n entries = blanks nothing n ++ drop n entries
 
 abbrev pub seenAfter : Lent → List ℕ
-seenAfter l = wordsBy (refusal l) (l .seen) (cleared (count (l .tape)) (l .seen))
+seenAfter l = wordsBy (refusal l) (l .seen) (cleared 0 (count (l .tape)) (l .seen))
 
-abbrev pub openAfter : Lent → List ℕ
-openAfter l = wordsBy (refusal l) (l .openStarts) (cleared (2 * count (l .tape)) (l .openStarts))
+abbrev pub noStart : OpenStart
+noStart = record { node = 0; «base_len» = 0 }
+
+abbrev pub openAfter : Lent → List OpenStart
+openAfter l = wordsBy (refusal l) (l .openStarts) (cleared noStart (count (l .tape)) (l .openStarts))

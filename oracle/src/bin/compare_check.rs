@@ -11,7 +11,7 @@ use oracle::arguments::numbers;
 use oracle::document::{Document, kind};
 use oracle::exhaustive::{every_nesting, every_tape};
 use oracle::faults;
-use oracle::generate::{self, generate};
+use oracle::generate::{generate, lengths};
 use oracle::judge::overflow_is_noticed;
 use oracle::refusals::DEEPEST;
 use oracle::samples::{self, Sketch, entry};
@@ -23,12 +23,6 @@ const SMALL_STACK: usize = 256 * 1024;
 const NODES: usize = 3;
 /// So many generated documents reach every form and every refusal.
 const REACHES_ALL: u64 = 200_000;
-
-/// Elements of the two working lists: entries of one word, and of two, with a word that is no entry now and then.
-fn lengths(seed: u64, n: usize) -> (usize, usize) {
-    let (seen, opens) = generate::lengths(seed, n);
-    (seen, 2 * opens + (seed % 2) as usize)
-}
 
 fn compare(comparison: &mut Comparison, document: &Document, seed: u64) -> Result<(), String> {
     let lengths = lengths(seed, document.node_count());

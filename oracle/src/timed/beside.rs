@@ -3,7 +3,7 @@
 use std::hint::black_box;
 use std::time::{Duration, Instant};
 
-use harkoxin::raw::{self, CHECK_WORDS, DONE, FINDING_WORDS};
+use harkoxin::raw::{self, CHECK_WORDS, DONE, FINDING_WORDS, OpenStart};
 use harkoxin::{Checker, Table, Tape};
 
 use super::{Published, Watch, with_published};
@@ -63,7 +63,7 @@ pub struct Measured {
 /// The lists that are lent to the check and kept from one document to the next.
 struct Lists {
     seen: Vec<u32>,
-    opens: Vec<u64>,
+    opens: Vec<OpenStart>,
     list: Vec<u64>,
     checker: Checker,
 }
@@ -74,9 +74,13 @@ impl Lists {
     fn new(documents: &[Document], findings: u64) -> Lists {
         let counts = documents.iter().map(Document::node_count);
         let n = counts.max().unwrap_or(0);
+        let open = OpenStart {
+            node: 1,
+            base_len: 1,
+        };
         Lists {
             seen: vec![1; n],
-            opens: vec![1; 2 * n],
+            opens: vec![open; n],
             list: vec![1; FINDING_WORDS * findings as usize],
             checker: Checker::new(),
         }

@@ -1,6 +1,6 @@
 //! Every list that is lent, each in a slot of its own.
 
-use harkoxin::raw::{self, Asked};
+use harkoxin::raw::{self, Asked, OpenStart};
 
 use crate::document::Document;
 use crate::lent::Slot;
@@ -12,7 +12,7 @@ pub struct Slots {
     pub source: Slot<u8>,
     pub tape: Slot<u8>,
     pub seen: Slot<u32>,
-    pub opens: Slot<u64>,
+    pub opens: Slot<OpenStart>,
     pub list: Slot<u64>,
     pub ends: Slot<u64>,
     pub text: Slot<u8>,

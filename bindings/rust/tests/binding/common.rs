@@ -3,7 +3,7 @@
 use std::fs;
 use std::path::{Path, PathBuf};
 
-use harkoxin::raw::{self, Asked};
+use harkoxin::raw::{self, Asked, OpenStart};
 use harkoxin::{Node, NodeKind, Refusal, Report, Table, Tape, check_bytes};
 
 pub const TABLE: &str = "name=id\ncategory=identification\nrole=excluded\n\
@@ -110,7 +110,7 @@ impl Document {
 #[derive(Clone, PartialEq, Debug)]
 pub struct Lists {
     pub seen: Vec<u32>,
-    pub opens: Vec<u64>,
+    pub opens: Vec<OpenStart>,
     pub list: Vec<u64>,
     pub out: Vec<u64>,
 }

@@ -1,6 +1,6 @@
-//! Bytes that are no document, and documents with bytes changed: an answer each time, and no word beyond it.
+//! Bytes that are no document, and documents with bytes changed: an answer each time, and nothing written beyond it.
 
-use harkoxin::raw::{self, DONE, FINDING_WORDS, REFUSED};
+use harkoxin::raw::{self, DONE, FINDING_WORDS, OpenStart, REFUSED};
 use harkoxin::{Checker, Code};
 
 use crate::common::{Document, Lists, Numbers};
@@ -38,15 +38,19 @@ fn damage(numbers: &mut Numbers, document: &mut Document) {
 fn filled(numbers: &mut Numbers, nodes: usize) -> Lists {
     let room = numbers.below(400);
     let mut words = |len: usize| (0..len).map(|_| numbers.word()).collect::<Vec<u64>>();
+    let open = |&word: &u64| OpenStart {
+        node: (word >> 32) as u32,
+        base_len: word as u32,
+    };
     Lists {
         seen: words(nodes + MARGIN).iter().map(|&w| w as u32).collect(),
-        opens: words(2 * nodes + MARGIN),
+        opens: words(nodes + MARGIN).iter().map(open).collect(),
         list: words(room),
         out: words(raw::CHECK_WORDS + MARGIN),
     }
 }
 
-/// Looks at every word after a check; whether it was refused.
+/// Looks at every element after a check; whether it was refused.
 fn look(document: &Document, numbers: &mut Numbers) -> bool {
     let n = document.node_count();
     let mut lent = filled(numbers, n);
@@ -72,7 +76,7 @@ fn look(document: &Document, numbers: &mut Numbers) -> bool {
         assert_eq!(written, total.min(lent.list.len() as u64 / 8));
         let words = FINDING_WORDS * written as usize;
         expected.seen[..n].fill(0);
-        expected.opens[..2 * n].fill(0);
+        expected.opens[..n].fill(OpenStart::default());
         expected.list[..words].copy_from_slice(&lent.list[..words]);
         let cut = u64::from(written < total);
         [cut, 0, 0, total, written, verses, errors, warnings, infos]

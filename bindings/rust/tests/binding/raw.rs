@@ -1,12 +1,18 @@
-//! The functions over plain slices: every word that they leave alone, and lists of any length.
+//! The functions over plain slices: every element that they leave alone, and lists of any length.
 
 use harkoxin::Code;
-use harkoxin::raw::{self, Asked, CUT, DONE, FINDING_WORDS, REFUSED};
+use harkoxin::raw::{self, Asked, CUT, DONE, FINDING_WORDS, OpenStart, REFUSED};
 
 use crate::common::{Document, Lists, example_names};
 
 /// A word that no answer holds.
 const ANY: u64 = 0xA5A5_A5A5_A5A5_A5A5;
+
+/// A record that no check leaves.
+const OPEN: OpenStart = OpenStart {
+    node: 7,
+    base_len: 5,
+};
 
 /// The one finding of the listing's document, whose text has 28 bytes.
 const FINDING: [u64; FINDING_WORDS] = [1, 11, 16, 5, 6, 0, 1, 0];
@@ -15,7 +21,7 @@ const FINDING: [u64; FINDING_WORDS] = [1, 11, 16, 5, 6, 0, 1, 0];
 fn lists(seen: usize, opens: usize, list: usize, out: usize) -> Lists {
     Lists {
         seen: vec![7; seen],
-        opens: vec![7; opens],
+        opens: vec![OPEN; opens],
         list: vec![ANY; list],
         out: vec![ANY; out],
     }
@@ -24,7 +30,7 @@ fn lists(seen: usize, opens: usize, list: usize, out: usize) -> Lists {
 /// The findings of a document, as words.
 fn findings(document: &Document) -> Vec<u64> {
     let n = document.node_count();
-    let mut lent = lists(n, 2 * n, 20_000, raw::CHECK_WORDS);
+    let mut lent = lists(n, n, 20_000, raw::CHECK_WORDS);
     document.raw_check(&mut lent);
     assert_eq!(lent.out[0], DONE);
     lent.list.truncate(FINDING_WORDS * lent.out[4] as usize);
@@ -50,7 +56,7 @@ fn a_list_is_cut_where_it_ends() {
     let n = document.node_count();
     let whole = findings(&document);
     for room in [0, 7, 8, 100, 239, 240, 250] {
-        let mut lent = lists(n + 3, 2 * n + 3, room, raw::CHECK_WORDS + 2);
+        let mut lent = lists(n + 3, n + 3, room, raw::CHECK_WORDS + 2);
         document.raw_check(&mut lent);
         let written = (room / 8).min(30);
         let verdict = if written < 30 { CUT } else { DONE };
@@ -60,21 +66,22 @@ fn a_list_is_cut_where_it_ends() {
         assert_eq!(held, &whole[..8 * written]);
         assert!(rest.iter().all(|&word| word == ANY));
         assert_eq!(lent.seen, [vec![0; n], vec![7; 3]].concat());
-        assert_eq!(lent.opens, [vec![0; 2 * n], vec![7; 3]].concat());
+        let cleared = vec![OpenStart::default(); n];
+        assert_eq!(lent.opens, [cleared, vec![OPEN; 3]].concat());
     }
 }
 
 #[test]
 fn working_lists_that_are_too_short() {
     let document = Document::listing();
-    for (seen, opens) in [(8, 18), (9, 17), (0, 0)] {
+    for (seen, opens) in [(8, 9), (9, 8), (9, 0), (0, 9), (0, 0)] {
         let mut lent = lists(seen, opens, 8, raw::CHECK_WORDS);
         let mut expected = lent.clone();
         expected.out = vec![REFUSED, 10, 9, 0, 0, 0, 0, 0, 0];
         document.raw_check(&mut lent);
         assert_eq!(lent, expected);
     }
-    let mut lent = lists(9, 18, 8, raw::CHECK_WORDS);
+    let mut lent = lists(9, 9, 8, raw::CHECK_WORDS);
     document.raw_check(&mut lent);
     assert_eq!((lent.out[0], lent.list), (DONE, FINDING.to_vec()));
 }
@@ -84,7 +91,7 @@ fn answers_are_laid_as_far_as_there_is_room() {
     let document = Document::listing();
     let whole = [DONE, 0, 0, 1, 1, 1, 0, 1, 0];
     for room in 0..=raw::CHECK_WORDS {
-        let mut lent = lists(9, 18, 8, room);
+        let mut lent = lists(9, 9, 8, room);
         document.raw_check(&mut lent);
         assert_eq!(lent.out, whole[..room]);
         assert_eq!(lent.list, FINDING);

@@ -11,13 +11,13 @@ use Rattle.closing.proofs.clear_seen.Statement.{statement}
 use Rattle.closing.proofs.clear_seen.Tie as tie
 
 abbrev Inv-loop : tie.InvT-loop
-Inv-loop seen₀ n i₀ seen i = (i ≤ n) × (seen ≡ cleared i seen₀) × (length seen ≡ length seen₀)
+Inv-loop seen₀ n i₀ seen i = (i ≤ n) × (seen ≡ cleared 0 i seen₀) × (length seen ≡ length seen₀)
 
 abbrev μ-loop : tie.MeasureT-loop
 μ-loop seen₀ n i₀ seen i = n - i
 
 loop-holds : tie.Need-loop-holds Inv-loop μ-loop
-loop-holds c = (omega arith, cleared-none _, refl)
+loop-holds c = (omega arith, cleared-none 0 _, refl)
 
 mul-seen : tie.Need-mul-seen Inv-loop μ-loop
 mul-seen c = search needs
@@ -35,13 +35,13 @@ loop-again : tie.Need-loop-again Inv-loop μ-loop
 loop-again c =
     let v = c .before .loop .inv in
     let p = c .before .before .pre in
-    (omega (arith, c .loop-test .taken), cleared-more _ _ _ (v .1) (omega (arith, p, c .loop-test .taken)), length-set (c .before .loop .seen) (c .before .loop .i) 0 ∙ v .2)
+    (omega (arith, c .loop-test .taken), cleared-more 0 _ _ _ (v .1) (omega (arith, p, c .loop-test .taken)), length-set (c .before .loop .seen) (c .before .loop .i) 0 ∙ v .2)
 
 same-length : tie.Need-same-length Inv-loop μ-loop
 same-length c = c .before .loop .inv .2
 
 returns : tie.Need-returns Inv-loop μ-loop
-returns c = let v = c .before .loop .inv in cleared-all _ _ _ _ (v .1) (v .0) (c .loop-test .left)
+returns c = let v = c .before .loop .inv in cleared-all 0 _ _ _ _ (v .1) (v .0) (c .loop-test .left)
 
 pub clear-seen-spec : {M : Type 1} → statement M
 clear-seen-spec =

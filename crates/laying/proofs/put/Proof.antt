@@ -4,24 +4,21 @@ use borrow.Author.Needs.{needs}
 use Prim.Native.Nat.{_-_}
 use native.Mathlib.Omega.{arith}
 use mathlib.Core.Path.{refl}
-use mathlib.Core.Logic.{⊎-elim}
-use borrow.Author.Tests.{ltb-true, ltb-false}
-use lib.ListN.{length}
-use Rattle.laying.proofs.Laying.{Laying, laying-start, laying-on, laying-full, laying-end}
+use Rattle.laying.proofs.Laying.{Laying, laying-start, laying-on, laying-done}
 use Rattle.laying.proofs.put.Statement.{statement}
 use Rattle.laying.proofs.put.Tie as tie
 
 abbrev Inv-loop : tie.InvT-loop
-Inv-loop out₀ at s i₀ out i = Laying s out₀ at out i
+Inv-loop out₀ at s n i₀ out i = Laying s out₀ at out i
 
 abbrev μ-loop : tie.MeasureT-loop
-μ-loop out₀ at s i₀ out i = length s - i
+μ-loop out₀ at s n i₀ out i = n - i
+
+fitting-requires : tie.Need-fitting-requires Inv-loop μ-loop
+fitting-requires c κs = search needs
 
 loop-holds : tie.Need-loop-holds Inv-loop μ-loop
 loop-holds c = laying-start _ _ _
-
-add-if1 : tie.Need-add-if1 Inv-loop μ-loop
-add-if1 c = search needs
 
 shared-slice-read-out : tie.Need-shared-slice-read-out Inv-loop μ-loop
 shared-slice-read-out c = search needs
@@ -39,7 +36,7 @@ loop-less : tie.Need-loop-less Inv-loop μ-loop
 loop-less c = search needs
 
 loop-again : tie.Need-loop-again Inv-loop μ-loop
-loop-again c = let v = c .before .before .before .loop .inv in laying-on _ _ _ _ _ v (c .before .before .loop-test .taken) (ltb-true _ _ (c .before .if1 .taken))
+loop-again c = laying-on _ _ _ _ _ (c .before .before .loop .inv) (omega arith) (omega arith)
 
 add-result : tie.Need-add-result Inv-loop μ-loop
 add-result c = search needs
@@ -48,12 +45,7 @@ same-length : tie.Need-same-length Inv-loop μ-loop
 same-length c = c .before .loop .inv .same
 
 returns : tie.Need-returns Inv-loop μ-loop
-returns c =
-    let v = c .before .loop .inv in
-    record {
-      list = ⊎-elim (λ w. laying-full _ _ _ _ _ v (ltb-false _ _ (w .1 .left))) (λ w. laying-end _ _ _ _ _ v (omega arith)) (c .loop-test .came);
-      end = refl;
-    }
+returns c = record { list = laying-done _ _ _ _ _ (c .before .loop .inv) (omega arith); end = refl }
 
 pub put-spec : {M : Type 1} → statement M
 put-spec =
@@ -61,8 +53,8 @@ put-spec =
     (tie.spec
     Inv-loop
     μ-loop
+    fitting-requires
     loop-holds
-    add-if1
     shared-slice-read-out
     add-out
     slice-write-out

@@ -1,25 +1,38 @@
 -- `milestones::has_base` meets its contract.
 -- Assumes nothing.
-use mathlib.Core.Path.{_∙_}
+use mathlib.Core.Path.{_≡_, sym, ap, _∙_}
+use Prim.Native.Nat.{ℕ, _+_, _-_}
+use native.Mathlib.Omega.{arith}
+use lib.ListN.{length, take, drop}
 use denote.Ref.{now}
-use Rattle.milestones.proofs.Endings.{apart, own-inside, own-measure, own-base}
+use Rattle.milestones.proofs.Endings.{part-long, apart, own-inside, own-measure, own-base}
 use borrow.Author.Needs.{needs}
 use Rattle.milestones.proofs.has_base.Statement.{statement}
 use Rattle.milestones.proofs.has_base.Tie as tie
 
+cast-n : tie.Need-cast-n
+cast-n c = search needs
+
 returns : tie.Need-returns
 returns c =
-    let a = c .before .before .before .before .args in
-    apart (now (a .source)) (now (a .tape)) (a .node) (a .len) (c .before .before .before .before .pre) (now (a .base)) (c .if1 .taken)
+    let b = c .before .before .before .before in
+    let a = b .args in
+    apart (now (a .source)) (now (a .tape)) (a .o .node) (a .o .«base_len») (b .pre .0) (take (a .len) (drop (a .at) (now (a .source)))) (λ e. c .if1 .taken (e ∙ part-long (now (a .source)) (a .at) (a .len) (b .pre .1)))
+
+cast-text : tie.Need-cast-text
+cast-text c = search needs
 
 text-requires : tie.Need-text-requires
-text-requires c κs = search needs
+text-requires c κs = c .before .before .before .before .before .pre .0 .spanned
 
 name-start-requires : tie.Need-name-start-requires
 name-start-requires c κs = search needs
 
 add-end : tie.Need-add-end
 add-end c = search needs
+
+add-to : tie.Need-add-to
+add-to c = search needs
 
 sub-same-base : tie.Need-sub-same-base
 sub-same-base c = search needs
@@ -29,32 +42,52 @@ part-same-base-start c = search needs
 
 part-same-base-end : tie.Need-part-same-base-end
 part-same-base-end c =
-    let d = c .before .before .before .before .before .before in
+    let d = c .before .before .before .before .before .before .before in
     let a = d .args in
-    own-inside (now (a .source)) (now (a .tape)) (a .node) (a .len) (d .pre) (now (c .before .text .result)) (c .before .text .ensures) (c .name-start .result) (c .name-start .ensures)
+    own-inside (now (a .source)) (now (a .tape)) (a .o .node) (a .o .«base_len») (d .pre .0) (now (c .before .text .result)) (c .before .text .ensures) (c .name-start .result) (c .name-start .ensures)
+
+sub-same-base-2 : tie.Need-sub-same-base-2
+sub-same-base-2 c = search needs
+
+part-same-base-start-2 : tie.Need-part-same-base-start-2
+part-same-base-start-2 c = search needs
+
+part-same-base-end-2 : tie.Need-part-same-base-end-2
+part-same-base-end-2 c = c .before .before .before .before .before .before .before .before .pre .1
 
 same-base-requires : tie.Need-same-base-requires
 same-base-requires c κs =
-    let d = c .before .before .before .before .before .before .before in
+    let n = c .before .before in
+    let d = n .before .before .before .before .before .before .before in
     let a = d .args in
-    own-measure (now (a .source)) (now (a .tape)) (a .node) (a .len) (d .pre) (now (c .before .before .text .result)) (c .before .before .text .ensures) (c .before .name-start .result) (c .before .name-start .ensures) ∙ c .before .before .before .if1 .left
+    let l : a .at + a .len - a .at ≡ a .len = omega arith in
+    own-measure (now (a .source)) (now (a .tape)) (a .o .node) (a .o .«base_len») (d .pre .0) (now (n .before .text .result)) (n .before .text .ensures) (n .name-start .result) (n .name-start .ensures)
+    ∙ n .before .before .before .if1 .left ∙ sym (ap (λ (k : ℕ). length (take k (drop (a .at) (now (a .source))))) l ∙ part-long (now (a .source)) (a .at) (a .len) (d .pre .1))
 
 returns-2 : tie.Need-returns-2
 returns-2 c =
-    let d = c .before .before .before .before .before .before .before .before in
+    let n = c .before .before .before in
+    let d = n .before .before .before .before .before .before .before in
     let a = d .args in
-    own-base (now (a .source)) (now (a .tape)) (a .node) (a .len) (d .pre) (now (c .before .before .before .text .result)) (c .before .before .before .text .ensures) (c .before .before .name-start .result) (c .before .before .name-start .ensures) (now (a .base)) (c .same-base .result) (c .same-base .ensures)
+    let l : a .at + a .len - a .at ≡ a .len = omega arith in
+    own-base (now (a .source)) (now (a .tape)) (a .o .node) (a .o .«base_len») (d .pre .0) (now (n .before .text .result)) (n .before .text .ensures) (n .name-start .result) (n .name-start .ensures) (take (a .len) (drop (a .at) (now (a .source)))) (c .same-base .result) (rw l at (c .same-base .ensures))
 
 pub has-base-spec : {M : Type 1} → statement M
 has-base-spec =
     tie.close
     (tie.spec
+    cast-n
     returns
+    cast-text
     text-requires
     name-start-requires
     add-end
+    add-to
     sub-same-base
     part-same-base-start
     part-same-base-end
+    sub-same-base-2
+    part-same-base-start-2
+    part-same-base-end-2
     same-base-requires
     returns-2)

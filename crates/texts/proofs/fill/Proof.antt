@@ -3,9 +3,10 @@
 use borrow.Author.Needs.{needs}
 use Prim.Native.Nat.{_-_}
 use native.Mathlib.Omega.{arith}
+use mathlib.Core.Path.{_∙_}
 use lib.ListN.{length}
 use Rattle.texts.specs.Inner.{values}
-use Rattle.texts.proofs.Filling.{Filling, filling-start, filling-on, filling-end}
+use Rattle.texts.proofs.Filling.{Filling, filling-start, filling-run, filling-on, filling-end}
 use Rattle.texts.proofs.fill.Statement.{statement}
 use Rattle.texts.proofs.fill.Tie as tie
 
@@ -17,6 +18,30 @@ abbrev μ-loop : tie.MeasureT-loop
 
 loop-holds : tie.Need-loop-holds Inv-loop μ-loop
 loop-holds c = filling-start _ _ _
+
+plain-end-requires : tie.Need-plain-end-requires Inv-loop μ-loop
+plain-end-requires c κs = search needs
+
+sub-put : tie.Need-sub-put Inv-loop μ-loop
+sub-put c = search needs
+
+part-put-start : tie.Need-part-put-start Inv-loop μ-loop
+part-put-start c = search needs
+
+part-put-end : tie.Need-part-put-end Inv-loop μ-loop
+part-put-end c = search needs
+
+put-requires : tie.Need-put-requires Inv-loop μ-loop
+put-requires c κs = search needs
+
+same-length : tie.Need-same-length Inv-loop μ-loop
+same-length c = c .before .before .before .put .kept .0 ∙ c .before .before .before .before .before .before .before .before .loop .inv .same
+
+returns : tie.Need-returns Inv-loop μ-loop
+returns c =
+    let p = c .before .before .before .put in
+    let v = filling-run _ _ _ _ _ _ _ _ (c .before .before .before .before .before .before .before .before .loop .inv) _ _ (p .kept .0) _ (c .before .before .before .before .before .before .plain-end .ensures) (p .ensures) in
+    filling-end _ _ _ _ _ _ _ _ v (omega arith)
 
 shared-slice-read-put-value : tie.Need-shared-slice-read-put-value Inv-loop μ-loop
 shared-slice-read-put-value c = search needs
@@ -32,16 +57,17 @@ loop-less c = search needs
 
 loop-again : tie.Need-loop-again Inv-loop μ-loop
 loop-again c =
-    let v = c .before .before .before .before .before .before .loop .inv in
-    let p = c .before .before .put-value in
-    let short = c .before .before .before .before .before .before .before .before .before .before .before .before .pre .1 in
-    filling-on _ _ _ _ _ _ _ _ v (c .before .before .before .before .before .loop-test .taken) short _ _ (p .ensures) (p .kept .1 .1 .1 .1 .0)
+    let p = c .before .before .before .before .before .before .before .before .put in
+    let e = c .before .before .before .before .before .before .before .before .before .before .before .plain-end .ensures in
+    let v = filling-run _ _ _ _ _ _ _ _ (c .before .before .before .before .before .before .before .before .before .before .before .before .before .loop .inv) _ _ (p .kept .0) _ e (p .ensures) in
+    let w = c .before .before .put-value in
+    filling-on _ _ _ _ _ _ _ _ v _ _ (w .kept .1 .1 .1 .1 .0) (omega (arith, e .inside)) (c .before .before .before .before .before .before .before .before .before .before .before .before .before .before .before .before .before .before .before .pre .1) (w .ensures)
 
-same-length : tie.Need-same-length Inv-loop μ-loop
-same-length c = c .before .loop .inv .same
+same-length-2 : tie.Need-same-length-2 Inv-loop μ-loop
+same-length-2 c = c .before .loop .inv .same
 
-returns : tie.Need-returns Inv-loop μ-loop
-returns c = filling-end _ _ _ _ _ _ _ _ (c .before .loop .inv) (omega arith)
+returns-2 : tie.Need-returns-2 Inv-loop μ-loop
+returns-2 c = filling-end _ _ _ _ _ _ _ _ (c .before .loop .inv) (omega arith)
 
 pub fill-spec : {M : Type 1} → statement M
 fill-spec =
@@ -50,10 +76,17 @@ fill-spec =
     Inv-loop
     μ-loop
     loop-holds
+    plain-end-requires
+    sub-put
+    part-put-start
+    part-put-end
+    put-requires
+    same-length
+    returns
     shared-slice-read-put-value
     put-value-requires
     add-i
     loop-less
     loop-again
-    same-length
-    returns)
+    same-length-2
+    returns-2)

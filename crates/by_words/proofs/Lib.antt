@@ -1,0 +1,9 @@
+pub mod Numbers
+pub mod Literals
+pub mod CallRecords
+pub mod CallRecordAt
+pub mod CallPutRecord
+pub mod CallReadRecords
+pub mod CallWriteRecords
+pub mod CallCheckWith
+pub mod CallCheck

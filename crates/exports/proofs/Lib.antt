@@ -1,0 +1,2 @@
+pub mod CallCheck
+pub mod CallLayAnswer

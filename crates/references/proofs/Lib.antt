@@ -1,0 +1,4 @@
+pub mod Flow
+pub mod Hand
+pub mod Sizes
+pub mod Arrays
