@@ -31,6 +31,14 @@ pub(crate) struct Texts {
     ends: Vec<usize>,
 }
 
+/// The texts that end at these places as one string, if each of them is one.
+fn whole<'a>(bytes: &'a [u8], ends: &[u64]) -> Option<&'a str> {
+    let used = *ends.last()? as usize;
+    let text = std::str::from_utf8(bytes.get(..used)?).ok()?;
+    let are_texts = ends.is_sorted() && ends.iter().all(|&end| text.is_char_boundary(end as usize));
+    are_texts.then_some(text)
+}
+
 impl Texts {
     pub(crate) fn len(&self) -> usize {
         self.ends.len()
@@ -44,18 +52,22 @@ impl Texts {
         self.text.get(start..*self.ends.get(k)?)
     }
 
-    /// Every text of the library is UTF-8. One that were not would show replacement characters.
-    fn push(&mut self, bytes: &[u8]) {
-        self.text.push_str(&String::from_utf8_lossy(bytes));
-        self.ends.push(self.text.len());
-    }
-
-    /// Adds the texts that end at these places of the bytes.
+    /// Adds the texts that end at these places of the bytes. Every text of the library is UTF-8; one that were not would show
+    /// replacement characters.
     fn extend(&mut self, bytes: &[u8], ends: &[u64]) {
         self.ends.reserve(ends.len());
+        let before = self.text.len();
+        if let Some(text) = whole(bytes, ends) {
+            self.text.push_str(text);
+            self.ends
+                .extend(ends.iter().map(|&end| before + end as usize));
+            return;
+        }
         let mut start = 0;
         for end in ends.iter().map(|&end| end as usize) {
-            self.push(bytes.get(start..end).unwrap_or_default());
+            let text = bytes.get(start..end).unwrap_or_default();
+            self.text.push_str(&String::from_utf8_lossy(text));
+            self.ends.push(self.text.len());
             start = end;
         }
     }
@@ -196,6 +208,16 @@ mod tests {
     fn bytes_that_are_no_utf8_are_replaced() {
         let (told, _) = gathered(&[b"caf\xE9", "é".as_bytes()], 100);
         assert_eq!(told, ["caf\u{FFFD}", "é"]);
+    }
+
+    #[test]
+    fn ends_inside_a_character_or_out_of_order_are_no_whole() {
+        assert_eq!(whole(b"ab\xC3\xA9", &[1, 4]), Some("ab\u{E9}"));
+        assert_eq!(whole(b"ab\xC3\xA9", &[3, 4]), None);
+        assert_eq!(whole(b"abcd", &[3, 2, 4]), None);
+        assert_eq!(whole(b"abcd", &[5]), None);
+        let (told, _) = gathered(&[b"\xC3", b"\xA9"], 100);
+        assert_eq!(told, ["\u{FFFD}", "\u{FFFD}"]);
     }
 
     #[test]
