@@ -1,14 +1,18 @@
--- A bitwise or is 0 only if its parts are. Eight bytes whose highest bits are 0. A run of ASCII, made longer.
+-- A bitwise or is 0 only if its parts are. Eight bytes by their highest bits. A run of ASCII, made longer.
 -- Assumes nothing.
-use mathlib.Core.Path.{_≡_, _∙_, sym, subst, ap}
+use mathlib.Core.Path.{_≡_, refl, _∙_, sym, subst, ap}
 use mathlib.Core.List.{List}
-use Prim.Native.Nat.{ℕ, _+_, _*_, _-_, _≤_, _<_, _/_, _%_, _^_}
+use Prim.Native.Nat.{ℕ, zero, suc, _+_, _*_, _-_, _≤_, _<_, _/_, _%_, _^_}
 use native.Mathlib.Decide.{decLt}
+use native.Mathlib.Numerals.{add-one}
 use native.Mathlib.Omega.{arith}
-use native.Mathlib.Nat.{mod-eq-of-lt}
+use native.Mathlib.Nat.{add-zero, add-assoc, mod-eq-of-lt, pow-suc}
+use lib.Arith.{digits-div, digits-mod, mod-mul}
 use lib.Bits.{bitAnd, bitOr, or-add-and, and-le-l, and-le-r, and-block, and-high}
+use lib.Count.{trailingZeros, under, trailing-le}
 use lib.ListN.{getD}
-use Rattle.text.specs.Scans.{Ascii, fourBytes}
+use lib.Pow.{pow-add, pow-pos}
+use Rattle.text.specs.Scans.{Ascii, eightBytes, High}
 
 pub or-zero : (a b : ℕ) → bitOr a b ≡ 0 → (a ≡ 0) × (b ≡ 0)
 or-zero a b h = (omega (arith, h, or-add-and a b, and-le-r a b), omega (arith, h, or-add-and a b, and-le-l a b))
@@ -20,12 +24,6 @@ low-bit r h z =
     let e : r / 128 % 2 ≡ 0 = omega (arith, z, l) in
     let e = sym (mod-eq-of-lt q) ∙ e in
     omega (arith, e)
-
--- the lowest of some bytes, and the rest
-low-byte : (a b r : ℕ) → r < 256 → bitAnd (a * 256 + r) (b * 256 + 128) ≡ 0 → (bitAnd a b ≡ 0) × (r < 128)
-low-byte a b r h z =
-    let e = sym (and-block 8 a b r 128 h (omega arith)) ∙ z in
-    (omega (arith, e), low-bit r h (omega (arith, e)))
 
 pub none : (s : List ℕ) (from : ℕ) → Ascii s from from
 none s from k g l = absurd (omega arith)
@@ -40,36 +38,69 @@ joined s from i to low next k g l = go (decLt k i)
 pub one : (s : List ℕ) (i to : ℕ) → to ≤ i + 1 → getD s i 0 < 0x80 → Ascii s i to
 one s i to e h k g l = let same : i ≡ k = omega arith in subst (λ (j : ℕ). getD s j 0 < 0x80) same h
 
-two : (s : List ℕ) (i j to : ℕ) → i + 1 ≡ j → to ≤ j + 1 → getD s i 0 < 0x80 → getD s j 0 < 0x80 → Ascii s i to
-two s i j to e f h g = joined s i j to (one s i j (omega arith) h) (one s j to f g)
+-- n bytes of f from k on as a number, the first the lowest, and the mask of their highest bits
+unfoldable bytes : (ℕ → ℕ) → ℕ → ℕ → ℕ
+bytes f k zero = 0
+bytes f k (suc n) = bytes f (suc k) n * 256 + f k
 
--- eight bytes whose highest bits are 0
-pub low-8 : (s : List ℕ) (at x y : ℕ) → ((k : ℕ) → getD s k 0 < 256) → x ≡ fourBytes s at → y ≡ fourBytes s (at + 4) → bitAnd (x + 4294967296 * y) 0x8080808080808080 ≡ 0 → Ascii s at (at + 8)
-low-8 s at x y low l u z =
-    let a = getD s at 0 in
-    let b = getD s (at + 1) 0 in
-    let c = getD s (at + 2) 0 in
-    let d = getD s (at + 3) 0 in
-    let e = getD s (at + 4) 0 in
-    let f = getD s (at + 4 + 1) 0 in
-    let g = getD s (at + 4 + 2) 0 in
-    let h = getD s (at + 4 + 3) 0 in
-    let w7 = h * 256 + g in
-    let w6 = w7 * 256 + f in
-    let w5 = w6 * 256 + e in
-    let w4 = w5 * 256 + d in
-    let w3 = w4 * 256 + c in
-    let w2 = w3 * 256 + b in
-    let same : x + 4294967296 * y ≡ w2 * 256 + a = omega (arith, l, u) in
-    let ra = low-byte w2 0x80808080808080 a (low at) (subst (λ (n : ℕ). bitAnd n 0x8080808080808080 ≡ 0) same z) in
-    let rb = low-byte w3 0x808080808080 b (low (at + 1)) (ra .0) in
-    let rc = low-byte w4 0x8080808080 c (low (at + 2)) (rb .0) in
-    let rd = low-byte w5 0x80808080 d (low (at + 3)) (rc .0) in
-    let re = low-byte w6 0x808080 e (low (at + 4)) (rd .0) in
-    let rf = low-byte w7 0x8080 f (low (at + 4 + 1)) (re .0) in
-    let rg = low-byte h 0x80 g (low (at + 4 + 2)) (rf .0) in
-    let rh = low-bit h (low (at + 4 + 3)) (rg .0) in
-    let l2 = two s at (at + 1) (at + 2) (omega arith) (omega arith) (ra .1) (rb .1) in
-    let l4 = joined s at (at + 2) (at + 4) l2 (two s (at + 2) (at + 3) (at + 4) (omega arith) (omega arith) (rc .1) (rd .1)) in
-    let l6 = joined s at (at + 4) (at + 4 + 2) l4 (two s (at + 4) (at + 4 + 1) (at + 4 + 2) (omega arith) (omega arith) (re .1) (rf .1)) in
-    joined s at (at + 4 + 2) (at + 8) l6 (two s (at + 4 + 2) (at + 4 + 3) (at + 8) (omega arith) (omega arith) (rg .1) rh)
+unfoldable mask : ℕ → ℕ
+mask zero = 0
+mask (suc n) = mask n * 256 + 128
+
+-- a number whose lowest j + 1 bytes are 0 has a lowest byte of 0, and j more behind it
+low-byte : (a r j : ℕ) → r < 256 → (a * 256 + r) % 2 ^ (8 * suc j) ≡ 0 → (a % 2 ^ (8 * j) ≡ 0) × (r ≡ 0)
+low-byte a r j h z =
+    let p : 8 * suc j ≡ 8 * j + 8 = omega arith in
+    let e : (a * 256 + r) % (2 ^ (8 * j) * 256) ≡ 0 = rw (p, pow-add) at z in
+    let m = mod-mul (a * 256 + r) {m = 2 ^ (8 * j)} {c = 256} (pow-pos (8 * j)) (omega arith) in
+    let q : (a * 256 + r) / 256 ≡ a = digits-div a h in
+    let d : (a * 256 + r) % 256 ≡ r = digits-mod a h in
+    let l : (a * 256 + r) / 256 % 2 ^ (8 * j) ≡ 0 = omega (arith, e, m) in
+    (rw q at l, omega (arith, e, m, d))
+
+lows : (f : ℕ → ℕ) → ((i : ℕ) → f i < 256) → (n k j : ℕ) → j ≤ n → bitAnd (bytes f k n) (mask n) % 2 ^ (8 * j) ≡ 0 → (i : ℕ) → i < j → f (k + i) < 128
+unfolding bytes mask
+lows f low n k zero le z i h = absurd (omega arith)
+lows f low zero k (suc j) le z i h = absurd (omega arith)
+lows f low (suc n) k (suc j) le z i h =
+    let b : bitAnd (f k) 128 < 256 = omega (arith, and-le-r (f k) 128) in
+    let e = low-byte (bitAnd (bytes f (suc k) n) (mask n)) (bitAnd (f k) 128) j b (subst (λ (m : ℕ). m % 2 ^ (8 * suc j) ≡ 0) (and-block 8 (bytes f (suc k) n) (mask n) (f k) 128 (low k) (omega arith)) z) in
+    go i h (low-bit (f k) (low k) (e .1)) (lows f low n (suc k) j (omega arith) (e .0))
+  where
+    go : (i : ℕ) → i < suc j → f k < 128 → ((i : ℕ) → i < j → f (suc k + i) < 128) → f (k + i) < 128
+    go zero h first rest = rw add-zero first
+    go (suc i) h first rest = let e : suc k + i ≡ k + suc i = omega arith in subst (λ (m : ℕ). f m < 128) e (rest i (omega arith))
+
+-- the bytes below the lowest bit that is set are 0
+tz-low : (d n j : ℕ) → j ≤ trailingZeros d n → n % 2 ^ j ≡ 0
+unfolding trailingZeros
+tz-low d n zero h = omega arith
+tz-low zero n (suc j) h = absurd (omega arith)
+tz-low (suc d) n (suc j) h = go (n % 2) refl h (tz-low d (n / 2) j)
+  where
+    go : (r : ℕ) → n % 2 ≡ r → suc j ≤ under r (trailingZeros d (n / 2)) → (j ≤ trailingZeros d (n / 2) → n / 2 % 2 ^ j ≡ 0) → n % 2 ^ suc j ≡ 0
+    go zero e h ih =
+        let m = mod-mul n {m = 2 ^ j} {c = 2} (pow-pos j) (omega arith) in
+        rw pow-suc (omega (arith, m, e, ih (omega (arith, h))))
+    go (suc r) e h ih = absurd (omega (arith, h))
+
+-- eight bytes by their highest bits
+pub high-8 : (s : List ℕ) (at w : ℕ) → ((k : ℕ) → getD s k 0 < 256) → w ≡ eightBytes s at → High s at (bitAnd w 0x8080808080808080)
+unfolding bytes mask
+high-8 s at w low e j le z k g l =
+    let f : ℕ → ℕ = λ i. getD s (at + i) 0 in
+    let h = simp add-assoc at e in
+    let same : w ≡ bytes f 0 8 = simp add-zero (omega (arith, h)) in
+    let i : at + (0 + (k - at)) ≡ k = omega arith in
+    subst (λ (m : ℕ). getD s m 0 < 128) i (lows f (λ i. low (at + i)) 8 0 j le (subst (λ (m : ℕ). bitAnd m 0x8080808080808080 % 2 ^ (8 * j) ≡ 0) same z) (k - at) (omega arith))
+
+-- all of them, where none is set
+pub high-0 : (s : List ℕ) (at r : ℕ) → High s at r → r ≡ 0 → Ascii s at (at + 8)
+high-0 s at r h z = h 8 (omega arith) (omega arith)
+
+-- as many as the lowest bit shows
+pub high-first : (s : List ℕ) (at r : ℕ) → High s at r → (trailingZeros 64 r / 8 ≤ 8) × Ascii s at (at + trailingZeros 64 r / 8)
+high-first s at r h =
+    let t = trailing-le 64 r in
+    let le : trailingZeros 64 r / 8 ≤ 8 = omega arith in
+    (le, h (trailingZeros 64 r / 8) le (tz-low 64 r (8 * (trailingZeros 64 r / 8)) (omega arith)))

@@ -1,5 +1,5 @@
 -- What the functions inside the crate promise of a place that they reach.
-use Prim.Native.Nat.{ℕ, _+_, _*_, _<_, _≤_}
+use Prim.Native.Nat.{ℕ, _+_, _*_, _%_, _^_, _<_, _≤_}
 use mathlib.Core.Path.{_≡_}
 use mathlib.Core.Bool.{Bool}
 use mathlib.Core.List.{List}
@@ -39,6 +39,14 @@ Ascii s from to = (k : ℕ) → from ≤ k → k < to → getD s k 0 < 0x80
 -- four bytes as a number, the first the lowest
 abbrev pub fourBytes : List ℕ → ℕ → ℕ
 fourBytes s at = getD s at 0 + 256 * getD s (at + 1) 0 + 65536 * getD s (at + 2) 0 + 16777216 * getD s (at + 3) 0
+
+-- eight bytes likewise
+abbrev pub eightBytes : List ℕ → ℕ → ℕ
+eightBytes s at = fourBytes s at + 4294967296 * fourBytes s (at + 4)
+
+-- as many of eight bytes are ASCII as the number has bytes of zero at its low end
+abbrev pub High : List ℕ → ℕ → ℕ → Type 0
+High s at r = (j : ℕ) → j ≤ 8 → r % 2 ^ (8 * j) ≡ 0 → Ascii s at (at + j)
 
 -- the place lies n bytes past another, inside the text or at its end
 pub record Ended (s : List ℕ) (from n r : ℕ) : Type 0 where

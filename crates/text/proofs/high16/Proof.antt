@@ -2,7 +2,7 @@
 -- Assumes nothing.
 use Prim.Native.Nat.{_+_}
 use native.Mathlib.Omega.{arith}
-use Rattle.text.proofs.Ascii.{or-zero, joined}
+use Rattle.text.proofs.Ascii.{or-zero, joined, high-0}
 use borrow.Author.Needs.{needs}
 use Rattle.text.proofs.high16.Statement.{statement}
 use Rattle.text.proofs.high16.Tie as tie
@@ -21,7 +21,7 @@ returns c =
     let a = c .before .before .before .args in
     λ z.
     let r = or-zero _ _ z in
-    joined (a .s .now) (a .at) (a .at + 8) (a .at + 16) (c .before .high8 .ensures (r .0)) (λ k g l. c .high82 .ensures (r .1) k g (omega arith))
+    joined (a .s .now) (a .at) (a .at + 8) (a .at + 16) (high-0 (a .s .now) (a .at) _ (c .before .high8 .ensures) (r .0)) (λ k g l. high-0 (a .s .now) (a .at + 8) _ (c .high82 .ensures) (r .1) k g (omega arith))
 
 pub high16-spec : {M : Type 1} → statement M
 high16-spec = tie.close (tie.spec high8-requires add-high8 high8-requires-2 returns)
