@@ -29,12 +29,11 @@ or-false false b e = (refl, e)
 
 -- kinds and spans, a node at a time
 module _ (s t : List ℕ) (n i : ℕ) where
-  pub clear-turn : (kind : ℕ) (x y : Bool) → 1 ≤ i → i < n → kind ≡ kindAt t i → x ≡ not (within 1 8 kind) → (y ≡ true → badSpan s t i ≡ false) → (x || not y) ≡ false → Clear s t n (i + 1) → Clear s t n i
-  clear-turn kind x y a h e f g test c =
-      let k = or-false x (not y) test in
+  pub clear-turn : (kind : ℕ) (x : Bool) → 1 ≤ i → i < n → kind ≡ kindAt t i → x ≡ not (within 1 8 kind) → x ≡ false → badSpan s t i ≡ false → Clear s t n (i + 1) → Clear s t n i
+  clear-turn kind x a h e f test g c =
       record {
-        kinds = first-pass 5 (badKind t) n i h (kind-step t i kind x false a e f (k .0)) ∙ c .kinds;
-        spans = first-pass 6 (badSpan s t) n i h (g (not-false y (k .1))) ∙ c .spans;
+        kinds = first-pass 5 (badKind t) n i h (kind-step t i kind x false a e f test) ∙ c .kinds;
+        spans = first-pass 6 (badSpan s t) n i h g ∙ c .spans;
       }
 
   pub clear-done : n ≤ i → Clear s t n i

@@ -1,7 +1,7 @@
 -- A bad span, by the tests that the code takes, and the first one; what a byte shows of a place.
 -- Assumes nothing.
 use mathlib.Core.Path.{_≡_, refl, sym, ap, _∙_}
-use mathlib.Core.Bool.{Bool, true, false, not, _&&_, and-eq-true-iff}
+use mathlib.Core.Bool.{Bool, true, false, not, false≢true}
 use mathlib.Core.List.{List}
 use Prim.Native.Nat.{ℕ, zero, suc, _+_, _-_, _/_, _<_, _≤_}
 use native.Mathlib.Omega.{arith}
@@ -25,8 +25,18 @@ module _ (s t : List ℕ) (i a n : ℕ) (start : a ≡ startAt t i) (len : n ≡
   pub ends : (x y : Bool) → a + n ≤ length s → x ≡ starts s a → not x ≡ false → y ≡ starts s (a + n) → badSpan s t i ≡ not y
   ends x y h e z f = rw (← start, ← len, le-ltb (length s) (a + n) h, ← e, z, ← f)
 
-  pub ends-clear : (x y : Bool) → a + n ≤ length s → (x ≡ true → starts s a ≡ true) → (y ≡ true → starts s (a + n) ≡ true) → (x && y) ≡ true → badSpan s t i ≡ false
-  ends-clear x y h p q e = let k = and-eq-true-iff x y .0 e in ends true true h (sym (p (k .0))) refl (sym (q (k .1)))
+  pub ends-clear : a + n ≤ length s → starts s a ≡ true → starts s (a + n) ≡ true → badSpan s t i ≡ false
+  ends-clear h p q = ends true true h (sym p) refl (sym q)
+
+-- a span that is not bad ends at a good place
+pub end-clear : (s t : List ℕ) (i : ℕ) → badSpan s t i ≡ false → starts s (startAt t i + lenAt t i) ≡ true
+end-clear s t i e = go (ltb (length s) (startAt t i + lenAt t i)) (starts s (startAt t i)) (starts s (startAt t i + lenAt t i)) e
+  where
+    go : (x y z : Bool) → either x (either (not y) (not z)) ≡ false → z ≡ true
+    go false true true e = refl
+    go false true false e = absurd (false≢true (sym e))
+    go false false z e = absurd (false≢true (sym e))
+    go true y z e = absurd (false≢true (sym e))
 
 pub clear-end : (s : List ℕ) (at : ℕ) → at ≡ length s → starts s at ≡ true
 clear-end s at e = past-end s at (omega arith) ∙ eq-eqb at (length s) e

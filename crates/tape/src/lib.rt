@@ -318,17 +318,40 @@ fn is_clear(s: &[u8], at: usize) -> bool
     s[at] / 64 != 2
 }
 
-// Whether both ends of a node's span show that it is good.
-fn is_clear_span(source: &[u8], tape: &[u8], i: usize) -> bool
+// The same, beside a place that is known to be good.
+fn is_clear_from(s: &[u8], at: usize, good: usize) -> bool
+    requires { ⌜ (at ≤ length (now s)) × (starts (now s) good ≡ true) ⌝ }
+    ensures { λ r. ⌜ (r ≡ true → starts (now (s .entry)) at ≡ true) ⌝ }
+{
+    if at == good {
+        return true;
+    }
+    is_clear(s, at)
+}
+
+// Where a node's span ends.
+fn end_at(tape: &[u8], i: usize) -> usize
     requires { ⌜ i < count (now tape) ⌝ }
+    ensures { λ r. ⌜ r ≡ startAt (now (tape .entry)) i + lenAt (now (tape .entry)) i ⌝ }
+{
+    start_at(tape, i) as usize + len_at(tape, i) as usize
+}
+
+// Whether both ends of a node's span show that it is good. Most spans start where the one before ends, which is known to be a
+// good place.
+fn is_clear_span(source: &[u8], tape: &[u8], i: usize, before: usize) -> bool
+    requires { ⌜ (i < count (now tape)) × (starts (now source) before ≡ true) ⌝ }
     ensures { λ r. ⌜ (r ≡ true → badSpan (now (source .entry)) (now (tape .entry)) i ≡ false) ⌝ }
 {
     let start = start_at(tape, i) as usize;
-    let end = start + len_at(tape, i) as usize;
-    if end <= source.len() {
-        return is_clear(source, start) & is_clear(source, end);
+    let end = end_at(tape, i);
+    if source.len() < end {
+        return false;
     }
-    false
+    if !is_clear_from(source, start, before) {
+        return false;
+    }
+    is_clear(source, end)
 }
 
 // Whether the kinds and spans from node 1 on show that they are good. Nodes differ in kind with no order that a processor
@@ -337,12 +360,16 @@ fn are_clear(source: &[u8], tape: &[u8], n: usize) -> bool
     requires { ⌜ Sized (now tape) n ⌝ }
     ensures { λ r. ⌜ (r ≡ true → Clear (now (source .entry)) (now (tape .entry)) n 1) ⌝ }
 {
+    let mut before: usize = 0;
     let mut i: usize = 1;
     while i < n {
-        let kind = kind_at(tape, i);
-        if bad_kind(kind) | !is_clear_span(source, tape, i) {
+        if !is_clear_span(source, tape, i, before) {
             return false;
         }
+        if bad_kind(kind_at(tape, i)) {
+            return false;
+        }
+        before = end_at(tape, i);
         i += 1;
     }
     true

@@ -1,10 +1,9 @@
 -- A bitwise or is 0 only if its parts are. Eight bytes by their highest bits. A run of ASCII, made longer.
 -- Assumes nothing.
-use mathlib.Core.Path.{_≡_, refl, _∙_, sym, subst, ap}
+use mathlib.Core.Path.{_≡_, refl, _∙_, sym, subst}
 use mathlib.Core.List.{List}
 use Prim.Native.Nat.{ℕ, zero, suc, _+_, _*_, _-_, _≤_, _<_, _/_, _%_, _^_}
 use native.Mathlib.Decide.{decLt}
-use native.Mathlib.Numerals.{add-one}
 use native.Mathlib.Omega.{arith}
 use native.Mathlib.Nat.{add-zero, add-assoc, mod-eq-of-lt, pow-suc}
 use lib.Arith.{digits-div, digits-mod, mod-mul}

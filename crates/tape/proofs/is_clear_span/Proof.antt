@@ -1,9 +1,13 @@
 -- `tape::is_clear_span` meets its contract.
 -- Assumes nothing.
-use borrow.Author.Needs.{needs}
 use denote.Ref.{now}
 use mathlib.Core.Bool.{false≢true}
+use mathlib.Core.Path.{refl}
+use native.Mathlib.Omega.{arith}
+use borrow.Author.Tests.{not-false}
+use Rattle.tape.specs.Nodes.{startAt, lenAt}
 use Rattle.tape.proofs.Spans.{ends-clear}
+use borrow.Author.Needs.{needs}
 use Rattle.tape.proofs.is_clear_span.Statement.{statement}
 use Rattle.tape.proofs.is_clear_span.Tie as tie
 
@@ -13,32 +17,30 @@ start-at-requires c κs = search needs
 cast-start : tie.Need-cast-start
 cast-start c = search needs
 
-len-at-requires : tie.Need-len-at-requires
-len-at-requires c κs = search needs
+end-at-requires : tie.Need-end-at-requires
+end-at-requires c κs = search needs
 
-cast-end : tie.Need-cast-end
-cast-end c = search needs
+returns : tie.Need-returns
+returns c = λ e. absurd (false≢true e)
 
-add-end : tie.Need-add-end
-add-end c = search needs
+is-clear-from-requires : tie.Need-is-clear-from-requires
+is-clear-from-requires c κs = search needs
+
+returns-2 : tie.Need-returns-2
+returns-2 c = λ e. absurd (false≢true e)
 
 is-clear-requires : tie.Need-is-clear-requires
 is-clear-requires c κs = search needs
 
-is-clear-requires-2 : tie.Need-is-clear-requires-2
-is-clear-requires-2 c κs = search needs
-
-returns : tie.Need-returns
-returns c =
-    let a = c .before .before .before .before .before .before .before .args in
-    let b = c .before .before .before .before .start-at in
-    let l = c .before .before .before .len-at in
-    let x = c .before .is-clear in
-    let y = c .is-clear2 in
-    ends-clear (now (a .source)) (now (a .tape)) (a .i) (b .result) (l .result) (b .ensures) (l .ensures) (x .result) (y .result) (c .before .before .if1 .taken) (x .ensures) (y .ensures)
-
-returns-2 : tie.Need-returns-2
-returns-2 c = λ e. absurd (false≢true e)
+returns-3 : tie.Need-returns-3
+returns-3 c =
+    let a = c .before .before .before .before .before .before .before .before .args in
+    let s = now (a .source) in
+    let t = now (a .tape) in
+    let b = c .before .before .before .before .before .start-at .ensures in
+    let e = c .before .before .before .before .end-at .ensures in
+    let x = c .before .before .is-clear-from .ensures (not-false _ (c .before .if2 .left)) in
+    λ y. ends-clear s t (a .i) (startAt t (a .i)) (lenAt t (a .i)) refl refl (omega arith) (rw b at x) (rw e at (c .is-clear .ensures y))
 
 pub is-clear-span-spec : {M : Type 1} → statement M
 is-clear-span-spec =
@@ -46,10 +48,9 @@ is-clear-span-spec =
     (tie.spec
     start-at-requires
     cast-start
-    len-at-requires
-    cast-end
-    add-end
-    is-clear-requires
-    is-clear-requires-2
+    end-at-requires
     returns
-    returns-2)
+    is-clear-from-requires
+    returns-2
+    is-clear-requires
+    returns-3)
