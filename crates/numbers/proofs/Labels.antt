@@ -3,6 +3,7 @@
 use Prim.Native.Nat.{ℕ, zero, suc, _+_, _-_, _<_, _≤_}
 use mathlib.Core.Path.{_≡_, refl, sym, ap, _∙_}
 use mathlib.Core.Bool.{Bool, true, false, not}
+use mathlib.Core.Logic.{inl, inr}
 use mathlib.Core.List.{List}
 use mathlib.Core.Option.{Option, some, none}
 use native.Mathlib.Decide.{decLt}
@@ -17,9 +18,12 @@ use Rattle.text.specs.Utf8.{decode}
 use Rattle.text.specs.Blank.{blank}
 use Rattle.text.specs.Characters.{find, starts}
 use Rattle.text.specs.Words.{solid, wordFrom, firstWord, secondWord}
+use Rattle.text.proofs.Blank.{blank-key, low-not-blank}
 use Rattle.text.proofs.Boundary.{inside}
 use Rattle.text.proofs.Chars.{stops}
 use Rattle.text.proofs.Cuts.{word-cut}
+use Rattle.text.proofs.Find.{past-ascii, stops-ascii}
+use Rattle.text.proofs.Rows.{within-lo, within-hi}
 use Rattle.tape.specs.Nodes.{count, kindAt, span}
 use Rattle.tape.specs.Reading.{firstBad}
 use Rattle.table.specs.Entries.{Entry, infoOf}
@@ -27,12 +31,12 @@ use Rattle.table.specs.declared.MarkerInfo.{MarkerInfo}
 use Rattle.table.specs.declared.Info.{Info}
 use Rattle.table.specs.declared.Info.the-variants as info
 use Rattle.cursor.specs.declared.NameSpan.{NameSpan}
-use Rattle.cursor.specs.Names.{namePart, nameOf}
+use Rattle.cursor.specs.Names.{endsName, namePart, nameOf}
 use Rattle.cursor.specs.Info.{infoAt}
 use Rattle.cursor.specs.Inner.{Named}
-use Rattle.cursor.proofs.Named.{name-cut, name-solid}
+use Rattle.cursor.proofs.Named.{one-hit, one-miss, is-plain, name-cut, name-solid}
 use Rattle.numbers.specs.declared.LabelSpan.{LabelSpan}
-use Rattle.numbers.specs.Inner.{splitAt, Labelled, LabelledBy}
+use Rattle.numbers.specs.Inner.{splitAt, Labelled, LabelledBy, Usual}
 use Rattle.numbers.specs.Label.{baseLen, isGlued, pickList, labelOf, splits, numbered, badLabel, labelRefusal}
 
 pub base-own : (m : Info) (name : List ℕ) → m ≡ info.Missing → length name ≡ baseLen (infoOf m) name
@@ -91,6 +95,46 @@ module _ (s : List ℕ) (at : NameSpan) (base : ℕ) (named : Named s at) where
         ordered = omega arith;
         inside = inside;
       }
+
+-- a text that begins as most do: its name ends at 2, and its label begins at 3
+module _ (s : List ℕ) (u : Usual s) where
+  space-blank : blank (getD s 2 0) ≡ true
+  space-blank = blank-key (getD s 2 0) (inl (u .space))
+
+  usual-name : Named s (record { start = 1; end = 2 })
+  unfolding namePart
+  usual-name =
+      let long = u .long in
+      let lo = within-lo 0x61 0x7A (getD s 1 0) (u .letter) in
+      let hi = within-hi 0x61 0x7A (getD s 1 0) (u .letter) in
+      let p = is-plain (getD s 1 0) (omega arith) (omega arith) (λ e. omega arith) in
+      let b = one-hit s 0 0x5C (omega arith) (u .backslash) .is in
+      let q = one-miss s 1 0x2B (omega arith) (λ e. omega arith) .is in
+      let e = past-ascii endsName s 1 (omega arith) (p .ascii) (p .goes-on) in
+      let f = stops-ascii endsName s 2 (omega arith) (rw (u .space) (omega arith)) (rw space-blank) in
+      record { begins = rw (← b, ← q); stops = rw (← b, ← q) (omega (arith, e, f)); inside = omega arith }
+
+  usual-first : 2 ≡ end (firstWord s)
+  usual-first =
+      let long = u .long in
+      let n = usual-name in
+      let f = stops-ascii blank s 2 (omega arith) (rw (u .space) (omega arith)) space-blank in
+      sym f ∙ first-end s 2 (n .stops) (omega arith) (omega arith)
+
+  usual-label : 3 ≡ 2 + find solid (drop 2 s)
+  usual-label =
+      let long = u .long in
+      let lo = within-lo 0x30 0x39 (getD s 3 0) (u .digit) in
+      let hi = within-hi 0x30 0x39 (getD s 3 0) (u .digit) in
+      let e = past-ascii solid s 2 (omega arith) (rw (u .space) (omega arith)) (rw space-blank) in
+      let f = stops-ascii solid s 3 (omega arith) (omega arith) (rw (low-not-blank (getD s 3 0) (omega arith) (λ e. omega arith) (inr (omega arith)))) in
+      omega (arith, e, f)
+
+  pub usual : (base z : ℕ) → 1 ≤ base → z ≡ 3 + find blank (drop 3 s) → z ≤ length s → LabelledBy base s (record { start = 3; end = z; glued = false })
+  usual base z more is-end inside =
+      let long = u .long in
+      let l = length-take-le 1 (drop 1 s) (omega (arith, length-drop 1 s)) in
+      past-name s (record { start = 1; end = 2 }) base usual-name 2 3 z (omega (arith, l)) usual-first usual-label is-end inside
 
 name-short : (s : List ℕ) → length (nameOf s) ≤ length s
 name-short s = omega (arith, length-take (namePart s .len) (drop (namePart s .start) s), length-drop (namePart s .start) s)

@@ -1,4 +1,5 @@
 pub mod Parts
+pub mod Gathered
 pub mod Labels
 pub mod Readable
 pub mod NumberNine

@@ -3,15 +3,19 @@ use cursor::NameSpan;
 use table::Info;
 use text::Parsed;
 ghost use mathlib.Core.Path.{_≡_};
-ghost use Prim.Native.Nat.{_≤_};
+ghost use mathlib.Core.Bool.{true};
+ghost use Prim.Native.Nat.{ℕ, _-_, _+_, _<_, _≤_, min};
+ghost use lib.ListN.{length, getD, take};
 ghost use Rattle.text.specs.Pick.{end};
 ghost use Rattle.text.specs.Words.{firstWord};
+ghost use Rattle.tape.specs.Nodes.{count as nodes};
+ghost use Rattle.tape.specs.Reading.{firstBad};
 ghost use Rattle.tape.specs.Forest.{Accepted};
 ghost use Rattle.table.specs.Entries.{Indexed, infoOf};
 ghost use Rattle.cursor.specs.Names.{nameOf};
 ghost use Rattle.cursor.specs.Inner.{Spanned, Named, Reached};
 ghost use Rattle.numbers.specs.Label.{baseLen, isGlued, labelOf, splits, numbered, badLabel, labelRefusal, refusalOf};
-ghost use Rattle.numbers.specs.Inner.{splitAt, Labelled, LabelledBy};
+ghost use Rattle.numbers.specs.Inner.{splitAt, Labelled, LabelledBy, Usual, numbersIn, firstAmong};
 ghost use Rattle.numbers.specs.Verse.{versePart, verseEnd, next, inSequence, letterOf, noEarlier, otherNumber, suffixOf, positionOf, readOf, Readable};
 
 // The letter of a verse position, `9a`, or none.
@@ -75,10 +79,38 @@ fn first_word_end(text: &[u8], at: NameSpan) -> usize
     text::find_from(text, e, true)
 }
 
+// Whether a text begins as `\v 1` does, with any small letter and any digit. Most labels stand behind such a beginning.
+fn is_usual(text: &[u8]) -> bool
+    ensures { λ r. ⌜ (r ≡ true → Usual (now (text .entry))) ⌝ }
+{
+    if text.len() < 4 {
+        return false;
+    }
+    if text[0] != b'\\' {
+        return false;
+    }
+    if !text::holds(text[1], b'a', b'z') {
+        return false;
+    }
+    if text[2] != b' ' {
+        return false;
+    }
+    text::holds(text[3], b'0', b'9')
+}
+
 // The label by its places, where the table's name has so many bytes. A number in place of the entry is handed over in a register.
 fn label_by(base: usize, text: &[u8]) -> LabelSpan
     ensures { λ r. ⌜ LabelledBy base (now (text .entry)) r ⌝ }
 {
+    if 1 <= base {
+        if is_usual(text) {
+            return LabelSpan {
+                start: 3,
+                end: text::find_from(text, 3, true),
+                glued: false,
+            };
+        }
+    }
     let at = cursor::name_span(text);
     let b = at.start;
     let e = at.end;
@@ -168,7 +200,70 @@ fn bad_label(
     label_splits(info, cursor::text(source, tape, i))
 }
 
-// Number 9, over a tape that numbers 4 to 8 pass.
+// The Chapters and Verses from one node up to another, in order, and how many they are. Nodes differ in kind with no order that a
+// processor foretells, so no jump here depends on it: what is no Chapter and no Verse is written too, and then over it.
+fn gather(tape: &[u8], from: usize, to: usize, found: &mut [usize]) -> usize
+    requires { ⌜ (from ≤ to) × (to ≤ nodes (now tape)) × (to - from < length (now found)) ⌝ }
+    ensures { λ r. ⌜ (r ≤ length (now (found .exit))) × (take r (now (found .exit)) ≡ numbersIn (now (tape .entry)) from (to - from)) ⌝ }
+{
+    let mut k: usize = 0;
+    let mut i = from;
+    while i < to {
+        found[k] = i;
+        k += tape::one_if(is_numbered(tape::kind_at(tape, i)));
+        i += 1;
+    }
+    k
+}
+
+// The first of some Chapters and Verses whose name is cut inside a character.
+fn first_split(
+    table: &[u8],
+    words: &[u64],
+    count: usize,
+    source: &[u8],
+    tape: &[u8],
+    found: &[usize],
+) -> LabelCheck
+    requires { ⌜ (Indexed (now table) (now words) count) × ((j : ℕ) → j < length (now found) → Spanned (now source) (now tape) (getD (now found) j 0)) ⌝ }
+    ensures { λ r. ⌜ refusalOf r ≡ firstAmong (badLabel (now (table .entry)) (now (source .entry)) (now (tape .entry))) (now (found .entry)) ⌝ }
+{
+    let mut j: usize = 0;
+    while j < found.len() {
+        let i = found[j];
+        if bad_label(table, words, count, source, tape, i) {
+            return LabelCheck::Split(i);
+        }
+        j += 1;
+    }
+    LabelCheck::Good
+}
+
+// Number 9 of the nodes from one up to another.
+fn split_in(
+    table: &[u8],
+    words: &[u64],
+    count: usize,
+    source: &[u8],
+    tape: &[u8],
+    from: usize,
+    to: usize,
+) -> LabelCheck
+    requires { ⌜ (Indexed (now table) (now words) count) × (Accepted (now source) (now tape)) × (1 ≤ from) × (from ≤ to) × (to ≤ nodes (now tape)) × (to ≤ from + 64) ⌝ }
+    ensures { λ r. ⌜ refusalOf r ≡ firstBad 9 (badLabel (now (table .entry)) (now (source .entry)) (now (tape .entry))) from (to - from) ⌝ }
+{
+    let mut found = [0usize; 65];
+    let k = gather(tape, from, to, &mut found);
+    first_split(table, words, count, source, tape, &found[..k])
+}
+
+fn least(a: usize, b: usize) -> usize
+    ensures { λ r. ⌜ r ≡ min a b ⌝ }
+{
+    if a < b { a } else { b }
+}
+
+// Number 9, over a tape that numbers 4 to 8 pass, by 64 nodes at a time.
 pub fn label_check(
     table: &[u8],
     words: &[u64],
@@ -182,10 +277,11 @@ pub fn label_check(
     let n = tape.len() / 16;
     let mut i: usize = 1;
     while i < n {
-        if bad_label(table, words, count, source, tape, i) {
-            return LabelCheck::Split(i);
+        let next = least(i + 64, n);
+        if let LabelCheck::Split(at) = split_in(table, words, count, source, tape, i, next) {
+            return LabelCheck::Split(at);
         }
-        i += 1;
+        i = next;
     }
     LabelCheck::Good
 }

@@ -344,14 +344,14 @@ fn is_clear_span(source: &[u8], tape: &[u8], i: usize, before: usize) -> bool
     ensures { λ r. ⌜ (r ≡ true → badSpan (now (source .entry)) (now (tape .entry)) i ≡ false) ⌝ }
 {
     let start = start_at(tape, i) as usize;
-    let end = end_at(tape, i);
-    if source.len() < end {
+    let to = end_at(tape, i);
+    if source.len() < to {
         return false;
     }
     if !is_clear_from(source, start, before) {
         return false;
     }
-    is_clear(source, end)
+    is_clear(source, to)
 }
 
 // Whether the kinds and spans from node 1 on show that they are good. Nodes differ in kind with no order that a processor
@@ -375,7 +375,7 @@ fn are_clear(source: &[u8], tape: &[u8], n: usize) -> bool
     true
 }
 
-fn one_if(b: bool) -> usize
+pub fn one_if(b: bool) -> usize
     ensures { λ r. ⌜ (r ≡ pickNat b 1 0) × (r ≤ 1) ⌝ }
 {
     if b { 1 } else { 0 }

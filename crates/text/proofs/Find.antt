@@ -19,7 +19,7 @@ use Rattle.text.specs.Characters.{chars, before, find, findByte}
 use Rattle.text.proofs.Rows.{both-false, both-left, both-right, within-lo, within-hi, row-short}
 use Rattle.text.proofs.Scan.{ascii-one}
 use Rattle.text.proofs.Decode.{decode-1, decode-width}
-use Rattle.text.proofs.Chars.{chars-nil, chars-cons, tested-by, past}
+use Rattle.text.proofs.Chars.{chars-nil, chars-cons, tested-by, past, stops}
 use Rattle.text.proofs.Exact.{Found, found, begins-fits, fits-length}
 use Rattle.text.proofs.Shape.{row-further}
 use Rattle.text.proofs.Induction.{by-length}
@@ -110,6 +110,10 @@ pub past-ascii : (p : ℕ → Bool) (s : List ℕ) (i : ℕ) → i < length s �
 past-ascii p s i h l y =
     let d = decode-1 s i h (ascii-one s i h l) in
     past p s i 1 h (ap (λ (x : Decoded). x .width) d) (tested-by p s i _ (p (getD s i 0)) false d refl y)
+
+-- one that passes ends the search
+pub stops-ascii : (p : ℕ → Bool) (s : List ℕ) (i : ℕ) → i < length s → getD s i 0 < 0x80 → p (getD s i 0) ≡ true → i + find p (drop i s) ≡ i
+stops-ascii p s i h l y = stops p s i h (tested-by p s i _ (p (getD s i 0)) true (decode-1 s i h (ascii-one s i h l)) refl y)
 
 module _ (p : ℕ → Bool) (flat : (c d : ℕ) → 0x80 ≤ c → 0x80 ≤ d → p c ≡ p d) where
   -- bytes that do not pass are passed over

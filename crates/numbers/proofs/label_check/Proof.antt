@@ -1,18 +1,18 @@
--- `numbers::label_check` meets its contract.
+-- `numbers::label_check` meets its contract. The invariant: a search from here on finds what the whole search does.
 -- Assumes nothing.
-use Prim.Native.Nat.{_≤_, _-_}
-use borrow.Author.Needs.{needs}
+use Prim.Native.Nat.{_-_, _≤_}
 use denote.Ref.{now}
-use mathlib.Core.Path.{_≡_, refl, sym, _∙_}
+use mathlib.Core.Path.{_≡_, refl, sym, ap, _∙_}
 use native.Mathlib.Omega.{arith}
-use Rattle.cursor.proofs.Around.{spanned}
-use Rattle.numbers.proofs.Labels.{all-labels}
-use Rattle.numbers.specs.Label.{badLabel, labelRefusal}
-use Rattle.table.specs.Entries.{Indexed}
-use Rattle.tape.proofs.Whole.{first-pass, first-hit, first-end}
-use Rattle.tape.specs.Forest.{Accepted}
 use Rattle.tape.specs.Nodes as nodes
 use Rattle.tape.specs.Reading.{firstBad}
+use Rattle.tape.specs.Forest.{Accepted}
+use Rattle.tape.proofs.Whole.{first-end}
+use Rattle.table.specs.Entries.{Indexed}
+use Rattle.numbers.specs.Label.{badLabel, labelRefusal, refusalOf}
+use Rattle.numbers.proofs.Gathered.{first-there, first-later}
+use Rattle.numbers.proofs.Labels.{all-labels}
+use borrow.Author.Needs.{needs}
 use Rattle.numbers.proofs.label_check.Statement.{statement}
 use Rattle.numbers.proofs.label_check.Tie as tie
 
@@ -28,29 +28,47 @@ loop-holds c =
     let a = s .args in
     (s .pre .0, s .pre .1, refl, omega arith, all-labels (now (a .table)) (now (a .source)) (now (a .tape)))
 
-bad-label-requires : tie.Need-bad-label-requires Inv-loop μ-loop
-bad-label-requires c κs =
-    let v = c .before .loop .inv in
-    (v .0, spanned _ _ _ (v .1) (v .3) (omega arith))
+add-least : tie.Need-add-least Inv-loop μ-loop
+add-least c = search needs
+
+least-requires : tie.Need-least-requires Inv-loop μ-loop
+least-requires c κs = search needs
+
+split-in-requires : tie.Need-split-in-requires Inv-loop μ-loop
+split-in-requires c κs =
+    let v = c .before .before .loop .inv in
+    let e = c .least .ensures in
+    (v .0, v .1, v .3, omega arith, omega arith, omega arith)
+
+enum-known-at : tie.Need-enum-known-at Inv-loop μ-loop
+enum-known-at c = search needs
 
 returns : tie.Need-returns Inv-loop μ-loop
 returns c =
-    let a = c .before .before .before .before .before .before .before .before .args in
-    let l = c .before .before .before .loop in
-    sym (first-hit 9 (badLabel (now (a .table)) (now (a .source)) (now (a .tape))) _ (l .i) (omega arith) (sym (c .before .bad-label .ensures) ∙ c .if1 .taken)) ∙ l .inv .4
+    let a = c .before .before .before .before .before .before .before .before .before .before .before .args in
+    let l = c .before .before .before .before .before .before .loop in
+    let m = c .before .before .before .before .least in
+    let e = m .ensures in
+    let x = c .before .before .before .split-in in
+    sym (first-there (badLabel (now (a .table)) (now (a .source)) (now (a .tape))) (l .i) (m .result) _ (omega arith) (omega arith) (refusalOf (x .result)) (c .before .at .given .0 .0) (ap refusalOf (c .before .at .given .1)) (x .ensures)) ∙ l .inv .4
 
-add-i : tie.Need-add-i Inv-loop μ-loop
-add-i c = search needs
+enum-told : tie.Need-enum-told Inv-loop μ-loop
+enum-told c = search needs
 
 loop-less : tie.Need-loop-less Inv-loop μ-loop
-loop-less c = search needs
+loop-less c =
+    let e = c .before .before .before .least .ensures in
+    omega arith
 
 loop-again : tie.Need-loop-again Inv-loop μ-loop
 loop-again c =
-    let a = c .before .before .before .before .before .before .before .before .args in
-    let l = c .before .before .before .loop in
+    let a = c .before .before .before .before .before .before .before .before .before .before .args in
+    let l = c .before .before .before .before .before .loop in
     let v = l .inv in
-    (v .0, v .1, v .2, omega arith, sym (first-pass 9 (badLabel (now (a .table)) (now (a .source)) (now (a .tape))) _ (l .i) (omega arith) (sym (c .before .bad-label .ensures) ∙ c .if1 .left)) ∙ v .4)
+    let m = c .before .before .before .least in
+    let e = m .ensures in
+    let x = c .before .before .split-in in
+    (v .0, v .1, v .2, omega (arith, v .3), sym (first-later (badLabel (now (a .table)) (now (a .source)) (now (a .tape))) (l .i) (m .result) _ (omega arith) (omega arith) (refusalOf (x .result)) (ap refusalOf (c .enum-told .given .1)) (x .ensures)) ∙ v .4)
 
 returns-2 : tie.Need-returns-2 Inv-loop μ-loop
 returns-2 c =
@@ -65,9 +83,12 @@ label-check-spec =
     Inv-loop
     μ-loop
     loop-holds
-    bad-label-requires
+    add-least
+    least-requires
+    split-in-requires
+    enum-known-at
     returns
-    add-i
+    enum-told
     loop-less
     loop-again
     returns-2)
