@@ -73,9 +73,6 @@ module _ (s t : List ℕ) (node len : ℕ) (m : Measured s t node len) where
       pub own-inside : b + len ≤ length x
       own-inside = omega (arith, own-length, name-inside .1, h .inside)
 
-      pub own-measure : length (take (b + len - b) (drop b x)) ≡ len
-      own-measure = omega (arith, length-take (b + len - b) (drop b x), length-drop b x, own-inside)
-
       -- the base stands where the name begins
       pub own-base : (base : List ℕ) (r : Bool) → r ≡ equal (take (b + len - b) (drop b x)) base → r ≡ equal (baseOf (nodeAt s t node)) base
       own-base base r e =

@@ -1,5 +1,4 @@
 pub mod Endings
-pub mod Blocks
 pub mod Search
 pub mod Moves
 pub mod Kept

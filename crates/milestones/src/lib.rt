@@ -5,9 +5,8 @@ use table::MarkerInfo;
 use validate::OpenStart;
 ghost use mathlib.Core.Path.{_≡_};
 ghost use mathlib.Core.List.{[], _∷_};
-ghost use Rattle.text.specs.Pick.{both};
 ghost use Prim.Native.Nat.{_+_, _<_, _≤_};
-ghost use lib.ListN.{length, drop, set};
+ghost use lib.ListN.{length, set};
 ghost use Rattle.tape.specs.Nodes.{nodeAt, count};
 ghost use Rattle.table.specs.Bytes.{equal};
 ghost use Rattle.table.specs.Entries.{Entry, entryOfInfo};
@@ -99,37 +98,6 @@ pub fn step_of(m: MarkerInfo, source: &[u8], tape: &[u8], i: usize) -> Step
     Step::Neither
 }
 
-// Whether eight bytes of two lists are the same, if what stands behind them is. No byte ends the loop, so that it becomes one
-// comparison.
-fn same_8(a: &[u8], b: &[u8], at: usize) -> bool
-    requires { ⌜ (at + 8 ≤ length (now a)) × (at + 8 ≤ length (now b)) ⌝ }
-    ensures { λ r. ⌜ both r (equal (drop (at + 8) (now (a .entry))) (drop (at + 8) (now (b .entry)))) ≡ equal (drop at (now (a .entry))) (drop at (now (b .entry))) ⌝ }
-{
-    let mut same = true;
-    let mut k: usize = 0;
-    while k < 8 {
-        same = same & (a[at + k] == b[at + k]);
-        k += 1;
-    }
-    same
-}
-
-// Whether two bases of one length are equal. Bases that differ may be long and differ late.
-fn same_base(a: &[u8], b: &[u8]) -> bool
-    requires { ⌜ length (now a) ≡ length (now b) ⌝ }
-    ensures { λ r. ⌜ r ≡ equal (now (a .entry)) (now (b .entry)) ⌝ }
-{
-    let n = a.len();
-    let mut i: usize = 0;
-    while 8 <= n - i {
-        if !same_8(a, b, i) {
-            return false;
-        }
-        i += 8;
-    }
-    table::same(&a[i..], &b[i..])
-}
-
 // Whether an open start has the base that stands at a place of the source; the length of its own is known, and most differ by it.
 fn has_base(source: &[u8], tape: &[u8], o: OpenStart, at: usize, len: usize) -> bool
     requires { ⌜ (Measured (now source) (now tape) (o .node) (o .«base_len»)) × (at + len ≤ length (now source)) ⌝ }
@@ -143,7 +111,7 @@ fn has_base(source: &[u8], tape: &[u8], o: OpenStart, at: usize, len: usize) -> 
     let start = cursor::name_start(text);
     let end = start + n;
     let to = at + len;
-    same_base(&text[start..end], &source[at..to])
+    table::same(&text[start..end], &source[at..to])
 }
 
 fn with_open(r: Record, n: usize) -> Record

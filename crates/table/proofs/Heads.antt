@@ -8,11 +8,12 @@ use Prim.Native.Nat.{ℕ, suc, _+_, _<_, _≤_}
 use native.Mathlib.Nat.{add-zero, zero-add}
 use native.Mathlib.Omega.{arith}
 use lib.Dec.{eqb, leb, ltb, leb·suc-suc}
-use lib.ListN.{length, getD, take, drop, List·getD-eq-default}
+use lib.ListN.{length, getD, take, drop, take-append-drop, List·getD-eq-default}
 use lib.Seq.{length-take-le}
 use borrow.Author.Tests.{lt-ltb, le-leb, lt-leb, eq-eqb, ne-eqb, eqb-true, eqb-false, not-true}
 use Rattle.text.specs.Pick.{both, within, pickOption}
 use Rattle.text.specs.Characters.{findByte}
+use Rattle.text.specs.Scans.{eightBytes}
 use Rattle.text.proofs.Chars.{byte-le}
 use Rattle.text.proofs.Rows.{both-false, both-left, both-right}
 use Rattle.table.specs.declared.Step.the-variants as step
@@ -21,7 +22,8 @@ use Rattle.table.specs.Lines.{nameByte}
 use Rattle.table.specs.Books.{codeFrom}
 use Rattle.table.specs.Inner.{nameOf, keyed, stepBy, stepWith, behindKey}
 use Rattle.table.proofs.Parts.{width}
-use Rattle.table.proofs.Words.{equal-true}
+use Rattle.table.proofs.Words.{equal-true, every}
+use Rattle.table.proofs.Blocks.{parts, eight, Told}
 
 step-none : (t : Bool) (next : ℕ) → stepBy t none next ≡ step.Bad
 step-none true next = refl
@@ -65,9 +67,19 @@ key-passed (x ∷ key) value at (b ∷ l) h = go (eqb 10 b) (eqb x b) refl refl 
 pub key-step : (key : List ℕ) (value : List ℕ → Option ℕ) (l m : List ℕ) → plain key ≡ true → m ≡ behindKey key l → stepWith value (length key) m ≡ stepWith (keyed key value) 0 l
 key-step key value l m h e = sym (key-passed key value 0 l h ∙ rw (zero-add (length key), e))
 
+-- the line of a word, its first eight bytes, and those behind them
+abbrev pub line : List ℕ → List ℕ
+line w = w ++ (10 ∷ [])
+
+abbrev pub front : List ℕ → List ℕ
+front w = take 8 (line w)
+
+abbrev pub back : List ℕ → List ℕ
+back w = drop 8 (line w)
+
 -- a word fills a line exactly if it stands there with a byte 10 behind it
 abbrev WordFills : List ℕ → List ℕ → Type 0
-WordFills w l = both (ltb (width l) (length l)) (equal w (take (width l) l)) ≡ starting (w ++ (10 ∷ [])) l
+WordFills w l = both (ltb (width l) (length l)) (equal w (take (width l) l)) ≡ starting (line w) l
 
 word-fills : (w l : List ℕ) → plain w ≡ true → WordFills w l
 unfolding findByte equal
@@ -85,32 +97,55 @@ word-fills (x ∷ w) (b ∷ l) h = go (eqb 10 b) (eqb x b) refl refl (word-fills
     go false true e f ih = rw (e, f, leb·suc-suc (suc (width l)) (length l)) ih
     go false false e f ih = rw (e, f) (both-false (ltb (suc (width l)) (suc (length l))))
 
--- at a word that does not fill the line, at one that does, and behind the last
-module _ (n k : ℕ) (w : List ℕ) (ws : List (List ℕ)) (l : List ℕ) (h : plain w ≡ true) where
-  pub word-past : starting (w ++ (10 ∷ [])) l ≡ false → stepWith (codeFrom k (w ∷ ws)) n l ≡ stepWith (codeFrom (suc k) ws) n l
+-- a word's line does not stand at the head
+abbrev pub absent : List ℕ → List ℕ → Bool
+absent l w = not (both (starting (front w) l) (starting (back w) (drop 8 l)))
+
+module _ (n : ℕ) (l : List ℕ) where
+  -- at the line of a word
+  pub line-there : (value : List ℕ → Option ℕ) (w : List ℕ) → plain w ≡ true → starting (line w) l ≡ true → stepBy true (value w) (n + length w + 1) ≡ stepWith value n l
+  line-there value w h e =
+      let f = word-fills w l h ∙ e in
+      let ends = both-left (ltb (width l) (length l)) (equal w (take (width l) l)) f in
+      let same = equal-true w (take (width l) l) (both-right (ltb (width l) (length l)) (equal w (take (width l) l)) f) in
+      rw (ends, ← same, filled l w same)
+
+  -- at no word's line
+  word-past : (k : ℕ) (w : List ℕ) (ws : List (List ℕ)) → plain w ≡ true → starting (line w) l ≡ false → stepWith (codeFrom k (w ∷ ws)) n l ≡ stepWith (codeFrom (suc k) ws) n l
   unfolding codeFrom
-  word-past e = go (ltb (width l) (length l)) (equal w (take (width l) l)) (word-fills w l h ∙ e)
+  word-past k w ws h e = go (ltb (width l) (length l)) (equal w (take (width l) l)) (word-fills w l h ∙ e)
     where
       go : (t u : Bool) → both t u ≡ false → stepBy t (pickOption u (some k) (codeFrom (suc k) ws (take (width l) l))) (n + width l + 1) ≡ stepBy t (codeFrom (suc k) ws (take (width l) l)) (n + width l + 1)
       go true true f = absurd (false≢true (sym f))
       go true false f = refl
       go false u f = refl
 
-  pub word-there : starting (w ++ (10 ∷ [])) l ≡ true → stepWith (codeFrom k (w ∷ ws)) n l ≡ step.Good k (n + length w + 1)
-  unfolding codeFrom
-  word-there e =
-      let f = word-fills w l h ∙ e in
-      let ends = both-left (ltb (width l) (length l)) (equal w (take (width l) l)) f in
-      let same = both-right (ltb (width l) (length l)) (equal w (take (width l) l)) f in
-      rw (ends, same, filled l w (equal-true w (take (width l) l) same))
+  pub words-absent : (k : ℕ) (ws : List (List ℕ)) → every plain ws ≡ true → every (absent l) ws ≡ true → step.Bad ≡ stepWith (codeFrom k ws) n l
+  unfolding codeFrom every
+  words-absent k [] h e = sym (step-none (ltb (width l) (length l)) (n + width l + 1))
+  words-absent k (w ∷ ws) h e =
+      let here = parts 8 (line w) l ∙ not-true _ (both-left (absent l w) (every (absent l) ws) e) in
+      words-absent (suc k) ws (both-right (plain w) (every plain ws) h) (both-right (absent l w) (every (absent l) ws) e) ∙ sym (word-past k w ws (both-left (plain w) (every plain ws) h) here)
 
-pub words-out : (n k : ℕ) (l : List ℕ) → stepWith (codeFrom k []) n l ≡ step.Bad
-unfolding codeFrom
-words-out n k l = step-none (ltb (width l) (length l)) (n + width l + 1)
+-- at the first eight bytes of a word's line, with which no other word's begins: what stands behind them decides
+module _ (n : ℕ) (ws : List (List ℕ)) (l : List ℕ) (r k : ℕ) where
+  abbrev w : List ℕ
+  w = getD ws k []
 
--- what the words from number k on give is what all of them give
-abbrev pub Left : List (List ℕ) → ℕ → ℕ → List ℕ → Type 0
-Left ws n k l = stepWith (codeFrom 0 ws) n l ≡ stepWith (codeFrom k (drop k ws)) n l
+  pub front-there : every plain ws ≡ true → plain w ≡ true → eight (front w) ≡ true → codeFrom 0 ws w ≡ some k → ((m : List ℕ) → starting (back w) m ≡ false → every (absent (front w ++ m)) ws ≡ true) → Told l r → r ≡ eightBytes (front w) 0 → stepBy (starting (back w) (drop 8 l)) (some k) (n + length w + 1) ≡ stepWith (codeFrom 0 ws) n l
+  front-there hs h long is alone told f = go (starting (back w) (drop 8 l)) refl
+    where
+      there : starting (front w) l ≡ true
+      there = told .begins (front w) long f
+
+      split : front w ++ drop 8 l ≡ l
+      split =
+          let size : length (front w) ≡ 8 = eqb-true (length (front w)) 8 (both-left _ _ long) in
+          ap (λ (x : List ℕ). x ++ drop 8 l) (equal-true (front w) (take 8 l) (rw size at there)) ∙ take-append-drop 8 l
+
+      go : (t : Bool) → starting (back w) (drop 8 l) ≡ t → stepBy t (some k) (n + length w + 1) ≡ stepWith (codeFrom 0 ws) n l
+      go true e = rw is at (line-there n l (codeFrom 0 ws) w h (parts 8 (line w) l ∙ rw (there, e)))
+      go false e = words-absent n l 0 ws hs (rw split at (alone (drop 8 l) e))
 
 -- the bytes that end a name
 abbrev pub unnamed : ℕ → Bool

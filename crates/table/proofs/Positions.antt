@@ -14,7 +14,7 @@ use Rattle.text.specs.Pick.{either, pickOption}
 use Rattle.table.specs.Bytes.{equal, oneOf, starting}
 use Rattle.table.specs.Names.{lemmaNames, rb, xt, ref, jmp, periph, qt, pickDefault, defaultOf}
 use Rattle.table.specs.Books.{codeFrom}
-use Rattle.table.specs.Inner.{attributeAt, attributeBy, categoryAt, roleAt, stepOf}
+use Rattle.table.specs.Inner.{attributeAt, attributeBy, categoryAt, roleAt}
 
 pub category-rest : (n : ℕ) → (n ≡ 0 → ⊥) → (n ≡ 1 → ⊥) → (n ≡ 2 → ⊥) → (n ≡ 3 → ⊥) → (n ≡ 4 → ⊥) → (n ≡ 5 → ⊥) → (n ≡ 6 → ⊥) → Other ≡ categoryAt n
 category-rest zero a b c d e f g = absurd (a refl)
@@ -86,9 +86,3 @@ pub default-is : (s : List ℕ) → defaultOf s ≡ attributeBy (codeFrom 0 owne
 unfolding defaultOf oneOf lemmaNames codeFrom owners
 default-is s =
     default-by (equal (119 ∷ []) s) (equal (119 ∷ 97 ∷ []) s) (equal (119 ∷ 103 ∷ []) s) (equal (119 ∷ 104 ∷ []) s) (equal rb s) (equal xt s) (equal ref s) (equal jmp s) (equal periph s) (starting qt s)
-
-pub role-line : (j at : ℕ) (l : List ℕ) → (j ≡ 0 → ⊥) → (j ≡ 1 → ⊥) → stepOf 2 at l ≡ stepOf j at l
-unfolding stepOf
-role-line zero at l a b = absurd (a refl)
-role-line (suc zero) at l a b = absurd (b refl)
-role-line (suc (suc j)) at l a b = refl

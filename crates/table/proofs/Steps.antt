@@ -18,17 +18,17 @@ use Rattle.table.specs.declared.Step.the-variants as step
 use Rattle.table.specs.declared.Marker.the-variants as marker
 use Rattle.table.specs.Lines.{lines, goodBody, badFrom, categoryKey, categories, roleKey, roles}
 use Rattle.table.specs.Entries.{Entry, entryOf, entriesOf}
-use Rattle.table.specs.Inner.{known, lineValue, stepBy, stepOf, Marked}
+use Rattle.table.specs.Inner.{known, lineValue, stepBy, stepOf, further, pastOf, Marked}
 use Rattle.table.proofs.Parts.{width, first, line-there, line-none}
 use Rattle.table.proofs.Values.{good-known, Named, name-says, shorter, Worded, word-says}
 use Rattle.table.proofs.Words.{every}
 
 -- the line at the head of what stands at a place, its end counted from the start of the text
-abbrev pub further : ℕ → Step → Step
-further at (step.Good v n) = step.Good v (at + n)
-further at step.Bad = step.Bad
+pub record Read (t : List ℕ) (at j : ℕ) (r : Step) : Type 0 where
+  pub fits : at + pastOf r ≤ length t
+  pub is : further at r ≡ stepOf j at (drop at t)
 
-pub line-moved : (t : List ℕ) (at j : ℕ) (r : Step) → r ≡ stepOf j 0 (take (length t - at) (drop at t)) → further at r ≡ stepOf j at (drop at t)
+line-moved : (t : List ℕ) (at j : ℕ) (r : Step) → r ≡ stepOf j 0 (take (length t - at) (drop at t)) → further at r ≡ stepOf j at (drop at t)
 unfolding stepOf
 line-moved t at j r e = rw (e, rest-all t at) (go (ltb (width (drop at t)) (length (drop at t))) (lineValue j (take (width (drop at t)) (drop at t))))
   where
@@ -73,6 +73,13 @@ module _ (t : List ℕ) (at j : ℕ) where
           }
       go true none f g e = let z : _≡_ {A = ℕ} 0 1 = cc in absurd (omega arith)
       go false o f g e = let z : _≡_ {A = ℕ} 0 1 = cc in absurd (omega arith)
+
+  pub line-read : (r : Step) → at ≤ length t → r ≡ stepOf j 0 (take (length t - at) (drop at t)) → Read t at j r
+  line-read r h e = record { fits = go r e; is = line-moved t at j r e }
+    where
+      go : (r : Step) → r ≡ stepOf j 0 (take (length t - at) (drop at t)) → at + pastOf r ≤ length t
+      go (step.Good v n) e = stepped v (at + n) (line-moved t at j (step.Good v n) e) .inside
+      go step.Bad e = omega arith
 
   not-good : step.Bad ≡ stepOf j at (drop at t) → both (ltb w (length (drop at t))) (goodBody j body) ≡ false
   unfolding stepOf

@@ -6,7 +6,8 @@ use mathlib.Core.List.{List, [], _∷_}
 use mathlib.Core.Option.{Option, some, none}
 use lib.Dec.{eqb, ltb}
 use lib.ListN.{length, take, drop}
-use Rattle.text.specs.Pick.{both, within, pickOption}
+use Rattle.text.specs.Pick.{both, within, pickNat, pickOption}
+use Rattle.text.specs.Scans.{eightBytes}
 use Rattle.text.specs.Characters.{findByte}
 use Rattle.table.specs.Bytes.{all, starting, beyond}
 use Rattle.table.specs.Lines.{lines, nameKey, categoryKey, roleKey, categories, roles, nameByte, badFrom}
@@ -75,6 +76,20 @@ stepWith value at l = stepBy (ltb (findByte (eqb 10) l) (length l)) (value (take
 
 unfoldable pub stepOf : ℕ → ℕ → List ℕ → Step
 stepOf j at l = stepWith (lineValue j) at l
+
+-- the step of a line at a place, its end counted from the start of the table
+abbrev pub further : ℕ → Step → Step
+further at (step.Good v n) = step.Good v (at + n)
+further at step.Bad = step.Bad
+
+-- the end that a step counts
+abbrev pub pastOf : Step → ℕ
+pastOf (step.Good v n) = n
+pastOf step.Bad = 0
+
+-- the first eight bytes as a number, or 0 where there are fewer
+abbrev pub headOf : List ℕ → ℕ
+headOf s = pickNat (ltb (length s) 8) 0 (eightBytes s 0)
 
 -- what follows a key that a text begins with, or nothing
 abbrev pub behindBy : Bool → List ℕ → List ℕ

@@ -1,7 +1,8 @@
 // The marker table: its layout, its entries, and what is looked up in it.
 ghost use mathlib.Core.Path.{_≡_};
-ghost use Prim.Native.Nat.{_+_, _<_, _≤_};
+ghost use Prim.Native.Nat.{_+_, _^_, _<_, _≤_};
 ghost use mathlib.Core.Bool.{not};
+ghost use mathlib.Core.Option.{some};
 ghost use lib.ListN.{length, drop, take};
 ghost use Rattle.text.specs.Pick.{within, cut};
 ghost use Rattle.text.specs.Characters.{findByte};
@@ -10,7 +11,7 @@ ghost use Rattle.table.specs.Lines.{nameByte, categories, roles, badTabl
 ghost use Rattle.table.specs.Entries.{entries, nth, infoOf, entryOfInfo, Indexed, placeOf, leaves};
 ghost use Rattle.table.specs.Names.{undigited, strippedLength, tailOff, named, lookedUp, foundOf, defaultOf, frontMatter, noteOnly, glued};
 ghost use Rattle.table.specs.Books.{codeFrom, bookOf, idOf};
-ghost use Rattle.table.specs.Inner.{wordsOf, triples, known, nameOf, valueOf, stepWith, behindKey, stepOf, Marked, attributeAt, categoryAt, roleAt, stripped, unglued};
+ghost use Rattle.table.specs.Inner.{wordsOf, triples, known, nameOf, valueOf, stepBy, stepWith, behindKey, stepOf, headOf, further, pastOf, Marked, attributeAt, categoryAt, roleAt, stripped, unglued};
 
 // A place in the marker table.
 pub struct MarkerId(pub u16);
@@ -102,6 +103,46 @@ const BOOK_CODES: [u8; 348] =
     3MA4MA1ES2ESMANPS2ODAPSSEZA5EZ6EZDAGPS32BALBAJUBENO1MQ2MQ3MQREP4BALAOFRTBAKOTH\
     INTCNCGLOTDXNDXXXAXXBXXCXXDXXEXXFXXG";
 
+// What `head` gives of the words that have eight bytes or more with byte 10 behind them.
+const IDENTIFI: u64 = 7594873770396181609;
+
+const CHAPTER: u64 = 752775638500337763;
+
+const PARAGRAP: u64 = 8097879393330946416;
+
+const CHARACTE: u64 = 7310577365311121507;
+
+const MILESTON: u64 = 7957707105558620525;
+
+const CONTENT: u64 = 753348419701862243;
+
+const EXCLUDED: u64 = 7234298831932979301;
+
+const BOUNDARY: u64 = 8751164109912108898;
+
+// Whether eight bytes of two lists are the same. Two sums are compared, since the compiler makes one load of each.
+fn same_8(a: &[u8], b: &[u8], at: usize) -> bool
+    requires { ⌜ (at + 8 ≤ length (now a)) × (at + 8 ≤ length (now b)) ⌝ }
+    ensures { λ r. ⌜ r ≡ equal (take 8 (drop at (now (a .entry)))) (take 8 (drop at (now (b .entry)))) ⌝ }
+{
+    text::eight_bytes(a, at) == text::eight_bytes(b, at)
+}
+
+// Whether two lists of one length are equal from a place on.
+fn same_from(a: &[u8], b: &[u8], from: usize) -> bool
+    requires { ⌜ length (now a) ≡ length (now b) ⌝ }
+    ensures { λ r. ⌜ r ≡ equal (drop from (now (a .entry))) (drop from (now (b .entry))) ⌝ }
+{
+    let mut i = from;
+    while i < a.len() {
+        if a[i] != b[i] {
+            return false;
+        }
+        i += 1;
+    }
+    true
+}
+
 // Whether two lists of bytes are equal.
 pub fn same(a: &[u8], b: &[u8]) -> bool
     ensures { λ r. ⌜ r ≡ equal (now (a .entry)) (now (b .entry)) ⌝ }
@@ -110,13 +151,13 @@ pub fn same(a: &[u8], b: &[u8]) -> bool
         return false;
     }
     let mut i: usize = 0;
-    while i < a.len() {
-        if a[i] != b[i] {
+    while 8 <= a.len() - i {
+        if !same_8(a, b, i) {
             return false;
         }
-        i += 1;
+        i += 8;
     }
-    true
+    same_from(a, b, i)
 }
 
 pub fn starts_with(s: &[u8], key: &[u8]) -> bool
@@ -310,6 +351,27 @@ fn name_len(s: &[u8]) -> usize
     i
 }
 
+// The first eight bytes as a number, the first the lowest, or 0 where there are fewer.
+fn head(s: &[u8]) -> u64
+    ensures { λ r. ⌜ r ≡ headOf (now (s .entry)) ⌝ }
+{
+    if s.len() < 8 {
+        return 0;
+    }
+    text::eight_bytes(s, 0)
+}
+
+// What a line says whose first eight bytes are a word's, if the word's other bytes stand behind them.
+fn tail_step(s: &[u8], tail: &[u8], value: usize, next: usize) -> Step
+    requires { ⌜ 8 ≤ length (now s) ⌝ }
+    ensures { λ r. ⌜ r ≡ stepBy (starting (now (tail .entry)) (drop 8 (now (s .entry)))) (some value) next ⌝ }
+{
+    if starts_with(&s[8..], tail) {
+        return Step::Good(value, next);
+    }
+    Step::Bad
+}
+
 // What a name's line says, from behind its key on. No name byte is byte 10, so that its end is found on the way.
 fn name_step(s: &[u8]) -> Step
     ensures { λ r. ⌜ r ≡ stepWith nameOf 5 (now (s .entry)) ⌝ }
@@ -328,30 +390,31 @@ fn name_step(s: &[u8]) -> Step
 }
 
 // The same of a category's. The second number counts the key, the word and byte 10.
-// Compared with byte 10 behind it, a word needs no search for the end of the line.
+// Compared with byte 10 behind it, a word needs no search for the end of the line. The first eight bytes, as one number, tell most words apart.
 fn category_step(s: &[u8]) -> Step
     ensures { λ r. ⌜ r ≡ stepWith (codeFrom 0 categories) 9 (now (s .entry)) ⌝ }
 {
-    if starts_with(s, b"identification\n") {
-        return Step::Good(0, 24);
+    let w = head(s);
+    if w == CHARACTE {
+        return tail_step(s, b"r\n", 4, 19);
     }
-    if starts_with(s, b"chapter\n") {
+    if w == PARAGRAP {
+        return tail_step(s, b"h\n", 3, 19);
+    }
+    if w == MILESTON {
+        return tail_step(s, b"e\n", 6, 19);
+    }
+    if w == IDENTIFI {
+        return tail_step(s, b"cation\n", 0, 24);
+    }
+    if w == CHAPTER {
         return Step::Good(1, 17);
     }
     if starts_with(s, b"verse\n") {
         return Step::Good(2, 15);
     }
-    if starts_with(s, b"paragraph\n") {
-        return Step::Good(3, 19);
-    }
-    if starts_with(s, b"character\n") {
-        return Step::Good(4, 19);
-    }
     if starts_with(s, b"note\n") {
         return Step::Good(5, 14);
-    }
-    if starts_with(s, b"milestone\n") {
-        return Step::Good(6, 19);
     }
     if starts_with(s, b"other\n") {
         return Step::Good(7, 15);
@@ -363,14 +426,15 @@ fn category_step(s: &[u8]) -> Step
 fn role_step(s: &[u8]) -> Step
     ensures { λ r. ⌜ r ≡ stepWith (codeFrom 0 roles) 5 (now (s .entry)) ⌝ }
 {
-    if starts_with(s, b"content\n") {
+    let w = head(s);
+    if w == CONTENT {
         return Step::Good(0, 13);
     }
-    if starts_with(s, b"excluded\n") {
-        return Step::Good(1, 14);
+    if w == EXCLUDED {
+        return tail_step(s, b"\n", 1, 14);
     }
-    if starts_with(s, b"boundary\n") {
-        return Step::Good(2, 14);
+    if w == BOUNDARY {
+        return tail_step(s, b"\n", 2, 14);
     }
     Step::Bad
 }
@@ -386,25 +450,39 @@ fn behind<'a>(s: &'a [u8], key: &[u8]) -> &'a [u8]
     &s[..0]
 }
 
-// Line number j of a marker, at the head of a text.
-fn first_line(s: &[u8], j: u8) -> Step
-    ensures { λ r. ⌜ r ≡ stepOf j 0 (now (s .entry)) ⌝ }
+// What a line at a place says, its end counted from the start of the table.
+fn moved(at: usize, step: Step) -> Step
+    requires { ⌜ at + pastOf step < 2 ^ 64 ⌝ }
+    ensures { λ r. ⌜ r ≡ further at step ⌝ }
 {
-    match j {
-        0 => name_step(behind(s, b"name=")),
-        1 => category_step(behind(s, b"category=")),
-        _ => role_step(behind(s, b"role=")),
-    }
-}
-
-fn line_at(table: &[u8], at: usize, j: u8) -> Step
-    requires { ⌜ at ≤ length (now table) ⌝ }
-    ensures { λ r. ⌜ r ≡ stepOf j at (drop at (now (table .entry))) ⌝ }
-{
-    match first_line(&table[at..], j) {
+    match step {
         Step::Good(v, n) => Step::Good(v, at + n),
         Step::Bad => Step::Bad,
     }
+}
+
+// The first line of a marker, at a place of the table. Each line has its own function, so that the compiler knows what it is compared with.
+fn name_line(table: &[u8], at: usize) -> Step
+    requires { ⌜ at ≤ length (now table) ⌝ }
+    ensures { λ r. ⌜ r ≡ stepOf 0 at (drop at (now (table .entry))) ⌝ }
+{
+    moved(at, name_step(behind(&table[at..], b"name=")))
+}
+
+// The second.
+fn category_line(table: &[u8], at: usize) -> Step
+    requires { ⌜ at ≤ length (now table) ⌝ }
+    ensures { λ r. ⌜ r ≡ stepOf 1 at (drop at (now (table .entry))) ⌝ }
+{
+    moved(at, category_step(behind(&table[at..], b"category=")))
+}
+
+// The third.
+fn role_line(table: &[u8], at: usize) -> Step
+    requires { ⌜ at ≤ length (now table) ⌝ }
+    ensures { λ r. ⌜ r ≡ stepOf 2 at (drop at (now (table .entry))) ⌝ }
+{
+    moved(at, role_step(behind(&table[at..], b"role=")))
 }
 
 // A text that ends within a marker has its next line at its end, where no byte 10 follows.
@@ -413,13 +491,13 @@ fn marker_at(table: &[u8], at: usize) -> Marker
     requires { ⌜ (at < length (now table)) × (at < 65000) ⌝ }
     ensures { λ r. ⌜ Marked (now (table .entry)) at r ⌝ }
 {
-    let Step::Good(len, second) = line_at(table, at, 0) else {
+    let Step::Good(len, second) = name_line(table, at) else {
         return Marker::Bad(at);
     };
-    let Step::Good(category, third) = line_at(table, second, 1) else {
+    let Step::Good(category, third) = category_line(table, second) else {
         return Marker::Bad(second);
     };
-    let Step::Good(role, next) = line_at(table, third, 2) else {
+    let Step::Good(role, next) = role_line(table, third) else {
         return Marker::Bad(third);
     };
     let start = (at + 5) as u64;

@@ -1,11 +1,11 @@
 -- `milestones::has_base` meets its contract.
 -- Assumes nothing.
-use mathlib.Core.Path.{_≡_, sym, ap, _∙_}
-use Prim.Native.Nat.{ℕ, _+_, _-_}
+use mathlib.Core.Path.{_≡_, _∙_}
+use Prim.Native.Nat.{_+_, _-_}
 use native.Mathlib.Omega.{arith}
-use lib.ListN.{length, take, drop}
+use lib.ListN.{take, drop}
 use denote.Ref.{now}
-use Rattle.milestones.proofs.Endings.{part-long, apart, own-inside, own-measure, own-base}
+use Rattle.milestones.proofs.Endings.{part-long, apart, own-inside, own-base}
 use borrow.Author.Needs.{needs}
 use Rattle.milestones.proofs.has_base.Statement.{statement}
 use Rattle.milestones.proofs.has_base.Tie as tie
@@ -34,35 +34,29 @@ add-end c = search needs
 add-to : tie.Need-add-to
 add-to c = search needs
 
-sub-same-base : tie.Need-sub-same-base
-sub-same-base c = search needs
+sub-same : tie.Need-sub-same
+sub-same c = search needs
 
-part-same-base-start : tie.Need-part-same-base-start
-part-same-base-start c = search needs
+part-same-start : tie.Need-part-same-start
+part-same-start c = search needs
 
-part-same-base-end : tie.Need-part-same-base-end
-part-same-base-end c =
+part-same-end : tie.Need-part-same-end
+part-same-end c =
     let d = c .before .before .before .before .before .before .before in
     let a = d .args in
     own-inside (now (a .source)) (now (a .tape)) (a .o .node) (a .o .«base_len») (d .pre .0) (now (c .before .text .result)) (c .before .text .ensures) (c .name-start .result) (c .name-start .ensures)
 
-sub-same-base-2 : tie.Need-sub-same-base-2
-sub-same-base-2 c = search needs
+sub-same-2 : tie.Need-sub-same-2
+sub-same-2 c = search needs
 
-part-same-base-start-2 : tie.Need-part-same-base-start-2
-part-same-base-start-2 c = search needs
+part-same-start-2 : tie.Need-part-same-start-2
+part-same-start-2 c = search needs
 
-part-same-base-end-2 : tie.Need-part-same-base-end-2
-part-same-base-end-2 c = c .before .before .before .before .before .before .before .before .pre .1
+part-same-end-2 : tie.Need-part-same-end-2
+part-same-end-2 c = c .before .before .before .before .before .before .before .before .pre .1
 
-same-base-requires : tie.Need-same-base-requires
-same-base-requires c κs =
-    let n = c .before .before in
-    let d = n .before .before .before .before .before .before .before in
-    let a = d .args in
-    let l : a .at + a .len - a .at ≡ a .len = omega arith in
-    own-measure (now (a .source)) (now (a .tape)) (a .o .node) (a .o .«base_len») (d .pre .0) (now (n .before .text .result)) (n .before .text .ensures) (n .name-start .result) (n .name-start .ensures)
-    ∙ n .before .before .before .if1 .left ∙ sym (ap (λ (k : ℕ). length (take k (drop (a .at) (now (a .source))))) l ∙ part-long (now (a .source)) (a .at) (a .len) (d .pre .1))
+same-requires : tie.Need-same-requires
+same-requires c κs = search needs
 
 returns-2 : tie.Need-returns-2
 returns-2 c =
@@ -70,7 +64,7 @@ returns-2 c =
     let d = n .before .before .before .before .before .before .before in
     let a = d .args in
     let l : a .at + a .len - a .at ≡ a .len = omega arith in
-    own-base (now (a .source)) (now (a .tape)) (a .o .node) (a .o .«base_len») (d .pre .0) (now (n .before .text .result)) (n .before .text .ensures) (n .name-start .result) (n .name-start .ensures) (take (a .len) (drop (a .at) (now (a .source)))) (c .same-base .result) (rw l at (c .same-base .ensures))
+    own-base (now (a .source)) (now (a .tape)) (a .o .node) (a .o .«base_len») (d .pre .0) (now (n .before .text .result)) (n .before .text .ensures) (n .name-start .result) (n .name-start .ensures) (take (a .len) (drop (a .at) (now (a .source)))) (c .same .result) (rw l at (c .same .ensures))
 
 pub has-base-spec : {M : Type 1} → statement M
 has-base-spec =
@@ -83,11 +77,11 @@ has-base-spec =
     name-start-requires
     add-end
     add-to
-    sub-same-base
-    part-same-base-start
-    part-same-base-end
-    sub-same-base-2
-    part-same-base-start-2
-    part-same-base-end-2
-    same-base-requires
+    sub-same
+    part-same-start
+    part-same-end
+    sub-same-2
+    part-same-start-2
+    part-same-end-2
+    same-requires
     returns-2)

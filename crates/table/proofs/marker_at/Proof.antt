@@ -8,8 +8,8 @@ use Rattle.table.proofs.Steps.{marked-first, marked-second, marked-thir
 use Rattle.table.proofs.marker_at.Statement.{statement}
 use Rattle.table.proofs.marker_at.Tie as tie
 
-line-at-requires : tie.Need-line-at-requires
-line-at-requires c κs = search needs
+name-line-requires : tie.Need-name-line-requires
+name-line-requires c κs = search needs
 
 enum-known-len : tie.Need-enum-known-len
 enum-known-len c = search needs
@@ -20,12 +20,12 @@ enum-told c = search needs
 returns : tie.Need-returns
 returns c =
     let s = c .before .before .before .before in
-    marked-first (now (s .args .table)) (s .args .at) (s .pre .0) (sym (c .enum-told .given .1) ∙ c .before .before .line-at .ensures)
+    marked-first (now (s .args .table)) (s .args .at) (s .pre .0) (sym (c .enum-told .given .1) ∙ c .before .before .name-line .ensures)
 
-line-at-requires-2 : tie.Need-line-at-requires-2
-line-at-requires-2 c κs =
+category-line-requires : tie.Need-category-line-requires
+category-line-requires c κs =
     let s = c .before .before .before .before .before in
-    good-first (now (s .args .table)) (s .args .at) (s .pre .0) _ _ (sym (c .before .len .given .1) ∙ c .before .before .before .line-at .ensures) .inside
+    good-first (now (s .args .table)) (s .args .at) (s .pre .0) _ _ (sym (c .before .len .given .1) ∙ c .before .before .before .name-line .ensures) .inside
 
 enum-known-category : tie.Need-enum-known-category
 enum-known-category c = search needs
@@ -36,12 +36,12 @@ enum-told-2 c = search needs
 returns-2 : tie.Need-returns-2
 returns-2 c =
     let s = c .before .before .before .before .before .before .before .before in
-    marked-second (now (s .args .table)) (s .args .at) (s .pre .0) _ _ (sym (c .before .before .before .before .len .given .1) ∙ c .before .before .before .before .before .before .line-at .ensures) (sym (c .enum-told2 .given .1) ∙ c .before .before .line-at2 .ensures)
+    marked-second (now (s .args .table)) (s .args .at) (s .pre .0) _ _ (sym (c .before .before .before .before .len .given .1) ∙ c .before .before .before .before .before .before .name-line .ensures) (sym (c .enum-told2 .given .1) ∙ c .before .before .category-line .ensures)
 
-line-at-requires-3 : tie.Need-line-at-requires-3
-line-at-requires-3 c κs =
+role-line-requires : tie.Need-role-line-requires
+role-line-requires c κs =
     let s = c .before .before .before .before .before .before .before .before .before in
-    good-second (now (s .args .table)) (s .args .at) (s .pre .0) _ _ (sym (c .before .before .before .before .before .len .given .1) ∙ c .before .before .before .before .before .before .before .line-at .ensures) _ _ (sym (c .before .category .given .1) ∙ c .before .before .before .line-at2 .ensures) .inside
+    good-second (now (s .args .table)) (s .args .at) (s .pre .0) _ _ (sym (c .before .before .before .before .before .len .given .1) ∙ c .before .before .before .before .before .before .before .name-line .ensures) _ _ (sym (c .before .category .given .1) ∙ c .before .before .before .category-line .ensures) .inside
 
 enum-known-role : tie.Need-enum-known-role
 enum-known-role c = search needs
@@ -52,7 +52,7 @@ enum-told-3 c = search needs
 returns-3 : tie.Need-returns-3
 returns-3 c =
     let s = c .before .before .before .before .before .before .before .before .before .before .before .before in
-    marked-third (now (s .args .table)) (s .args .at) (s .pre .0) _ _ (sym (c .before .before .before .before .before .before .before .before .len .given .1) ∙ c .before .before .before .before .before .before .before .before .before .before .line-at .ensures) _ _ (sym (c .before .before .before .before .category .given .1) ∙ c .before .before .before .before .before .before .line-at2 .ensures) (sym (c .enum-told3 .given .1) ∙ c .before .before .line-at3 .ensures)
+    marked-third (now (s .args .table)) (s .args .at) (s .pre .0) _ _ (sym (c .before .before .before .before .before .before .before .before .len .given .1) ∙ c .before .before .before .before .before .before .before .before .before .before .name-line .ensures) _ _ (sym (c .before .before .before .before .category .given .1) ∙ c .before .before .before .before .before .before .category-line .ensures) (sym (c .enum-told3 .given .1) ∙ c .before .before .role-line .ensures)
 
 add-start : tie.Need-add-start
 add-start c = search needs
@@ -61,7 +61,7 @@ add-start c = search needs
 parts : (c : tie.After-known-told3) → (c .before .before .before .before .before .before .before .before .before .len .given .0 .0 ≤ 16) × (c .before .before .before .before .before .category .given .0 .0 < 8) × (c .before .role .given .0 .0 < 3)
 parts c =
     let s = c .before .before .before .before .before .before .before .before .before .before .before .before .before in
-    low (now (s .args .table)) (s .args .at) (s .pre .0) _ _ (sym (c .before .before .before .before .before .before .before .before .before .len .given .1) ∙ c .before .before .before .before .before .before .before .before .before .before .before .line-at .ensures) _ _ (sym (c .before .before .before .before .before .category .given .1) ∙ c .before .before .before .before .before .before .before .line-at2 .ensures) _ _ (sym (c .before .role .given .1) ∙ c .before .before .before .line-at3 .ensures)
+    low (now (s .args .table)) (s .args .at) (s .pre .0) _ _ (sym (c .before .before .before .before .before .before .before .before .before .len .given .1) ∙ c .before .before .before .before .before .before .before .before .before .before .before .name-line .ensures) _ _ (sym (c .before .before .before .before .before .category .given .1) ∙ c .before .before .before .before .before .before .before .category-line .ensures) _ _ (sym (c .before .role .given .1) ∙ c .before .before .before .role-line .ensures)
 
 mul-t17 : tie.Need-mul-t17
 mul-t17 c = omega (arith, parts c)
@@ -84,21 +84,21 @@ add-t22 c = omega (arith, c .before .before .before .before .before .before .bef
 returns-4 : tie.Need-returns-4
 returns-4 c =
     let s = c .before .before .before .before .before .before .before .before .before .before .before .before .before in
-    marked-whole (now (s .args .table)) (s .args .at) (s .pre .0) _ _ (sym (c .before .before .before .before .before .before .before .before .before .len .given .1) ∙ c .before .before .before .before .before .before .before .before .before .before .before .line-at .ensures) _ _ (sym (c .before .before .before .before .before .category .given .1) ∙ c .before .before .before .before .before .before .before .line-at2 .ensures) _ _ (sym (c .before .role .given .1) ∙ c .before .before .before .line-at3 .ensures) (s .pre .1)
+    marked-whole (now (s .args .table)) (s .args .at) (s .pre .0) _ _ (sym (c .before .before .before .before .before .before .before .before .before .len .given .1) ∙ c .before .before .before .before .before .before .before .before .before .before .before .name-line .ensures) _ _ (sym (c .before .before .before .before .before .category .given .1) ∙ c .before .before .before .before .before .before .before .category-line .ensures) _ _ (sym (c .before .role .given .1) ∙ c .before .before .before .role-line .ensures) (s .pre .1)
 
 pub marker-at-spec : {M : Type 1} → statement M
 marker-at-spec =
     tie.close
     (tie.spec
-    line-at-requires
+    name-line-requires
     enum-known-len
     enum-told
     returns
-    line-at-requires-2
+    category-line-requires
     enum-known-category
     enum-told-2
     returns-2
-    line-at-requires-3
+    role-line-requires
     enum-known-role
     enum-told-3
     returns-3

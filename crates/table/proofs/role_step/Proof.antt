@@ -1,71 +1,71 @@
--- `table::role_step` meets its contract. Each `past` is what is known behind a word that does not stand there.
+-- `table::role_step` meets its contract. The first eight bytes of each word compute to the number that it is told by.
 -- Assumes nothing.
 use borrow.Author.Needs.{needs}
 use denote.Ref.{now}
+use lib.ListN.{getD}
+use mathlib.Core.Bool.{false≢true}
+use mathlib.Core.List.{[]}
 use mathlib.Core.Path.{refl, sym, _∙_}
-use Rattle.table.specs.Bytes.{all}
+use native.Mathlib.Omega.{arith}
+use Rattle.table.specs.Bytes.{equal, all}
 use Rattle.table.specs.Lines.{roles}
-use Rattle.table.proofs.Heads.{Left, word-past, word-there, words-out}
+use Rattle.table.specs.Books.{codeFrom}
+use Rattle.table.proofs.Words.{every}
+use Rattle.table.proofs.Blocks.{Told, head-tells}
+use Rattle.table.proofs.Heads.{front, front-there, words-absent}
 use Rattle.table.proofs.role_step.Statement.{statement}
 use Rattle.table.proofs.role_step.Tie as tie
 
-slice-aggregate-starts-with : tie.Need-slice-aggregate-starts-with
-slice-aggregate-starts-with c = search needs
+head-requires : tie.Need-head-requires
+head-requires c κs = search needs
 
-starts-with-requires : tie.Need-starts-with-requires
-starts-with-requires c κs = search needs
+told : (c : tie.After-head) → Told (now (c .before .before .args .s)) (c .head .result)
+told c = head-tells _ _ (c .before .shared-slice-known .given) (c .head .ensures)
 
 returns : tie.Need-returns
-unfolding roles all
-returns c = sym (word-there 5 0 _ _ _ refl (sym (c .before .starts-with .ensures) ∙ c .if1 .taken))
+unfolding roles codeFrom equal all every
+returns c = front-there 5 roles _ _ 0 refl refl refl refl (λ m e. absurd (false≢true (sym e))) (told (c .before)) (c .if1 .taken)
 
-past-1 : (c : tie.Else1) → Left roles 5 1 (now (c .before .before .before .before .args .s))
-unfolding roles all
-past-1 c = word-past 5 0 _ _ _ refl (sym (c .before .starts-with .ensures) ∙ c .if1 .left)
+slice-aggregate-tail-step : tie.Need-slice-aggregate-tail-step
+slice-aggregate-tail-step c = search needs
 
-slice-aggregate-starts-with-2 : tie.Need-slice-aggregate-starts-with-2
-slice-aggregate-starts-with-2 c = search needs
-
-starts-with-requires-2 : tie.Need-starts-with-requires-2
-starts-with-requires-2 c κs = search needs
+tail-step-requires : tie.Need-tail-step-requires
+tail-step-requires c κs = told (c .before .before .before) .long (omega arith)
 
 returns-2 : tie.Need-returns-2
-unfolding roles all
-returns-2 c = sym (past-1 (c .before .before .before) ∙ word-there 5 1 _ _ _ refl (sym (c .before .starts-with2 .ensures) ∙ c .if2 .taken))
+unfolding roles codeFrom equal all every
+returns-2 c =
+    let d = c .before .before in
+    c .tail-step .ensures ∙ front-there 5 roles _ _ 1 refl refl refl refl (λ m e. rw e) (told (d .before .before)) (d .if2 .taken)
 
-past-2 : (c : tie.Else2) → Left roles 5 2 (now (c .before .before .before .before .before .before .before .args .s))
-unfolding roles all
-past-2 c = past-1 (c .before .before .before) ∙ word-past 5 1 _ _ _ refl (sym (c .before .starts-with2 .ensures) ∙ c .if2 .left)
+slice-aggregate-tail-step-2 : tie.Need-slice-aggregate-tail-step-2
+slice-aggregate-tail-step-2 c = search needs
 
-slice-aggregate-starts-with-3 : tie.Need-slice-aggregate-starts-with-3
-slice-aggregate-starts-with-3 c = search needs
-
-starts-with-requires-3 : tie.Need-starts-with-requires-3
-starts-with-requires-3 c κs = search needs
+tail-step-requires-2 : tie.Need-tail-step-requires-2
+tail-step-requires-2 c κs = told (c .before .before .before .before) .long (omega arith)
 
 returns-3 : tie.Need-returns-3
-unfolding roles all
-returns-3 c = sym (past-2 (c .before .before .before) ∙ word-there 5 2 _ _ _ refl (sym (c .before .starts-with3 .ensures) ∙ c .if3 .taken))
-
-past-3 : (c : tie.Else3) → Left roles 5 3 (now (c .before .before .before .before .before .before .before .before .before .before .args .s))
-unfolding roles all
-past-3 c = past-2 (c .before .before .before) ∙ word-past 5 2 _ _ _ refl (sym (c .before .starts-with3 .ensures) ∙ c .if3 .left)
+unfolding roles codeFrom equal all every
+returns-3 c =
+    let d = c .before .before in
+    c .tail-step2 .ensures ∙ front-there 5 roles _ _ 2 refl refl refl refl (λ m e. rw e) (told (d .before .before .before)) (d .if3 .taken)
 
 returns-4 : tie.Need-returns-4
-unfolding roles
-returns-4 c = sym (past-3 c ∙ words-out 5 3 _)
+unfolding roles codeFrom equal all every
+returns-4 c =
+    let t = told (c .before .before .before) in
+    words-absent 5 _ 0 roles refl (rw (t .differs (front (getD roles 0 [])) refl (c .before .before .if1 .left), t .differs (front (getD roles 1 [])) refl (c .before .if2 .left), t .differs (front (getD roles 2 [])) refl (c .if3 .left)))
 
 pub role-step-spec : {M : Type 1} → statement M
 role-step-spec =
     tie.close
     (tie.spec
-    slice-aggregate-starts-with
-    starts-with-requires
+    head-requires
     returns
-    slice-aggregate-starts-with-2
-    starts-with-requires-2
+    slice-aggregate-tail-step
+    tail-step-requires
     returns-2
-    slice-aggregate-starts-with-3
-    starts-with-requires-3
+    slice-aggregate-tail-step-2
+    tail-step-requires-2
     returns-3
     returns-4)
