@@ -1,10 +1,11 @@
 -- Numbers 1 to 9 are those of the whole check with working lists that are long enough for any tape; and numbers 12 and 13.
 -- Assumes nothing.
-use Prim.Native.Nat.{ℕ, _%_, _<_, _≤_}
+use Prim.Native.Nat.{ℕ, zero, suc, _-_, _%_, _<_, _≤_}
 use mathlib.Core.Path.{_≡_, refl, sym, ap, _∙_}
-use mathlib.Core.Bool.{Bool, not}
-use mathlib.Core.List.{List, [], _++_}
-use mathlib.Core.Option.{Option, some, none, Option·none-ne-some, Option·some-injective}
+use mathlib.Core.Bool.{Bool, true, false, not}
+use mathlib.Core.List.{List}
+use mathlib.Core.Option.{Option, some, none}
+use native.Mathlib.Numerals.{add-one}
 use native.Mathlib.Omega.{arith}
 use lib.Dec.{eqb, ltb}
 use lib.ListN.{length}
@@ -12,22 +13,19 @@ use borrow.Author.Tests.{lt-ltb, le-ltb, ltb-false}
 use Rattle.text.specs.Pick.{either}
 use Rattle.tape.specs.Nodes.{count}
 use Rattle.tape.specs.Forest.{Accepted}
-use Rattle.tape.specs.Reading.{Refusal, refuse, orElse, onlyIf, tapeRefusal}
+use Rattle.tape.specs.Reading.{Refusal, refuse, orElse, tapeRefusal}
 use Rattle.tape.proofs.OneNumber.{accepted, neither, either-false, only-not}
-use Rattle.numbers.specs.Label.{labelRefusal}
+use Rattle.numbers.specs.Label.{labelRefusal, pickList}
 use Rattle.validate.specs.Outcome.{of1, of2, of3, ofTape, of9}
-use Rattle.marking.specs.Entry.{gateOf, listsRefusal, fromLabels, fromTape, fromSource, fromTable}
+use Rattle.marking.specs.Entry.{gateOf, listsRefusal, fromTape, fromTable}
 use Rattle.marking.proofs.Whole.{or-assoc}
 use Rattle.marking.specs.declared.Gate.{Gate}
 use Rattle.marking.specs.declared.Gate.the-variants as gate
-use Rattle.texts.specs.Filled.{allTexts, codeOf, lengthOf, overBy}
-use Rattle.texts.specs.Inner.{laidOf}
-use Rattle.texts.specs.declared.Laid.{Laid}
-use Rattle.texts.specs.declared.Laid.the-variants as laid-as
+use Rattle.texts.specs.Inner.{LaidAs}
 use Rattle.laying.specs.Over.{over}
-use Rattle.messages.specs.Message.{Asked, shown, textBy, messageText}
+use Rattle.messages.specs.Message.{Asked, messageText}
 use Rattle.messages.specs.Inner.{LaidBy}
-use Rattle.messages.specs.Told.{document, firstNine, byRoom, bytesBy, refused, laid}
+use Rattle.messages.specs.Told.{document, firstNine, Told, refused, laid, pickTold, byRoom, pickBytes, bytesBy}
 
 or-none : (x : Option Refusal) → orElse x none ≡ x
 or-none none = refl
@@ -66,35 +64,33 @@ module _ (table s t : List ℕ) where
       pub is-accepted : Accepted s t
       is-accepted = accepted s t .0 (neither (ofTape (document table s t)) _ (neither (of3 (document table s t)) _ (neither (of2 (document table s t)) _ after1 .1) .1) .0)
 
--- a text that there is, or not, over a list of so many bytes
-module _ (o : Option (List ℕ)) (n : Option ℕ) (is : n ≡ lengthOf o) where
-  pub no-text : n ≡ none → o ≡ none
-  no-text h = go o (sym h ∙ is)
-    where
-      go : (p : Option (List ℕ)) → none ≡ lengthOf p → p ≡ none
-      go none e = refl
-      go (some s) e = absurd (Option·none-ne-some (length s) e)
+-- what is told, by what the laying of a text answered and the length of the list
+unfoldable pub toldFor : ℕ → ℕ → Told
+toldFor zero room = refused (record { number = 12; place = 0 })
+toldFor (suc n) room = pickTold (ltb room n) (refused (record { number = 13; place = n })) (laid n)
 
-  module _ (k : ℕ) (there : n ≡ some k) (out : List ℕ) where
-    pub too-short : length out < k → (refused (record { number = 13; place = k }) ≡ byRoom o (length out)) × (out ≡ bytesBy none o out)
-    too-short h = go o (sym there ∙ is)
-      where
-        go : (p : Option (List ℕ)) → some k ≡ lengthOf p → (refused (record { number = 13; place = k }) ≡ byRoom p (length out)) × (out ≡ bytesBy none p out)
-        go none e = absurd (Option·none-ne-some k (sym e))
-        go (some s) e =
-            let z : k ≡ length s = Option·some-injective k (length s) e in
-            let l : length out < length s = omega (arith, h, z) in
-            (rw (lt-ltb (length out) (length s) l, z), rw (lt-ltb (length out) (length s) l))
+by-room : (o : Option (List ℕ)) (l l′ : List ℕ) (r : ℕ) → LaidAs o l l′ r → (toldFor r (length l) ≡ byRoom o (length l)) × (l′ ≡ bytesBy none o l)
+unfolding toldFor
+by-room none l l′ r y = (rw (y .answer-is), y .list-is)
+by-room (some s) l l′ r y = (rw (y .answer-is, add-one), go (ltb (length l) (length s)) (y .list-is))
+  where
+    go : (b : Bool) → l′ ≡ pickList b l (over l 0 s) → l′ ≡ pickBytes b l (over l 0 s)
+    go true q = q
+    go false q = q
 
-    pub fits : k ≤ length out → (out′ : List ℕ) → out′ ≡ overBy o out → (laid k ≡ byRoom o (length out)) × (out′ ≡ bytesBy none o out)
-    fits h out′ f = go o (sym there ∙ is) f
-      where
-        go : (p : Option (List ℕ)) → some k ≡ lengthOf p → out′ ≡ overBy p out → (laid k ≡ byRoom p (length out)) × (out′ ≡ bytesBy none p out)
-        go none e f = absurd (Option·none-ne-some k (sym e))
-        go (some s) e f =
-            let z : k ≡ length s = Option·some-injective k (length s) e in
-            let l : length s ≤ length out = omega (arith, h, z) in
-            (rw (le-ltb (length out) (length s) l, z), f ∙ rw (le-ltb (length out) (length s) l))
+pub told-lack : (r room : ℕ) → r ≡ 0 → refused (record { number = 12; place = 0 }) ≡ toldFor r room
+unfolding toldFor
+told-lack r room e = rw e
+
+pub told-short : (r room : ℕ) → (r ≡ 0 → ⊥) → room < r - 1 → refused (record { number = 13; place = r - 1 }) ≡ toldFor r room
+unfolding toldFor
+told-short zero room e h = absurd (e refl)
+told-short (suc n) room e h = let l : suc n - 1 ≡ n = omega arith in rw (l, lt-ltb room n (omega arith))
+
+pub told-laid : (r room : ℕ) → (r ≡ 0 → ⊥) → r - 1 ≤ room → laid (r - 1) ≡ toldFor r room
+unfolding toldFor
+told-laid zero room e h = absurd (e refl)
+told-laid (suc n) room e h = let l : suc n - 1 ≡ n = omega arith in rw (l, le-ltb room n (omega arith))
 
 -- a node that is not on the tape has no text
 module _ (table s t : List ℕ) (q : Asked) where
@@ -102,36 +98,7 @@ module _ (table s t : List ℕ) (q : Asked) where
   unfolding messageText
   off-tape h = rw (le-ltb (q .node) (count t) h)
 
-  pub on-tape : q .node < count t → textBy (shown table s t q) (codeOf allTexts (q .code)) (q .form) ≡ messageText table s t q
+  -- a text of one that is, by the room for it
+  pub on-tape : q .node < count t → (l l′ : List ℕ) (r : ℕ) (a : Told) → LaidBy table s t q l l′ r → a ≡ toldFor r (length l) → (a ≡ byRoom (messageText table s t q) (length l)) × (l′ ≡ bytesBy none (messageText table s t q) l)
   unfolding messageText
-  on-tape h = rw (lt-ltb (q .node) (count t) h)
-
-over-empty : (o : Option (List ℕ)) → overBy o [] ≡ []
-unfolding over
-over-empty none = refl
-over-empty (some s) = refl
-
--- a text that was laid over no list, and then over the lent one
-module _ (table s t : List ℕ) (q : Asked) (on : q .node < count t) (out none-laid : List ℕ) (r : Laid) (e : LaidBy table s t q [] none-laid r) where
-  abbrev o : Option (List ℕ)
-  o = textBy (shown table s t q) (codeOf allTexts (q .code)) (q .form)
-
-  kept : none-laid ++ out ≡ out
-  kept = ap (_++ out) (e .list-is ∙ over-empty o)
-
-  pub lacks : r ≡ laid-as.Lacks → (refused (record { number = 12; place = 0 }) ≡ byRoom (messageText table s t q) (length out)) × (none-laid ++ out ≡ bytesBy none (messageText table s t q) out)
-  lacks h =
-      let z : messageText table s t q ≡ none = sym (on-tape table s t q on) ∙ no-text o (laidOf r) (e .length-is) (ap laidOf h) in
-      (rw z, kept ∙ rw z)
-
-  module _ (k : ℕ) (h : r ≡ laid-as.Length k) where
-    pub no-room : length (none-laid ++ out) < k → (refused (record { number = 13; place = k }) ≡ byRoom (messageText table s t q) (length out)) × (none-laid ++ out ≡ bytesBy none (messageText table s t q) out)
-    no-room l =
-        let f = too-short o (laidOf r) (e .length-is) k (ap laidOf h) out (rw kept at l) in
-        let g = rw (on-tape table s t q on) at f in
-        (g .0, kept ∙ g .1)
-
-    pub with-room : k ≤ length (none-laid ++ out) → (out′ : List ℕ) (r′ : Laid) → LaidBy table s t q (none-laid ++ out) out′ r′ → (laid k ≡ byRoom (messageText table s t q) (length out)) × (out′ ≡ bytesBy none (messageText table s t q) out)
-    with-room l out′ r′ y =
-        let f = fits o (laidOf r) (e .length-is) k (ap laidOf h) out (rw kept at l) out′ (y .list-is ∙ ap (overBy o) kept) in
-        rw (on-tape table s t q on) at f
+  on-tape h l l′ r a y e = let z = by-room _ l l′ r y in rw (lt-ltb (q .node) (count t) h) (e ∙ z .0, z .1)

@@ -2,7 +2,6 @@
 -- Assumes nothing.
 use Prim.Native.Nat.{ℕ, zero, suc, _+_, _≤_}
 use mathlib.Core.Path.{_≡_, refl}
-use mathlib.Core.Bool.{Bool, true, false}
 use mathlib.Core.List.{List, [], _∷_}
 use native.Mathlib.Omega.{arith}
 use lib.Dec.{eqb}
@@ -13,14 +12,10 @@ use Rattle.tape.specs.Nodes.{span, nodeAt}
 use Rattle.tape.specs.Forest.{forest, Nested, done, one, inner}
 use Rattle.tape.proofs.Nest.{forest-done, forest-leaf, forest-node}
 use Rattle.cursor.specs.Inner.{Run}
-use Rattle.numbers.specs.Label.{pickList}
 use Rattle.validate.specs.Checks.{bookCode}
+use Rattle.texts.proofs.Filling.{pick-within}
 use Rattle.messages.specs.Message.{letter}
 use Rattle.messages.proofs.Lengths.{cut-short}
-
-pick-short : (m : ℕ) (b : Bool) (x y : List ℕ) → length x ≤ m → length y ≤ m → length (pickList b x y) ≤ m
-pick-short m true x y h k = h
-pick-short m false x y h k = k
 
 -- the book code of a run
 code-short : (s t : List ℕ) {d a b : ℕ} → Nested t d a b → length (bookCode (forest s t a b)) ≤ length s
@@ -30,7 +25,7 @@ code-short s t {d} {a} {b} (one h z r) =
     let x = nodeAt s t a in
     let w = cut-short (firstWord (x .text)) (x .text) in
     let c = cut-short (span t a) s in
-    rw (forest-leaf s t h z r) (pick-short (length s) (eqb (x .kind) 5) (cut (firstWord (x .text)) (x .text)) (bookCode (forest s t (a + 1) b)) (omega (arith, w, c)) (code-short s t r))
+    rw (forest-leaf s t h z r) (pick-within (length s) (eqb (x .kind) 5) (cut (firstWord (x .text)) (x .text)) (bookCode (forest s t (a + 1) b)) (omega (arith, w, c)) (code-short s t r))
 code-short s t (inner h z c r) = rw (forest-node s t h z c r) (code-short s t r)
 
 pub code-inside : (s t : List ℕ) (a b : ℕ) (code : List ℕ) → Run s t a b → code ≡ bookCode (forest s t a b) → length code ≤ length s

@@ -1,20 +1,19 @@
 -- The texts of the other codes show nothing.
 -- Assumes nothing.
 use Prim.Native.Nat.{ℕ}
-use mathlib.Core.Path.{_≡_, refl, sym, ap, _∙_}
+use mathlib.Core.Path.{_≡_, refl}
 use mathlib.Core.Bool.{Bool, true, false}
 use mathlib.Core.List.{List, [], _∷_}
 use mathlib.Core.Logic.{_⊎_, inl, inr}
-use mathlib.Core.Option.{Option, some, none}
+use mathlib.Core.Option.{Option, some}
 use lib.Dec.{eqb}
 use borrow.Author.Tests.{eqb-true}
 use types.Run.{OneOf}
 use Rattle.texts.specs.Texts.{Code, Hole, documentTexts, numberTexts, markerTexts, attributeTexts}
 use Rattle.texts.specs.Texts as texts
-use Rattle.texts.specs.Filled.{allTexts, codeOf, formOf, formIn, textIn, filledBy, pickCode, lengthOf, overBy}
+use Rattle.texts.specs.Filled.{allTexts, codeOf, formIn, filledBy, pickCode}
 use Rattle.texts.specs.Inner.{values}
-use Rattle.texts.specs.declared.Laid.{Laid}
-use Rattle.messages.specs.Message.{Asked, shown, shownOf, three, textBy}
+use Rattle.messages.specs.Message.{Asked, shown, shownOf, textBy}
 use Rattle.messages.specs.Inner.{LaidBy, LaidWith}
 
 abbrev others : List ℕ
@@ -61,8 +60,6 @@ none-of N k [] n o e = o .1 e
 none-of N k (j ∷ ks) n o (inl e) = told (N × (n ≡ k → ⊥)) (j ∷ ks) n o .1 e
 none-of N k (j ∷ ks) n o (inr r) = none-of (N × (n ≡ k → ⊥)) j ks n o r
 
-pub laid-plain : (table s t : List ℕ) (q : Asked) → OtherThan (Unit {0}) special (q .code) → (l l′ : List ℕ) (r : Laid) → LaidWith q [] [] [] l l′ r → LaidBy table s t q l l′ r
+pub laid-plain : (table s t : List ℕ) (q : Asked) → OtherThan (Unit {0}) special (q .code) → (l l′ : List ℕ) (r : ℕ) → LaidWith q [] [] [] l l′ r → LaidBy table s t q l l′ r
 unfolding shownOf
-laid-plain table s t q other l l′ r h =
-    let z : textBy (shown table s t q) (codeOf allTexts (q .code)) (q .form) ≡ filledBy (textIn allTexts (q .code) (q .form)) (some (values [] [] [])) = found (shown table s t q) refl (q .code) (q .form) (none-of (Unit {0}) 5 others (q .code) other) allTexts all-plain in
-    record { length-is = h .length-is ∙ ap lengthOf (sym z); list-is = h .list-is ∙ ap (λ (o : Option (List ℕ)). overBy o l) (sym z) }
+laid-plain table s t q other l l′ r h = rw (found (shown table s t q) refl (q .code) (q .form) (none-of (Unit {0}) 5 others (q .code) other) allTexts all-plain) h

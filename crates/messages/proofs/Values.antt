@@ -1,15 +1,13 @@
 -- The text that a code and a form have, with its values or without one of them.
 -- Assumes nothing.
 use Prim.Native.Nat.{ℕ}
-use mathlib.Core.Path.{_≡_, refl, sym, ap, _∙_}
-use mathlib.Core.List.{List, [], _∷_}
+use mathlib.Core.Path.{_≡_, refl}
+use mathlib.Core.List.{List}
 use mathlib.Core.Option.{Option, some, none}
 use Rattle.texts.specs.Texts.{Code, Hole, documentTexts, numberTexts, markerTexts, attributeTexts}
 use Rattle.texts.specs.Texts as texts
-use Rattle.texts.specs.Filled.{Values, allTexts, codeOf, formOf, textIn, formIn, filledBy, lengthOf, overBy}
-use Rattle.texts.specs.Inner.{values, laidOf, LaidAs, LaidFrom}
-use Rattle.texts.specs.declared.Laid.{Laid}
-use Rattle.texts.specs.declared.Laid.the-variants as laid
+use Rattle.texts.specs.Filled.{Values, allTexts, codeOf, textIn, filledBy}
+use Rattle.texts.specs.Inner.{values}
 use Rattle.messages.specs.Message.{Asked, shown, three, textBy}
 use Rattle.messages.specs.Inner.{LaidBy, LaidWith}
 
@@ -33,15 +31,11 @@ module _ (table s t : List ℕ) (q : Asked) (h1 h2 h3 : Hole) (k : Holes (q .cod
   asked : textBy (shown table s t q) (codeOf allTexts (q .code)) (q .form) ≡ filledBy (textIn allTexts (q .code) (q .form)) vs
   asked = rw (k .is, k .one, k .two, k .third)
 
-  pub laid-with : (a b c : List ℕ) → vs ≡ some (values a b c) → (l l′ : List ℕ) (r : Laid) → LaidWith q a b c l l′ r → LaidBy table s t q l l′ r
-  laid-with a b c e l l′ r h =
-      let z : textBy (shown table s t q) (codeOf allTexts (q .code)) (q .form) ≡ filledBy (textIn allTexts (q .code) (q .form)) (some (values a b c)) = asked ∙ ap (filledBy (textIn allTexts (q .code) (q .form))) e in
-      record { length-is = h .length-is ∙ ap lengthOf (sym z); list-is = h .list-is ∙ ap (λ (o : Option (List ℕ)). overBy o l) (sym z) }
+  pub laid-with : (a b c : List ℕ) → vs ≡ some (values a b c) → (l l′ : List ℕ) (r : ℕ) → LaidWith q a b c l l′ r → LaidBy table s t q l l′ r
+  laid-with a b c e l l′ r h = rw (asked, e) h
 
-  pub laid-lacks : vs ≡ none → (l : List ℕ) → LaidBy table s t q l l laid.Lacks
-  laid-lacks e l =
-      let z : textBy (shown table s t q) (codeOf allTexts (q .code)) (q .form) ≡ none = asked ∙ ap (filledBy (textIn allTexts (q .code) (q .form))) e ∙ unfilled (textIn allTexts (q .code) (q .form)) in
-      record { length-is = sym (ap lengthOf z); list-is = sym (ap (λ (o : Option (List ℕ)). overBy o l) z) }
+  pub laid-lacks : vs ≡ none → (l : List ℕ) → LaidBy table s t q l l 0
+  laid-lacks e l = rw (asked, e, unfilled) (record { answer-is = refl; list-is = refl })
 
 pub holes-5 : (n : ℕ) → n ≡ 5 → Holes n texts.bookCode texts.empty texts.empty
 unfolding allTexts documentTexts numberTexts markerTexts attributeTexts codeOf

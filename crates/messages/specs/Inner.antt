@@ -11,7 +11,6 @@ use Rattle.tape.specs.Forest.{Accepted}
 use Rattle.table.specs.Entries.{Entry, Indexed}
 use Rattle.texts.specs.Filled.{allTexts, codeOf}
 use Rattle.texts.specs.Inner.{LaidAs, LaidFrom}
-use Rattle.texts.specs.declared.Laid.{Laid}
 use Rattle.messages.specs.Message as message
 use Rattle.messages.specs.Message.{shown, textBy}
 use Rattle.messages.specs.Told as told
@@ -35,12 +34,12 @@ pub record Readable (table words : List ℕ) (entries : ℕ) (s t : List ℕ) (n
   pub short : length s ≤ 1048576
   pub inside : node < count t
 
--- the text that is asked for is laid over the list, if there is one
-abbrev pub LaidBy : List ℕ → List ℕ → List ℕ → message.Asked → List ℕ → List ℕ → Laid → Type 0
+-- the text that is asked for is laid over the list, if there is one and it has room
+abbrev pub LaidBy : List ℕ → List ℕ → List ℕ → message.Asked → List ℕ → List ℕ → ℕ → Type 0
 LaidBy table s t q l l′ r = LaidAs (textBy (shown table s t q) (codeOf allTexts (q .code)) (q .form)) l l′ r
 
--- the text of the code and the form with these values is laid over the list, if there is one
-abbrev pub LaidWith : message.Asked → List ℕ → List ℕ → List ℕ → List ℕ → List ℕ → Laid → Type 0
+-- the text of the code and the form with these values is laid over the list, if there is one and it has room
+abbrev pub LaidWith : message.Asked → List ℕ → List ℕ → List ℕ → List ℕ → List ℕ → ℕ → Type 0
 LaidWith q a b c l l′ r = LaidFrom allTexts (q .code) (q .form) a b c l l′ r
 
 -- "`\fr` outside a note shows the table's name"

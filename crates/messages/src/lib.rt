@@ -1,7 +1,6 @@
 // The text of a finding: numbers 1 to 9, 12 and 13, or the Rust's text laid over a lent list from its start.
 use marking::Gate;
 use table::Info;
-use texts::Laid;
 ghost use mathlib.Core.Path.{_≡_};
 ghost use mathlib.Core.List.{List, [], _++_};
 ghost use mathlib.Core.Logic.{_⊎_};
@@ -92,7 +91,7 @@ fn label_shown<'a, 'b, 'c, 'd>(
 }
 
 // A text of two numbers.
-fn lay_numbers(code: u64, form: u64, first: u64, second: u64, out: &mut [u8]) -> Laid
+fn lay_numbers(code: u64, form: u64, first: u64, second: u64, out: &mut [u8]) -> usize
     ensures { λ r. ⌜ LaidFrom allTexts code form (decimal first) (decimal second) [] (now (out .entry)) (now (out .exit)) r ⌝ }
 {
     let mut x = [0u8; 20];
@@ -103,7 +102,14 @@ fn lay_numbers(code: u64, form: u64, first: u64, second: u64, out: &mut [u8]) ->
 }
 
 // A text of a verse position, whose letter is a byte or none, and a label.
-fn lay_position(code: u64, form: u64, first: u64, second: u64, label: &[u8], out: &mut [u8]) -> Laid
+fn lay_position(
+    code: u64,
+    form: u64,
+    first: u64,
+    second: u64,
+    label: &[u8],
+    out: &mut [u8],
+) -> usize
     requires { ⌜ (second ≤ 127) × (length (now label) ≤ 1048576) ⌝ }
     ensures { λ r. ⌜ LaidFrom allTexts code form (decimal first ++ letter second) (now (label .entry)) [] (now (out .entry)) (now (out .exit)) r ⌝ }
 {
@@ -126,16 +132,16 @@ fn lay_verse(
     tape: &[u8],
     q: Asked,
     out: &mut [u8],
-) -> Laid
+) -> usize
     requires { ⌜ (Readable (now table) (now words) entries (now source) (now tape) (q .node)) × (q .code ≡ 11) ⌝ }
     ensures { λ r. ⌜ LaidBy (now (table .entry)) (now (source .entry)) (now (tape .entry)) (askedBy q) (now (out .entry)) (now (out .exit)) r ⌝ }
 {
     if 127 < q.second {
-        return Laid::Lacks;
+        return 0;
     }
     let label = label_shown(table, words, entries, source, tape, q.node as usize);
     if label.len() == 0 {
-        return Laid::Lacks;
+        return 0;
     }
     lay_position(q.code, q.form, q.first, q.second, label, out)
 }
@@ -149,19 +155,19 @@ fn lay_label(
     tape: &[u8],
     q: Asked,
     out: &mut [u8],
-) -> Laid
+) -> usize
     requires { ⌜ (Readable (now table) (now words) entries (now source) (now tape) (q .node)) × (q .code ≡ 15) ⌝ }
     ensures { λ r. ⌜ LaidBy (now (table .entry)) (now (source .entry)) (now (tape .entry)) (askedBy q) (now (out .entry)) (now (out .exit)) r ⌝ }
 {
     let label = label_shown(table, words, entries, source, tape, q.node as usize);
     if label.len() == 0 {
-        return Laid::Lacks;
+        return 0;
     }
     texts::lay_text(q.code, q.form, label, b"", b"", out)
 }
 
 // A name, the label that is glued to it, and what the name is without it.
-fn lay_parts(code: u64, form: u64, name: &[u8], label: &[u8], out: &mut [u8]) -> Laid
+fn lay_parts(code: u64, form: u64, name: &[u8], label: &[u8], out: &mut [u8]) -> usize
     requires { ⌜ (length (now label) ≤ length (now name)) × (length (now name) ≤ 1048576) ⌝ }
     ensures { λ r. ⌜ LaidFrom allTexts code form (now (name .entry)) (take (length (now (name .entry)) - length (now (label .entry))) (now (name .entry))) (now (label .entry)) (now (out .entry)) (now (out .exit)) r ⌝ }
 {
@@ -178,18 +184,18 @@ fn lay_glued<'a>(
     tape: &[u8],
     q: Asked,
     out: &mut [u8],
-) -> Laid
+) -> usize
     requires { ⌜ (Readable (now table) (now words) entries (now source) (now tape) (q .node)) × (q .code ≡ 34) ⌝ }
     ensures { λ r. ⌜ LaidBy (now (table .entry)) (now (source .entry)) (now (tape .entry)) (askedBy q) (now (out .entry)) (now (out .exit)) r ⌝ }
 {
     let i = q.node as usize;
     if !numbers::is_numbered(tape::kind_at(tape, i)) {
-        return Laid::Lacks;
+        return 0;
     }
     let info = cursor::marker_info(table, words, entries, tape, i);
     let text = cursor::text(source, tape, i);
     if !numbers::is_glued(info, text) {
-        return Laid::Lacks;
+        return 0;
     }
     let name = name_shown(table, words, entries, source, tape, i, q.code);
     let label = numbers::number_label(info, text);
@@ -205,17 +211,17 @@ fn lay_entry<'a>(
     tape: &[u8],
     q: Asked,
     out: &mut [u8],
-) -> Laid
+) -> usize
     requires { ⌜ (Readable (now table) (now words) entries (now source) (now tape) (q .node)) × ((q .code ≡ 13) ⊎ (q .code ≡ 24)) ⌝ }
     ensures { λ r. ⌜ LaidBy (now (table .entry)) (now (source .entry)) (now (tape .entry)) (askedBy q) (now (out .entry)) (now (out .exit)) r ⌝ }
 {
     if q.node == 0 {
-        return Laid::Lacks;
+        return 0;
     }
     let i = q.node as usize;
     let name = name_shown(table, words, entries, source, tape, i, q.code);
     if name.len() == 0 {
-        return Laid::Lacks;
+        return 0;
     }
     texts::lay_text(q.code, q.form, name, b"", b"", out)
 }
@@ -229,17 +235,17 @@ fn lay_base<'a>(
     tape: &[u8],
     q: Asked,
     out: &mut [u8],
-) -> Laid
+) -> usize
     requires { ⌜ (Readable (now table) (now words) entries (now source) (now tape) (q .node)) × (q .code ≡ 16) ⌝ }
     ensures { λ r. ⌜ LaidBy (now (table .entry)) (now (source .entry)) (now (tape .entry)) (askedBy q) (now (out .entry)) (now (out .exit)) r ⌝ }
 {
     if q.node == 0 {
-        return Laid::Lacks;
+        return 0;
     }
     let i = q.node as usize;
     let name = name_shown(table, words, entries, source, tape, i, q.code);
     if !is_paired(name) {
-        return Laid::Lacks;
+        return 0;
     }
     texts::lay_text(q.code, q.form, milestones::base(name), b"", b"", out)
 }
@@ -263,15 +269,15 @@ fn lay_owner<'a>(
     tape: &[u8],
     q: Asked,
     out: &mut [u8],
-) -> Laid
+) -> usize
     requires { ⌜ (Readable (now table) (now words) entries (now source) (now tape) (q .node)) × (q .code ≡ 32) ⌝ }
     ensures { λ r. ⌜ LaidBy (now (table .entry)) (now (source .entry)) (now (tape .entry)) (askedBy q) (now (out .entry)) (now (out .exit)) r ⌝ }
 {
     if q.first == 0 {
-        return Laid::Lacks;
+        return 0;
     }
     if tape.len() as u64 / 16 <= q.first {
-        return Laid::Lacks;
+        return 0;
     }
     let i = q.first as usize;
     let name = name_shown(table, words, entries, source, tape, i, q.code);
@@ -279,7 +285,7 @@ fn lay_owner<'a>(
 }
 
 // A name of an alternate or a published number, the letter of its owner's marker and what its owner is.
-fn lay_unit(code: u64, form: u64, name: &[u8], out: &mut [u8]) -> Laid
+fn lay_unit(code: u64, form: u64, name: &[u8], out: &mut [u8]) -> usize
     requires { ⌜ (1 ≤ length (now name)) × (length (now name) ≤ 1048576) ⌝ }
     ensures { λ r. ⌜ LaidFrom allTexts code form (now (name .entry)) (take 1 (now (name .entry))) (unitOf (eqb (getD (now (name .entry)) 0 0) 0x63)) (now (out .entry)) (now (out .exit)) r ⌝ }
 {
@@ -298,33 +304,33 @@ fn lay_number<'a>(
     tape: &[u8],
     q: Asked,
     out: &mut [u8],
-) -> Laid
+) -> usize
     requires { ⌜ (Readable (now table) (now words) entries (now source) (now tape) (q .node)) × (q .code ≡ 33) ⌝ }
     ensures { λ r. ⌜ LaidBy (now (table .entry)) (now (source .entry)) (now (tape .entry)) (askedBy q) (now (out .entry)) (now (out .exit)) r ⌝ }
 {
     if q.node == 0 {
-        return Laid::Lacks;
+        return 0;
     }
     let i = q.node as usize;
     let name = name_shown(table, words, entries, source, tape, i, q.code);
     if !opens::is_one_of_four(name) {
-        return Laid::Lacks;
+        return 0;
     }
     lay_unit(q.code, q.form, name, out)
 }
 
 // InvalidBookCode.
-fn lay_book(source: &[u8], tape: &[u8], q: Asked, out: &mut [u8]) -> Laid
+fn lay_book(source: &[u8], tape: &[u8], q: Asked, out: &mut [u8]) -> usize
     requires { ⌜ (Accepted (now source) (now tape)) × (length (now source) ≤ 1048576) × (q .node < count (now tape)) × (q .code ≡ 5) ⌝ }
     ensures { λ r. ⌜ ((table : List ℕ) → LaidBy table (now (source .entry)) (now (tape .entry)) (askedBy q) (now (out .entry)) (now (out .exit)) r) ⌝ }
 {
     let i = q.node as usize;
     if tape::kind_at(tape, i) != 1 {
-        return Laid::Lacks;
+        return 0;
     }
     let code = opens::book_code(source, tape, i + 1, tape::link_at(tape, i) as usize);
     if code.len() == 0 {
-        return Laid::Lacks;
+        return 0;
     }
     texts::lay_text(q.code, q.form, code, b"", b"", out)
 }
@@ -338,7 +344,7 @@ fn lay<'a>(
     tape: &[u8],
     q: Asked,
     out: &mut [u8],
-) -> Laid
+) -> usize
     requires { ⌜ Readable (now table) (now words) entries (now source) (now tape) (q .node) ⌝ }
     ensures { λ r. ⌜ LaidBy (now (table .entry)) (now (source .entry)) (now (tape .entry)) (askedBy q) (now (out .entry)) (now (out .exit)) r ⌝ }
 {
@@ -360,7 +366,7 @@ fn lay<'a>(
     }
 }
 
-// Numbers 12 and 13, or the text. It is laid over no list first, which says how long it is.
+// Numbers 12 and 13, or the text.
 pub fn message_in<'a>(
     table: &'a [u8],
     words: &[u64],
@@ -376,16 +382,15 @@ pub fn message_in<'a>(
     if tape.len() as u64 / 16 <= q.node {
         return Told::Refused(12, 0);
     }
-    match lay(table, words, entries, source, tape, q, &mut out[..0]) {
-        Laid::Lacks => Told::Refused(12, 0),
-        Laid::Length(n) => {
-            if out.len() < n {
-                return Told::Refused(13, n as u64);
-            }
-            lay(table, words, entries, source, tape, q, out);
-            Told::Laid(n)
-        }
+    let n = lay(table, words, entries, source, tape, q, out);
+    if n == 0 {
+        return Told::Refused(12, 0);
     }
+    let len = n - 1;
+    if out.len() < len {
+        return Told::Refused(13, len as u64);
+    }
+    Told::Laid(len)
 }
 
 // The text of a finding: whatever is lent, the answer and the list at exit are the definition's.

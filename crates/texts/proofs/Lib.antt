@@ -1,3 +1,4 @@
 pub mod Capitals
 pub mod Filling
+pub mod Room
 pub mod Choosing

@@ -4,10 +4,8 @@ use mathlib.Core.Bool.{Bool, true, false}
 use mathlib.Core.List.{List, [], _∷_, _++_}
 use mathlib.Core.Option.{Option, some, none}
 use lib.Dec.{eqb}
-use lib.ListN.{length}
 use Rattle.validate.specs.Checks.{upper}
 use Rattle.numbers.specs.Label.{pickList}
-use Rattle.laying.specs.Over.{over}
 use Rattle.texts.specs.Texts.{Code, documentTexts, numberTexts, markerTexts, attributeTexts}
 
 -- three values
@@ -58,12 +56,3 @@ formIn (some c) form = formOf (c .forms) form
 
 abbrev pub textIn : List Code → ℕ → ℕ → Option (List ℕ)
 textIn cs code form = formIn (codeOf cs code) form
-
--- a text that there is, laid over a list from its start: how long it is, and the list afterwards
-abbrev pub lengthOf : Option (List ℕ) → Option ℕ
-lengthOf none = none
-lengthOf (some s) = some (length s)
-
-abbrev pub overBy : Option (List ℕ) → List ℕ → List ℕ
-overBy none l = l
-overBy (some s) l = over l 0 s

@@ -1,13 +1,14 @@
 -- What the functions that lay a text promise.
-use Prim.Native.Nat.{ℕ, zero, suc, _<_, _≤_}
+use Prim.Native.Nat.{ℕ, zero, suc, _+_, _<_, _≤_}
 use mathlib.Core.Path.{_≡_}
 use mathlib.Core.List.{List, [], _∷_}
 use mathlib.Core.Option.{Option, some, none}
+use lib.Dec.{ltb}
 use lib.ListN.{length, getD}
+use Rattle.numbers.specs.Label.{pickList}
+use Rattle.laying.specs.Over.{over}
 use Rattle.texts.specs.Texts.{Code}
-use Rattle.texts.specs.Filled.{Values, filledBy, textIn, lengthOf, overBy}
-use Rattle.texts.specs.declared.Laid.{Laid}
-use Rattle.texts.specs.declared.Laid.the-variants as laid
+use Rattle.texts.specs.Filled.{Values, filledBy, textIn}
 
 abbrev pub values : List ℕ → List ℕ → List ℕ → Values
 values a b c = record { a = a; b = b; c = c }
@@ -24,17 +25,23 @@ pub record Plain (text : List ℕ) (from end : ℕ) : Type 0 where
   pub inside : end ≤ length text
   pub above : (k : ℕ) → from ≤ k → k < end → 5 ≤ getD text k 0
 
-abbrev pub laidOf : Laid → Option ℕ
-laidOf (laid.Length n) = some n
-laidOf laid.Lacks = none
+-- what is answered: one more than the text's length, or 0 where there is none
+abbrev pub lengthBy : Option (List ℕ) → ℕ
+lengthBy none = 0
+lengthBy (some s) = length s + 1
 
--- the text is laid over the list, if there is one
-pub record LaidAs (o : Option (List ℕ)) (l l′ : List ℕ) (r : Laid) : Type 0 where
-  pub length-is : laidOf r ≡ lengthOf o
+-- the list afterwards: with the text laid over its start, if that has room
+abbrev pub overBy : Option (List ℕ) → List ℕ → List ℕ
+overBy none l = l
+overBy (some s) l = pickList (ltb (length l) (length s)) l (over l 0 s)
+
+-- the text is laid over the list, if there is one and it has room
+pub record LaidAs (o : Option (List ℕ)) (l l′ : List ℕ) (r : ℕ) : Type 0 where
+  pub answer-is : r ≡ lengthBy o
   pub list-is : l′ ≡ overBy o l
 
 -- the text that the code and the form have among these, with the values
-abbrev pub LaidFrom : List Code → ℕ → ℕ → List ℕ → List ℕ → List ℕ → List ℕ → List ℕ → Laid → Type 0
+abbrev pub LaidFrom : List Code → ℕ → ℕ → List ℕ → List ℕ → List ℕ → List ℕ → List ℕ → ℕ → Type 0
 LaidFrom cs code form a b c l l′ r = LaidAs (filledBy (textIn cs code form) (some (values a b c))) l l′ r
 
 -- of a code's texts in order, that of a form
@@ -44,5 +51,5 @@ textOf (t ∷ ts) zero = some t
 textOf (t ∷ ts) (suc k) = textOf ts k
 
 -- the text that the form has among these, with the values
-pub record LaidOf (ts : List (List ℕ)) (form : ℕ) (a b c l l′ : List ℕ) (r : Laid) : Type 0 where
+pub record LaidOf (ts : List (List ℕ)) (form : ℕ) (a b c l l′ : List ℕ) (r : ℕ) : Type 0 where
   pub laid-as : LaidAs (filledBy (textOf ts form) (some (values a b c))) l l′ r

@@ -1,6 +1,7 @@
 // The texts of findings: the text that a code and a form have, laid over a lent list with its values in their places.
 ghost use mathlib.Core.Path.{_≡_};
 ghost use mathlib.Core.List.{[], _∷_, _++_};
+ghost use mathlib.Core.Option.{some};
 ghost use Prim.Native.Nat.{_-_, _≤_};
 ghost use lib.ListN.{length, drop};
 ghost use Rattle.text.specs.Pick.{within, pickNat};
@@ -8,13 +9,7 @@ ghost use Rattle.validate.specs.Checks.{upper};
 ghost use Rattle.laying.specs.Over.{Put, limit};
 ghost use Rattle.texts.specs.Texts.{numberTexts, markerTexts, attributeTexts};
 ghost use Rattle.texts.specs.Filled.{byteOf, filled, allTexts};
-ghost use Rattle.texts.specs.Inner.{values, Short, Plain, LaidFrom, LaidOf};
-
-// How long the text is that was laid, or that there is none.
-pub enum Laid {
-    Length(usize),
-    Lacks,
-}
+ghost use Rattle.texts.specs.Inner.{values, Short, Plain, LaidAs, LaidFrom, LaidOf};
 
 fn capital(b: u8) -> u8
     ensures { λ r. ⌜ r ≡ pickNat (within 0x61 0x7A b) (b - 32) b ⌝ }
@@ -87,20 +82,36 @@ fn fill(text: &[u8], a: &[u8], b: &[u8], c: &[u8], out: &mut [u8]) -> usize
     at
 }
 
+// The functions from here on lay a text if there is one and it has room, and give one more than its length, or 0 where there is none: a number is
+// handed back in a register, where an enum would be copied from function to function.
+
+// Lays a text with its values in their places if it has room. Its length is seldom in doubt: only where the list may be too short is it found first, by laying over no list.
+fn fill_within(text: &[u8], a: &[u8], b: &[u8], c: &[u8], out: &mut [u8]) -> usize
+    requires { ⌜ (length (now text) ≤ 256) × Short (now a) (now b) (now c) ⌝ }
+    ensures { λ r. ⌜ LaidAs (some (filled (now (text .entry)) (values (now (a .entry)) (now (b .entry)) (now (c .entry))))) (now (out .entry)) (now (out .exit)) r ⌝ }
+{
+    if out.len() < text.len() * (1 + a.len() + b.len() + c.len()) {
+        let n = fill(text, a, b, c, &mut out[..0]);
+        if out.len() < n {
+            return n + 1;
+        }
+    }
+    fill(text, a, b, c, out) + 1
+}
+
 // The text of a code that has one form.
-fn one(form: u64, text: &[u8], a: &[u8], b: &[u8], c: &[u8], out: &mut [u8]) -> Laid
+fn one(form: u64, text: &[u8], a: &[u8], b: &[u8], c: &[u8], out: &mut [u8]) -> usize
     requires { ⌜ (length (now text) ≤ 256) × Short (now a) (now b) (now c) ⌝ }
     ensures { λ r. ⌜ LaidOf (now (text .entry) ∷ []) form (now (a .entry)) (now (b .entry)) (now (c .entry)) (now (out .entry)) (now (out .exit)) r ⌝ }
 {
     if form == 0 {
-        let length = fill(text, a, b, c, out);
-        return Laid::Length(length);
+        return fill_within(text, a, b, c, out);
     }
-    Laid::Lacks
+    0
 }
 
 // The text of a code that has two.
-fn two(form: u64, text0: &[u8], text1: &[u8], a: &[u8], b: &[u8], c: &[u8], out: &mut [u8]) -> Laid
+fn two(form: u64, text0: &[u8], text1: &[u8], a: &[u8], b: &[u8], c: &[u8], out: &mut [u8]) -> usize
     requires { ⌜ (length (now text0) ≤ 256) × (length (now text1) ≤ 256) × Short (now a) (now b) (now c) ⌝ }
     ensures { λ r. ⌜ LaidOf (now (text0 .entry) ∷ now (text1 .entry) ∷ []) form (now (a .entry)) (now (b .entry)) (now (c .entry)) (now (out .entry)) (now (out .exit)) r ⌝ }
 {
@@ -121,7 +132,7 @@ fn four(
     b: &[u8],
     c: &[u8],
     out: &mut [u8],
-) -> Laid
+) -> usize
     requires { ⌜ (length (now text0) ≤ 256) × (length (now text1) ≤ 256) × (length (now text2) ≤ 256) × (length (now text3) ≤ 256) × Short (now a) (now b) (now c) ⌝ }
     ensures { λ r. ⌜ LaidOf (now (text0 .entry) ∷ now (text1 .entry) ∷ now (text2 .entry) ∷ now (text3 .entry) ∷ []) form (now (a .entry)) (now (b .entry)) (now (c .entry)) (now (out .entry)) (now (out .exit)) r ⌝ }
 {
@@ -134,7 +145,7 @@ fn four(
 // A text is made in its own arm, by a `*`: a byte string that is borrowed as it stands is stored where its function starts, whatever the code is.
 
 // The codes of the document and its book, else those below.
-fn document_text(code: u64, form: u64, a: &[u8], b: &[u8], c: &[u8], out: &mut [u8]) -> Laid
+fn document_text(code: u64, form: u64, a: &[u8], b: &[u8], c: &[u8], out: &mut [u8]) -> usize
     requires { ⌜ Short (now a) (now b) (now c) ⌝ }
     ensures { λ r. ⌜ LaidFrom allTexts code form (now (a .entry)) (now (b .entry)) (now (c .entry)) (now (out .entry)) (now (out .exit)) r ⌝ }
 {
@@ -165,7 +176,7 @@ fn document_text(code: u64, form: u64, a: &[u8], b: &[u8], c: &[u8], out: &mut [
 }
 
 // Of the codes of chapters and verses the first five, else those below.
-fn number_text(code: u64, form: u64, a: &[u8], b: &[u8], c: &[u8], out: &mut [u8]) -> Laid
+fn number_text(code: u64, form: u64, a: &[u8], b: &[u8], c: &[u8], out: &mut [u8]) -> usize
     requires { ⌜ Short (now a) (now b) (now c) ⌝ }
     ensures { λ r. ⌜ LaidFrom (numberTexts ++ markerTexts ++ attributeTexts) code form (now (a .entry)) (now (b .entry)) (now (c .entry)) (now (out .entry)) (now (out .exit)) r ⌝ }
 {
@@ -197,7 +208,7 @@ fn number_text(code: u64, form: u64, a: &[u8], b: &[u8], c: &[u8], out: &mut [u8
 }
 
 // The others of them, else those below.
-fn more_number_text(code: u64, form: u64, a: &[u8], b: &[u8], c: &[u8], out: &mut [u8]) -> Laid
+fn more_number_text(code: u64, form: u64, a: &[u8], b: &[u8], c: &[u8], out: &mut [u8]) -> usize
     requires { ⌜ Short (now a) (now b) (now c) ⌝ }
     ensures { λ r. ⌜ LaidFrom (drop 5 numberTexts ++ markerTexts ++ attributeTexts) code form (now (a .entry)) (now (b .entry)) (now (c .entry)) (now (out .entry)) (now (out .exit)) r ⌝ }
 {
@@ -223,7 +234,7 @@ fn more_number_text(code: u64, form: u64, a: &[u8], b: &[u8], c: &[u8], out: &mu
 }
 
 // Of the codes of markers the first four, else those below.
-fn marker_text(code: u64, form: u64, a: &[u8], b: &[u8], c: &[u8], out: &mut [u8]) -> Laid
+fn marker_text(code: u64, form: u64, a: &[u8], b: &[u8], c: &[u8], out: &mut [u8]) -> usize
     requires { ⌜ Short (now a) (now b) (now c) ⌝ }
     ensures { λ r. ⌜ LaidFrom (markerTexts ++ attributeTexts) code form (now (a .entry)) (now (b .entry)) (now (c .entry)) (now (out .entry)) (now (out .exit)) r ⌝ }
 {
@@ -250,7 +261,7 @@ fn marker_text(code: u64, form: u64, a: &[u8], b: &[u8], c: &[u8], out: &mut [u8
 }
 
 // The others of them, else those below.
-fn more_marker_text(code: u64, form: u64, a: &[u8], b: &[u8], c: &[u8], out: &mut [u8]) -> Laid
+fn more_marker_text(code: u64, form: u64, a: &[u8], b: &[u8], c: &[u8], out: &mut [u8]) -> usize
     requires { ⌜ Short (now a) (now b) (now c) ⌝ }
     ensures { λ r. ⌜ LaidFrom (drop 4 markerTexts ++ attributeTexts) code form (now (a .entry)) (now (b .entry)) (now (c .entry)) (now (out .entry)) (now (out .exit)) r ⌝ }
 {
@@ -281,7 +292,7 @@ fn more_marker_text(code: u64, form: u64, a: &[u8], b: &[u8], c: &[u8], out: &mu
 }
 
 // The codes of attributes, which are the last.
-fn attribute_text(code: u64, form: u64, a: &[u8], b: &[u8], c: &[u8], out: &mut [u8]) -> Laid
+fn attribute_text(code: u64, form: u64, a: &[u8], b: &[u8], c: &[u8], out: &mut [u8]) -> usize
     requires { ⌜ Short (now a) (now b) (now c) ⌝ }
     ensures { λ r. ⌜ LaidFrom attributeTexts code form (now (a .entry)) (now (b .entry)) (now (c .entry)) (now (out .entry)) (now (out .exit)) r ⌝ }
 {
@@ -301,12 +312,12 @@ fn attribute_text(code: u64, form: u64, a: &[u8], b: &[u8], c: &[u8], out: &mut 
             let text = *b"\\\x01 has no default attribute; the value after `|` is invalid";
             one(form, &text, a, b, c, out)
         }
-        _ => Laid::Lacks,
+        _ => 0,
     }
 }
 
 // The text that the code and the form have.
-pub fn lay_text(code: u64, form: u64, a: &[u8], b: &[u8], c: &[u8], out: &mut [u8]) -> Laid
+pub fn lay_text(code: u64, form: u64, a: &[u8], b: &[u8], c: &[u8], out: &mut [u8]) -> usize
     requires { ⌜ Short (now a) (now b) (now c) ⌝ }
     ensures { λ r. ⌜ LaidFrom allTexts code form (now (a .entry)) (now (b .entry)) (now (c .entry)) (now (out .entry)) (now (out .exit)) r ⌝ }
 {

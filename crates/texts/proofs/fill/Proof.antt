@@ -3,10 +3,10 @@
 use borrow.Author.Needs.{needs}
 use Prim.Native.Nat.{_-_}
 use native.Mathlib.Omega.{arith}
-use mathlib.Core.Path.{_∙_}
+use denote.Ref.{now}
 use lib.ListN.{length}
 use Rattle.texts.specs.Inner.{values}
-use Rattle.texts.proofs.Filling.{Filling, filling-start, filling-run, filling-on, filling-end}
+use Rattle.texts.proofs.Filling.{Filling, filling-start, filling-run, filling-on, filling-low, filling-end}
 use Rattle.texts.proofs.fill.Statement.{statement}
 use Rattle.texts.proofs.fill.Tie as tie
 
@@ -32,22 +32,28 @@ part-put-end : tie.Need-part-put-end Inv-loop μ-loop
 part-put-end c = search needs
 
 put-requires : tie.Need-put-requires Inv-loop μ-loop
-put-requires c κs = search needs
+put-requires c κs =
+    let s = c .before .before .before .before .before .before .before .before .before .before in
+    (filling-low _ _ _ _ _ _ _ _ (c .before .before .before .before .loop .inv) (s .pre .0) (s .pre .1), search needs)
+
+-- what is left behind a run
+run : (c : tie.After-put Inv-loop μ-loop) → let a = c .before .before .before .before .before .before .before .before .before .before .before .args in Filling (now (a .text)) (values (now (a .a)) (now (a .b)) (now (a .c))) (now (a .out)) (c .put .last .0) (c .put .result) (c .before .before .before .plain-end .result)
+run c = filling-run _ _ _ _ _ _ _ _ (c .before .before .before .before .before .loop .inv) _ _ (c .put .kept .0) _ (c .before .before .before .plain-end .ensures) (c .put .ensures)
 
 same-length : tie.Need-same-length Inv-loop μ-loop
-same-length c = c .before .before .before .put .kept .0 ∙ c .before .before .before .before .before .before .before .before .loop .inv .same
+same-length c = run (c .before .before .before) .same
 
 returns : tie.Need-returns Inv-loop μ-loop
-returns c =
-    let p = c .before .before .before .put in
-    let v = filling-run _ _ _ _ _ _ _ _ (c .before .before .before .before .before .before .before .before .loop .inv) _ _ (p .kept .0) _ (c .before .before .before .before .before .before .plain-end .ensures) (p .ensures) in
-    filling-end _ _ _ _ _ _ _ _ v (omega arith)
+returns c = filling-end _ _ _ _ _ _ _ _ (run (c .before .before .before)) (omega arith)
 
 shared-slice-read-put-value : tie.Need-shared-slice-read-put-value Inv-loop μ-loop
 shared-slice-read-put-value c = search needs
 
 put-value-requires : tie.Need-put-value-requires Inv-loop μ-loop
-put-value-requires c κs = search needs
+put-value-requires c κs =
+    let d = c .before .before .before .before .before in
+    let s = d .before .before .before .before .before .before .before .before .before .before .before in
+    (filling-low _ _ _ _ _ _ _ _ (run d) (s .pre .0) (s .pre .1), s .pre .1)
 
 add-i : tie.Need-add-i Inv-loop μ-loop
 add-i c = search needs
@@ -57,11 +63,9 @@ loop-less c = search needs
 
 loop-again : tie.Need-loop-again Inv-loop μ-loop
 loop-again c =
-    let p = c .before .before .before .before .before .before .before .before .put in
-    let e = c .before .before .before .before .before .before .before .before .before .before .before .plain-end .ensures in
-    let v = filling-run _ _ _ _ _ _ _ _ (c .before .before .before .before .before .before .before .before .before .before .before .before .before .loop .inv) _ _ (p .kept .0) _ e (p .ensures) in
+    let d = c .before .before .before .before .before .before .before .before in
     let w = c .before .before .put-value in
-    filling-on _ _ _ _ _ _ _ _ v _ _ (w .kept .1 .1 .1 .1 .0) (omega (arith, e .inside)) (c .before .before .before .before .before .before .before .before .before .before .before .before .before .before .before .before .before .before .before .pre .1) (w .ensures)
+    filling-on _ _ _ _ _ _ _ _ (run d) _ _ (w .kept .1 .1 .1 .1 .0) (omega (arith, d .before .before .before .plain-end .ensures .inside)) (w .ensures)
 
 same-length-2 : tie.Need-same-length-2 Inv-loop μ-loop
 same-length-2 c = c .before .loop .inv .same
