@@ -4,8 +4,8 @@ c=hw.Crate(hw.ROOT, 'marking',types=['validate::OpenStart','running::Record','ru
   calls=['tape::link_at','checker::walk','closing::unclosed','closing::clear_seen','closing::clear_opens'],hand='references')
 U=['use Prim.Native.Nat.{_/_}','use Rattle.tape.specs.Nodes.{count, linkAt}','use Rattle.tape.specs.Nodes.{count as nodes}','use Rattle.cursor.specs.Inner.{Run}','use Rattle.findings.specs.Written.{Wrote, Room, total, limit}','use Rattle.validate.specs.Document as Document','use Rattle.validate.specs.Outcome.{noStart, cleared}','use Rattle.running.specs.Running.{starts, countsOf, aroundOf}','use Rattle.closing.specs.Ends.{Left}','use Rattle.checker.specs.Walking.{Ready, Walked, walkAt}',
  'use Rattle.marking.specs.Entry.{Begun, Endable, Ended, Ran, Fit, Finished, answerOf, reported}']
-U+=['use Rattle.validate.specs.Outcome.{answer, listAfter, seenAfter, openAfter}','use Rattle.marking.specs.Entry.{gateOf, fromTable, Passed, lent}']
-fs=['link_at','begun','walk','unclosed','ended','run','clear_seen','clear_opens','reported','node_count','table_gate','checked']
+U+=['use mathlib.Core.Option.{none}','use Rattle.table.specs.Entries.{Indexed}','use Rattle.validate.specs.Outcome.{answer, listAfter, seenAfter, openAfter}','use Rattle.marking.specs.Entry.{gateOf, fromTable, Passed, lent}']
+fs=['link_at','begun','walk','unclosed','ended','run','clear_seen','clear_opens','reported','node_count','table_gate','checked','passed']
 c.call_files(fs, U)
 
 L=U+['use Rattle.references.proofs.Sizes.{less-fits, wide, part-fits}','use Rattle.tape.proofs.OneNumber.{some-nodes}','use Rattle.marking.proofs.Course.{first-run, walk-asks, left-asks, end-asks, ran-whole, seen-inside, opens-inside, finished-whole}']
@@ -24,11 +24,19 @@ hw.write_function(c,'checked',dict(uses=L,
     'reported':dict(req='says-run .low')},
   returns=['finished-whole req list₀ (z-run .1 .1 .1 .0) _ says-run len-run-list _ _ says-node-count (ap (λ (k : ℕ). k / 8) (list-n ∙ sym len-run-list)) (z-run .1 .0) _ (z-run .1 .1 .0) _ len-run-seen len-run-opens says-clear-seen says-clear-opens _ says-reported']))
 
-T='table₀ source₀ tape₀ seen₀ opens₀ list₀ (z-table-gate .0) (seen-at .n) (opens-at .n) seen-n opens-n says-table-gate-number'
-S='(shut-so %s _ _ told-1)'%T
-G='(through %s _ _ told-1 says-node-count _ _ _ _ says-checked)'%T
+B='table₀ source₀ tape₀ seen₀ opens₀ list₀'
+P='%s (req .1) (z-node-count .0) says-node-count'%B
+G='(through %s _ _ _ _ says-checked)'%P
+V=['use Rattle.marking.proofs.Through.{shut-so, open-so, part-seen, part-opens, part-fit, through}']
 
-hw.write_function(c,'check',dict(uses=L+['use Rattle.marking.proofs.Through.{shut-so, part-seen, part-opens, part-fit, through}'],
-  calls={'table_gate':dict(req='as-long @_7'),'checked':dict(req='part-fit %s _ _ told-1 says-node-count $_7 says-table-gate-index'%T)},
-  parts={'seen':'part-seen %s _ _ told-1 says-node-count'%T,'opens':'part-opens %s _ _ told-1 says-node-count'%T},
-  returns=[[G+' .0',G+' .1 .0',G+' .1 .1 .0',G+' .1 .1 .1'],[S+' .0',S+' .1 .0',S+' .1 .1 .0',S+' .1 .1 .1']]))
+hw.write_function(c,'passed',dict(uses=L+V,
+  calls={'checked':dict(req='part-fit %s words₀ entries₀ (req .0)'%P)},
+  parts={'seen':'part-seen %s'%P,'opens':'part-opens %s'%P},
+  returns=[[G+' .0',G+' .1 .0',G+' .1 .1 .0',G+' .1 .1 .1']]))
+
+T='%s (z-table-gate .0) (seen-at .n) (opens-at .n) seen-n opens-n says-table-gate-number'%B
+S='(shut-so %s _ _ told-1)'%T
+
+hw.write_function(c,'check',dict(uses=L+V,
+  calls={'table_gate':dict(req='as-long @_7'),'passed':dict(req='open-so %s _ told-1 $_7 says-table-gate-index'%T)},
+  returns=[['says-passed-answer','says-passed-list','says-passed-seen','says-passed-opens'],[S+' .0',S+' .1 .0',S+' .1 .1 .0',S+' .1 .1 .1']]))

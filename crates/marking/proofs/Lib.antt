@@ -16,3 +16,4 @@ pub mod CallNodeCount
 pub mod Through
 pub mod CallTableGate
 pub mod CallChecked
+pub mod CallPassed

@@ -3,8 +3,10 @@
 use Prim.Native.Nat.{ℕ, _≤_}
 use mathlib.Core.Path.{_≡_, refl, sym, ap, _∙_}
 use mathlib.Core.List.{List, _++_}
+use mathlib.Core.Option.{none}
 use lib.ListN.{length, take, drop}
 use Rattle.tape.specs.Nodes.{count}
+use Rattle.table.specs.Entries.{Indexed}
 use Rattle.validate.specs.Outcome.{Lent, refused, answer, listAfter, seenAfter, openAfter}
 use Rattle.validate.specs.declared.OpenStart.{OpenStart}
 use Rattle.marking.specs.Entry.{answerOf, gateOf, Passed, fromTable, Fit, Finished, lent}
@@ -13,25 +15,31 @@ use Rattle.marking.specs.declared.Gate.{Gate}
 use Rattle.marking.specs.declared.Gate.the-variants as gate
 use Rattle.marking.proofs.Whole.{turned-back, seen-long, opens-long, fits, went-through}
 
-module _ (table s t seen : List ℕ) (opens : List OpenStart) (l : List ℕ) (g : Gate) (a b : ℕ) (a-is : a ≡ length seen) (b-is : b ≡ length opens) (says : gateOf g ≡ fromTable table s t a b) where
+module _ (table s t seen : List ℕ) (opens : List OpenStart) (l : List ℕ) where
   abbrev it : Lent
   it = lent table s t seen opens l
 
-  by-lists : gateOf g ≡ fromTable table s t (length seen) (length opens)
-  by-lists = says ∙ rw (a-is, b-is)
+  -- by the answer of the gate
+  module _ (g : Gate) (a b : ℕ) (a-is : a ≡ length seen) (b-is : b ≡ length opens) (says : gateOf g ≡ fromTable table s t a b) where
+    by-lists : gateOf g ≡ fromTable table s t (length seen) (length opens)
+    by-lists = says ∙ rw (a-is, b-is)
 
-  pub shut-so : (x y : ℕ) → g ≡ gate.Shut x y → (refused (record { number = x; place = y }) ≡ answer it) × ((l ≡ listAfter it) × ((seen ≡ seenAfter it) × (opens ≡ openAfter it)))
-  shut-so x y e = turned-back table s t seen opens l g by-lists x y e
+    pub shut-so : (x y : ℕ) → g ≡ gate.Shut x y → (refused (record { number = x; place = y }) ≡ answer it) × ((l ≡ listAfter it) × ((seen ≡ seenAfter it) × (opens ≡ openAfter it)))
+    shut-so x y e = turned-back table s t seen opens l g by-lists x y e
 
-  module _ (entries n : ℕ) (e : g ≡ gate.Open entries) (n-is : n ≡ count t) where
+    pub open-so : (entries : ℕ) → g ≡ gate.Open entries → (words : List ℕ) → Passed table words g → Indexed table words entries × (none ≡ fromTable table s t (length seen) (length opens))
+    open-so entries e words p = (rw e at p, sym (ap gateOf e) ∙ by-lists)
+
+  -- with the first entries of the working lists
+  module _ (unturned : none ≡ fromTable table s t (length seen) (length opens)) (n : ℕ) (n-is : n ≡ count t) where
     pub part-seen : n ≤ length seen
-    part-seen = rw n-is (seen-long table s t seen opens l g by-lists entries e)
+    part-seen = rw n-is (seen-long table s t seen opens l unturned)
 
     pub part-opens : n ≤ length opens
-    part-opens = rw n-is (opens-long table s t seen opens l g by-lists entries e)
+    part-opens = rw n-is (opens-long table s t seen opens l unturned)
 
-    pub part-fit : (words : List ℕ) → Passed table words g → Fit table words entries s t (take n seen) (take n opens)
-    part-fit words p = rw n-is (fits table s t seen opens l g by-lists entries e words p)
+    pub part-fit : (words : List ℕ) (entries : ℕ) → Indexed table words entries → Fit table words entries s t (take n seen) (take n opens)
+    part-fit words entries p = rw n-is (fits table s t seen opens l unturned words entries p)
 
     pub through : (seen′ : List ℕ) (opens′ : List OpenStart) (l′ : List ℕ) (r : Answer) → Finished table s t (take n seen) (take n opens) l seen′ opens′ l′ r → (answerOf r ≡ answer it) × ((l′ ≡ listAfter it) × ((seen′ ++ drop n seen ≡ seenAfter it) × (opens′ ++ drop n opens ≡ openAfter it)))
-    through seen′ opens′ l′ r f = rw n-is (went-through table s t seen opens l g by-lists entries e seen′ opens′ l′ r (rw n-is at f))
+    through seen′ opens′ l′ r f = rw n-is (went-through table s t seen opens l unturned seen′ opens′ l′ r (rw n-is at f))

@@ -43,36 +43,36 @@ module _ (table s t seen : List ℕ) (opens : List OpenStart) (l : List ℕ) whe
         let z : refusal it ≡ refuse a b = sym refusal-is ∙ sym says ∙ ap gateOf e in
         (rw z, (rw z, (rw z, rw z)))
 
-    -- not turned back
-    module _ (n : ℕ) (e : g ≡ gate.Open n) where
-      nothing : refusal it ≡ none
-      nothing = sym refusal-is ∙ sym says ∙ ap gateOf e
+  -- not turned back
+  module _ (unturned : none ≡ fromTable table s t (length seen) (length opens)) where
+    nothing : refusal it ≡ none
+    nothing = sym refusal-is ∙ sym unturned
 
-      after1 : orElse (of2 it) (orElse (of3 it) (orElse (ofTape it) (orElse (of9 it) (of10 it)))) ≡ none
-      unfolding refusal
-      after1 = neither (of1 it) (orElse (of2 it) (orElse (of3 it) (orElse (ofTape it) (orElse (of9 it) (of10 it))))) nothing .1
+    after1 : orElse (of2 it) (orElse (of3 it) (orElse (ofTape it) (orElse (of9 it) (of10 it)))) ≡ none
+    unfolding refusal
+    after1 = neither (of1 it) (orElse (of2 it) (orElse (of3 it) (orElse (ofTape it) (orElse (of9 it) (of10 it))))) nothing .1
 
-      short : length s ≤ 1048576
-      short = ltb-false 1048576 (length s) (only-not (ltb 1048576 (length s)) 2 0 (neither (of2 it) (orElse (of3 it) (orElse (ofTape it) (orElse (of9 it) (of10 it)))) after1 .0))
+    short : length s ≤ 1048576
+    short = ltb-false 1048576 (length s) (only-not (ltb 1048576 (length s)) 2 0 (neither (of2 it) (orElse (of3 it) (orElse (ofTape it) (orElse (of9 it) (of10 it)))) after1 .0))
 
-      fromTape-none : orElse (ofTape it) (orElse (of9 it) (of10 it)) ≡ none
-      fromTape-none = neither (of3 it) (orElse (ofTape it) (orElse (of9 it) (of10 it))) (neither (of2 it) (orElse (of3 it) (orElse (ofTape it) (orElse (of9 it) (of10 it)))) after1 .1) .1
+    fromTape-none : orElse (ofTape it) (orElse (of9 it) (of10 it)) ≡ none
+    fromTape-none = neither (of3 it) (orElse (ofTape it) (orElse (of9 it) (of10 it))) (neither (of2 it) (orElse (of3 it) (orElse (ofTape it) (orElse (of9 it) (of10 it)))) after1 .1) .1
 
-      ok : Accepted s t
-      ok = accepted s t .0 (neither (ofTape it) (orElse (of9 it) (of10 it)) fromTape-none .0)
+    ok : Accepted s t
+    ok = accepted s t .0 (neither (ofTape it) (orElse (of9 it) (of10 it)) fromTape-none .0)
 
-      long : shortList it ≡ false
-      long = only-not (shortList it) 10 (count t) (neither (of9 it) (of10 it) (neither (ofTape it) (orElse (of9 it) (of10 it)) fromTape-none .1) .1)
+    long : shortList it ≡ false
+    long = only-not (shortList it) 10 (count t) (neither (of9 it) (of10 it) (neither (ofTape it) (orElse (of9 it) (of10 it)) fromTape-none .1) .1)
 
-      pub seen-long : count t ≤ length seen
-      seen-long = ltb-false (length seen) (count t) (either-false (ltb (length seen) (count t)) (ltb (length opens) (count t)) long .0)
+    pub seen-long : count t ≤ length seen
+    seen-long = ltb-false (length seen) (count t) (either-false (ltb (length seen) (count t)) (ltb (length opens) (count t)) long .0)
 
-      pub opens-long : count t ≤ length opens
-      opens-long = ltb-false (length opens) (count t) (either-false (ltb (length seen) (count t)) (ltb (length opens) (count t)) long .1)
+    pub opens-long : count t ≤ length opens
+    opens-long = ltb-false (length opens) (count t) (either-false (ltb (length seen) (count t)) (ltb (length opens) (count t)) long .1)
 
-      pub fits : (words : List ℕ) → Passed table words g → Fit table words n s t (take (count t) seen) (take (count t) opens)
-      fits words p = record { indexed = rw e at p; accepted = ok; short = short; seen-room = length-take-le (count t) seen seen-long; open-room = length-take-le (count t) opens opens-long }
+    pub fits : (words : List ℕ) (n : ℕ) → Indexed table words n → Fit table words n s t (take (count t) seen) (take (count t) opens)
+    fits words n indexed = record { indexed = indexed; accepted = ok; short = short; seen-room = length-take-le (count t) seen seen-long; open-room = length-take-le (count t) opens opens-long }
 
-      pub went-through : (seen′ : List ℕ) (opens′ : List OpenStart) (l′ : List ℕ) (r : Answer) → Finished table s t (take (count t) seen) (take (count t) opens) l seen′ opens′ l′ r → (answerOf r ≡ answer it) × ((l′ ≡ listAfter it) × ((seen′ ++ drop (count t) seen ≡ seenAfter it) × (opens′ ++ drop (count t) opens ≡ openAfter it)))
-      unfolding checkedOf
-      went-through seen′ opens′ l′ r f = (f .answers ∙ rw nothing, (f .words ∙ rw nothing, (rw (f .seen-zero, nothing), rw (f .opens-zero, nothing))))
+    pub went-through : (seen′ : List ℕ) (opens′ : List OpenStart) (l′ : List ℕ) (r : Answer) → Finished table s t (take (count t) seen) (take (count t) opens) l seen′ opens′ l′ r → (answerOf r ≡ answer it) × ((l′ ≡ listAfter it) × ((seen′ ++ drop (count t) seen ≡ seenAfter it) × (opens′ ++ drop (count t) opens ≡ openAfter it)))
+    unfolding checkedOf
+    went-through seen′ opens′ l′ r f = (f .answers ∙ rw nothing, (f .words ∙ rw nothing, (rw (f .seen-zero, nothing), rw (f .opens-zero, nothing))))

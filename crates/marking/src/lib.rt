@@ -10,6 +10,7 @@ use tape::TapeCheck;
 use text::Utf8;
 use validate::OpenStart;
 ghost use mathlib.Core.Path.{_≡_};
+ghost use mathlib.Core.Option.{none};
 ghost use Prim.Native.Nat.{_/_, _≤_};
 ghost use lib.ListN.{length};
 ghost use Rattle.tape.specs.Nodes.{linkAt};
@@ -296,6 +297,36 @@ fn checked(
     reported(r, list.len())
 }
 
+// A document that the gate lets pass, with the table's index: its answer and every lent list at exit are the definition's.
+pub fn passed(
+    table: &[u8],
+    words: &[u64],
+    entries: usize,
+    source: &[u8],
+    tape: &[u8],
+    seen: &mut [u32],
+    opens: &mut [OpenStart],
+    list: &mut [u64],
+) -> Answer
+    requires { ⌜ (Indexed (now table) (now words) entries) × (none ≡ fromTable (now table) (now source) (now tape) (length (now seen)) (length (now opens))) ⌝ }
+    ensures answer { λ r. ⌜ answerOf r ≡ answer (lent (now (table .entry)) (now (source .entry)) (now (tape .entry)) (now (seen .entry)) (now (opens .entry)) (now (list .entry))) ⌝ }
+    ensures list { λ r. ⌜ now (list .exit) ≡ listAfter (lent (now (table .entry)) (now (source .entry)) (now (tape .entry)) (now (seen .entry)) (now (opens .entry)) (now (list .entry))) ⌝ }
+    ensures seen { λ r. ⌜ now (seen .exit) ≡ seenAfter (lent (now (table .entry)) (now (source .entry)) (now (tape .entry)) (now (seen .entry)) (now (opens .entry)) (now (list .entry))) ⌝ }
+    ensures opens { λ r. ⌜ now (opens .exit) ≡ openAfter (lent (now (table .entry)) (now (source .entry)) (now (tape .entry)) (now (seen .entry)) (now (opens .entry)) (now (list .entry))) ⌝ }
+{
+    let n = node_count(tape);
+    checked(
+        table,
+        words,
+        entries,
+        source,
+        tape,
+        &mut seen[..n],
+        &mut opens[..n],
+        list,
+    )
+}
+
 // The check: whatever is lent, the answer and every lent list at exit are the definition's.
 pub fn check(
     table: &[u8],
@@ -313,18 +344,6 @@ pub fn check(
     let mut words = [0u64; 512];
     match table_gate(table, &mut words, source, tape, seen.len(), opens.len()) {
         Gate::Shut(number, place) => Answer::Refused(number, place),
-        Gate::Open(entries) => {
-            let n = node_count(tape);
-            checked(
-                table,
-                &words,
-                entries,
-                source,
-                tape,
-                &mut seen[..n],
-                &mut opens[..n],
-                list,
-            )
-        }
+        Gate::Open(entries) => passed(table, &words, entries, source, tape, seen, opens, list),
     }
 }

@@ -79,10 +79,8 @@ use Rattle.marking.proofs.check as check-F
 use Rattle.marking.proofs.check.Code as code
 use Rattle.marking.proofs.CallTableGate as table-gate-C
 use Rattle.marking.proofs.table_gate.Symbol.{name as #marking·table-gate}
-use Rattle.marking.proofs.CallNodeCount as node-count-C
-use Rattle.marking.proofs.node_count.Symbol.{name as #marking·node-count}
-use Rattle.marking.proofs.CallChecked as checked-C
-use Rattle.marking.proofs.checked.Symbol.{name as #marking·checked}
+use Rattle.marking.proofs.CallPassed as passed-C
+use Rattle.marking.proofs.passed.Symbol.{name as #marking·passed}
 use Rattle.marking.proofs.check.Code.Mir as mir-of
 use types.Kit.{Sq}
 use mathlib.Core.List.{_++_}
@@ -103,21 +101,21 @@ use Rattle.running.specs.Running.{starts, countsOf, aroundOf}
 use Rattle.closing.specs.Ends.{Left}
 use Rattle.checker.specs.Walking.{Ready, Walked, walkAt}
 use Rattle.marking.specs.Entry.{Begun, Endable, Ended, Ran, Fit, Finished, answerOf, reported}
+use mathlib.Core.Option.{none}
+use Rattle.table.specs.Entries.{Indexed}
 use Rattle.validate.specs.Outcome.{answer, listAfter, seenAfter, openAfter}
 use Rattle.marking.specs.Entry.{gateOf, fromTable, Passed, lent}
 use Rattle.references.proofs.Sizes.{less-fits, wide, part-fits}
 use Rattle.tape.proofs.OneNumber.{some-nodes}
 use Rattle.marking.proofs.Course.{first-run, walk-asks, left-asks, end-asks, ran-whole, seen-inside, opens-inside, finished-whole}
-use Rattle.marking.proofs.Through.{shut-so, part-seen, part-opens, part-fit, through}
+use Rattle.marking.proofs.Through.{shut-so, open-so, part-seen, part-opens, part-fit, through}
 use Rattle.marking.proofs.check.Statement as stated
 use Rattle.marking.proofs.check.Key.{name as #marking·check}
 use base.Logic.{fst∗}
 use Rattle.marking.proofs.table_gate.Symbol as table-gate-def
 use Rattle.marking.proofs.table_gate.Met as table-gate-thm
-use Rattle.marking.proofs.node_count.Symbol as node-count-def
-use Rattle.marking.proofs.node_count.Met as node-count-thm
-use Rattle.marking.proofs.checked.Symbol as checked-def
-use Rattle.marking.proofs.checked.Met as checked-thm
+use Rattle.marking.proofs.passed.Symbol as passed-def
+use Rattle.marking.proofs.passed.Met as passed-thm
 
 abbrev pub stayed : Stays (check-F.ended .signature .params) (check-F.ended .kept)
 stayed = (stay-none-slice (0 ∷ []) tt (plain (λ _. u8)) yes, (stay-none-slice (1 ∷ []) tt (plain (λ _. u8)) yes, (stay-none-slice (2 ∷ []) tt (plain (λ _. u8)) yes, (stay-slice (3 ∷ []) tt (plain (λ _. u32)), (stay-slice (4 ∷ []) tt (plain (λ _. OpenStart-T.the-row)), (stay-slice (5 ∷ []) tt (plain (λ _. u64)), tt))))))
@@ -156,49 +154,46 @@ abbrev τ10 : Ty
 τ10 = tyInt w64
 
 abbrev τ11 : Ty
-τ11 = tyInt w64
+τ11 = Gate-L.mir
 
 abbrev τ12 : Ty
-τ12 = Gate-L.mir
+τ12 = tyRef erased mut (tyArray (tyInt w64) 512)
 
 abbrev τ13 : Ty
-τ13 = tyRef erased mut (tyArray (tyInt w64) 512)
+τ13 = sliceTy (tyRef erased mut (tyInt w64))
 
 abbrev τ14 : Ty
-τ14 = sliceTy (tyRef erased mut (tyInt w64))
+τ14 = tyInt w64
 
 abbrev τ15 : Ty
 τ15 = tyInt w64
 
 abbrev τ16 : Ty
-τ16 = tyInt w64
+τ16 = Answer-L.mir
 
 abbrev τ17 : Ty
-τ17 = Answer-L.mir
+τ17 = tyRef erased imm (tyArray (tyInt w64) 512)
 
 abbrev τ18 : Ty
-τ18 = tyRef erased imm (tyArray (tyInt w64) 512)
+τ18 = sliceTy (tyRef erased imm (tyInt w64))
 
 abbrev τ19 : Ty
-τ19 = sliceTy (tyRef erased imm (tyInt w64))
+τ19 = tyRef erased mut (tyInt w32)
 
 abbrev τ20 : Ty
-τ20 = tyRef erased mut (tyInt w32)
+τ20 = sliceTy (tyRef erased mut (tyInt w32))
 
 abbrev τ21 : Ty
-τ21 = sliceTy (tyRef erased mut (tyInt w32))
+τ21 = tyRef erased mut (pointee (OpenStart-T.the-row .written))
 
 abbrev τ22 : Ty
-τ22 = tyRef erased mut (pointee (OpenStart-T.the-row .written))
+τ22 = sliceTy (tyRef erased mut (pointee (OpenStart-T.the-row .written)))
 
 abbrev τ23 : Ty
-τ23 = sliceTy (tyRef erased mut (pointee (OpenStart-T.the-row .written)))
+τ23 = tyRef erased mut (tyInt w64)
 
 abbrev τ24 : Ty
-τ24 = tyRef erased mut (tyInt w64)
-
-abbrev τ25 : Ty
-τ25 = sliceTy (tyRef erased mut (tyInt w64))
+τ24 = sliceTy (tyRef erased mut (tyInt w64))
 
 cases-Gate : (r : Gate) → (((a0 : ℕ) × (r ≡ Gate-V.Open a0)) ⊎ ((a0 : ℕ) × (a1 : ℕ) × (r ≡ Gate-V.Shut a0 a1)))
 cases-Gate (Gate-V.Open a0) = inl (a0, refl)
@@ -220,13 +215,13 @@ module _ {M : Type 1} (𝓤 : URA M) (H : Heap 𝓤) (A : Atoms 𝓤) (W : Given
   entry =
       qed W ((‵ (flft (table-at .κ) (table-at .q)) ⊛ (‵ (flft (source-at .κ) (source-at .q)) ⊛ (‵ (flft (tape-at .κ) (tape-at .q)) ⊛ (‵ (flft (seen-at .κ) (seen-at .q)) ⊛ (‵ (flft (opens-at .κ) (opens-at .q)) ⊛ (‵ (flft (list-at .κ) (list-at .q)) ⊛ ‵ ftrue)))))) ∷ ‵ (owns (ShrSlice (named 0) (table-at .κ) u8 ∷ ShrSlice (named 1) (source-at .κ) u8 ∷ ShrSlice (named 2) (tape-at .κ) u8 ∷ MutSlice (named 3) (seen-at .κ) u32 ∷ MutSlice (named 4) (opens-at .κ) OpenStart-T.the-row ∷ MutSlice (named 5) (list-at .κ) u64 ∷ []) (ref table-at table₀, (ref source-at source₀, (ref tape-at tape₀, (ref seen-at seen₀, (ref opens-at opens₀, (ref list-at list₀, tt)))))) (fatVal table-at ∷ [], (fatVal source-at ∷ [], (fatVal tape-at ∷ [], (fatVal seen-at ∷ [], (fatVal opens-at ∷ [], (fatVal list-at ∷ [], tt))))))) ∷ []) ∵ split ! $ move ! (1 ∷ []) $ split ! $ move ! (1 ∷ []) $ split ! $ move ! (1 ∷ []) $ split ! $ move ! (1 ∷ []) $ split ! $ move ! (1 ∷ []) $ split ! $ move ! (7 ∷ []) $ fsplit ! $ move ! (1 ∷ []) $ fsplit ! $ move ! (1 ∷ []) $ fsplit ! $ move ! (1 ∷ []) $ fsplit ! $ move ! (1 ∷ []) $ fsplit ! $ move ! (1 ∷ []) $ fsplit ! $ move ! (6 ∷ 13 ∷ []) $ fjoin ! $ move ! (6 ∷ 12 ∷ []) $ fjoin ! $ move ! (6 ∷ 11 ∷ []) $ fjoin ! $ move ! (6 ∷ 10 ∷ []) $ fjoin ! $ move ! (6 ∷ 9 ∷ []) $ fjoin ! $ move ! (5 ∷ 7 ∷ []) $ fjoin ! $ keep ! (5 ∷ 4 ∷ 3 ∷ 2 ∷ 1 ∷ 0 ∷ []) $ done !
 
-  abbrev Envs : ℕ → ℕ → ℕ → ℕ → ℕ → ℕ → ℕ → ℕ → ℕ → ℕ → ℕ → ℕ → ℕ → ℕ → ℕ → ℕ → ℕ → ℕ → ℕ → ℕ → ℕ → ℕ → ℕ → ℕ → ℕ → ℕ → Env 𝓤 H
-  Envs l0 l1 l2 l3 l4 l5 l6 l7 l8 l9 l10 l11 l12 l13 l14 l15 l16 l17 l18 l19 l20 l21 l22 l23 l24 l25 = (τ0, l0) ∷ (τ1, l1) ∷ (τ2, l2) ∷ (τ3, l3) ∷ (τ4, l4) ∷ (τ5, l5) ∷ (τ6, l6) ∷ (τ7, l7) ∷ (τ8, l8) ∷ (τ9, l9) ∷ (τ10, l10) ∷ (τ11, l11) ∷ (τ12, l12) ∷ (τ13, l13) ∷ (τ14, l14) ∷ (τ15, l15) ∷ (τ16, l16) ∷ (τ17, l17) ∷ (τ18, l18) ∷ (τ19, l19) ∷ (τ20, l20) ∷ (τ21, l21) ∷ (τ22, l22) ∷ (τ23, l23) ∷ (τ24, l24) ∷ (τ25, l25) ∷ []
+  abbrev Envs : ℕ → ℕ → ℕ → ℕ → ℕ → ℕ → ℕ → ℕ → ℕ → ℕ → ℕ → ℕ → ℕ → ℕ → ℕ → ℕ → ℕ → ℕ → ℕ → ℕ → ℕ → ℕ → ℕ → ℕ → ℕ → Env 𝓤 H
+  Envs l0 l1 l2 l3 l4 l5 l6 l7 l8 l9 l10 l11 l12 l13 l14 l15 l16 l17 l18 l19 l20 l21 l22 l23 l24 = (τ0, l0) ∷ (τ1, l1) ∷ (τ2, l2) ∷ (τ3, l3) ∷ (τ4, l4) ∷ (τ5, l5) ∷ (τ6, l6) ∷ (τ7, l7) ∷ (τ8, l8) ∷ (τ9, l9) ∷ (τ10, l10) ∷ (τ11, l11) ∷ (τ12, l12) ∷ (τ13, l13) ∷ (τ14, l14) ∷ (τ15, l15) ∷ (τ16, l16) ∷ (τ17, l17) ∷ (τ18, l18) ∷ (τ19, l19) ∷ (τ20, l20) ∷ (τ21, l21) ∷ (τ22, l22) ∷ (τ23, l23) ∷ (τ24, l24) ∷ []
 
-  abbrev Dead : ℕ → ℕ → ℕ → ℕ → ℕ → ℕ → ℕ → ℕ → ℕ → ℕ → ℕ → ℕ → ℕ → ℕ → ℕ → ℕ → ℕ → ℕ → ℕ → ℕ → ℕ → ℕ → ℕ → ℕ → ℕ → ℕ → Item 𝓤
-  Dead l0 l1 l2 l3 l4 l5 l6 l7 l8 l9 l10 l11 l12 l13 l14 l15 l16 l17 l18 l19 l20 l21 l22 l23 l24 l25 = Dies 𝓤 H (τ0, l0) ((τ1, l1) ∷ (τ2, l2) ∷ (τ3, l3) ∷ (τ4, l4) ∷ (τ5, l5) ∷ (τ6, l6) ∷ (τ7, l7) ∷ (τ8, l8) ∷ (τ9, l9) ∷ (τ10, l10) ∷ (τ11, l11) ∷ (τ12, l12) ∷ (τ13, l13) ∷ (τ14, l14) ∷ (τ15, l15) ∷ (τ16, l16) ∷ (τ17, l17) ∷ (τ18, l18) ∷ (τ19, l19) ∷ (τ20, l20) ∷ (τ21, l21) ∷ (τ22, l22) ∷ (τ23, l23) ∷ (τ24, l24) ∷ (τ25, l25) ∷ [])
+  abbrev Dead : ℕ → ℕ → ℕ → ℕ → ℕ → ℕ → ℕ → ℕ → ℕ → ℕ → ℕ → ℕ → ℕ → ℕ → ℕ → ℕ → ℕ → ℕ → ℕ → ℕ → ℕ → ℕ → ℕ → ℕ → ℕ → Item 𝓤
+  Dead l0 l1 l2 l3 l4 l5 l6 l7 l8 l9 l10 l11 l12 l13 l14 l15 l16 l17 l18 l19 l20 l21 l22 l23 l24 = Dies 𝓤 H (τ0, l0) ((τ1, l1) ∷ (τ2, l2) ∷ (τ3, l3) ∷ (τ4, l4) ∷ (τ5, l5) ∷ (τ6, l6) ∷ (τ7, l7) ∷ (τ8, l8) ∷ (τ9, l9) ∷ (τ10, l10) ∷ (τ11, l11) ∷ (τ12, l12) ∷ (τ13, l13) ∷ (τ14, l14) ∷ (τ15, l15) ∷ (τ16, l16) ∷ (τ17, l17) ∷ (τ18, l18) ∷ (τ19, l19) ∷ (τ20, l20) ∷ (τ21, l21) ∷ (τ22, l22) ∷ (τ23, l23) ∷ (τ24, l24) ∷ [])
 
-  module _ (𝓣 : Tables 𝓤 H) (known-table-gate : Triple 𝓤 (𝓣 .C #marking·table-gate) (table-gate-C.Con 𝓤 H A at-mem run)) (known-node-count : Triple 𝓤 (𝓣 .C #marking·node-count) (node-count-C.Con 𝓤 H A at-mem run)) (known-checked : Triple 𝓤 (𝓣 .C #marking·checked) (checked-C.Con 𝓤 H A at-mem run)) where
+  module _ (𝓣 : Tables 𝓤 H) (known-table-gate : Triple 𝓤 (𝓣 .C #marking·table-gate) (table-gate-C.Con 𝓤 H A at-mem run)) (known-passed : Triple 𝓤 (𝓣 .C #marking·passed) (passed-C.Con 𝓤 H A at-mem run)) where
     abbrev fm : FmC 𝓤 H (W .laws) (𝓣 .C)
     fm = fmOf 𝓤 H (W .laws) 𝓣
 
@@ -234,77 +229,71 @@ module _ {M : Type 1} (𝓤 : URA M) (H : Heap 𝓤) (A : Atoms 𝓤) (W : Given
     unfolding afterTurn
     walk =
         via 𝓤 (⋆ 𝓤 H A (‵ (HasShr u8 table-at table₀) ∷ ‵ (HasShr u8 source-at source₀) ∷ ‵ (HasShr u8 tape-at tape₀) ∷ ‵ (HasMut u32 seen-at seen₀) ∷ ‵ (HasMut OpenStart-T.the-row opens-at opens₀) ∷ ‵ (HasMut u64 list-at list₀) ∷ [])) entry (qed W (‵ (HasShr u8 table-at table₀) ∷ ‵ (HasShr u8 source-at source₀) ∷ ‵ (HasShr u8 tape-at tape₀) ∷ ‵ (HasMut u32 seen-at seen₀) ∷ ‵ (HasMut OpenStart-T.the-row opens-at opens₀) ∷ ‵ (HasMut u64 list-at list₀) ∷ []) ∵ enter ! (𝓣 .C) (𝓣 .Λ) code.function (fatVal table-at ∷ fatVal source-at ∷ fatVal tape-at ∷ fatVal seen-at ∷ fatVal opens-at ∷ fatVal list-at ∷ []) _ $
-        alloc1 ! (λ l0. alloc1 ! (λ l1. alloc1 ! (λ l2. alloc1 ! (λ l3. alloc1 ! (λ l4. alloc1 ! (λ l5. alloc1 ! (λ l6. alloc1 ! (λ l7. alloc1 ! (λ l8. alloc1 ! (λ l9. alloc1 ! (λ l10. alloc1 ! (λ l11. alloc1 ! (λ l12. alloc1 ! (λ l13. alloc1 ! (λ l14. alloc1 ! (λ l15. alloc1 ! (λ l16. alloc1 ! (λ l17. alloc1 ! (λ l18. alloc1 ! (λ l19. alloc1 ! (λ l20. alloc1 ! (λ l21. alloc1 ! (λ l22. alloc1 ! (λ l23. alloc1 ! (λ l24. alloc1 ! (λ l25. alloc0 ! $ params1 ! $ pass1 ! (init ! 48 refl (tt, (tt, (record { fits = (table-room .0) }, tt)))) $ pass1 ! (init ! 46 refl (tt, (tt, (record { fits = (source-room .0) }, tt)))) $ pass1 ! (init ! 44 refl (tt, (tt, (record { fits = (tape-room .0) }, tt)))) $ pass1 ! (init ! 42 refl (tt, (tt, (record { fits = (seen-room .0) }, tt)))) $ pass1 ! (init ! 40 refl (tt, (tt, (record { fits = (opens-room .0) }, tt)))) $ pass1 ! (init ! 38 refl (tt, (tt, (record { fits = (list-room .0) }, tt)))) $ pass0 ! $
-        move ! (51 ∷ 49 ∷ 47 ∷ 45 ∷ 43 ∷ 41 ∷ 39 ∷ 37 ∷ 35 ∷ 33 ∷ 31 ∷ 29 ∷ 27 ∷ 25 ∷ 23 ∷ 21 ∷ 19 ∷ 17 ∷ 15 ∷ 13 ∷ 11 ∷ 9 ∷ 7 ∷ 5 ∷ 3 ∷ 1 ∷ 50 ∷ 48 ∷ 46 ∷ 44 ∷ 42 ∷ 40 ∷ 38 ∷ 36 ∷ 34 ∷ 32 ∷ 30 ∷ 28 ∷ 26 ∷ 24 ∷ 22 ∷ 20 ∷ 18 ∷ 16 ∷ 14 ∷ 12 ∷ 10 ∷ 8 ∷ 6 ∷ 4 ∷ 2 ∷ 0 ∷ []) $ group ! 26 $
+        alloc1 ! (λ l0. alloc1 ! (λ l1. alloc1 ! (λ l2. alloc1 ! (λ l3. alloc1 ! (λ l4. alloc1 ! (λ l5. alloc1 ! (λ l6. alloc1 ! (λ l7. alloc1 ! (λ l8. alloc1 ! (λ l9. alloc1 ! (λ l10. alloc1 ! (λ l11. alloc1 ! (λ l12. alloc1 ! (λ l13. alloc1 ! (λ l14. alloc1 ! (λ l15. alloc1 ! (λ l16. alloc1 ! (λ l17. alloc1 ! (λ l18. alloc1 ! (λ l19. alloc1 ! (λ l20. alloc1 ! (λ l21. alloc1 ! (λ l22. alloc1 ! (λ l23. alloc1 ! (λ l24. alloc0 ! $ params1 ! $ pass1 ! (init ! 46 refl (tt, (tt, (record { fits = (table-room .0) }, tt)))) $ pass1 ! (init ! 44 refl (tt, (tt, (record { fits = (source-room .0) }, tt)))) $ pass1 ! (init ! 42 refl (tt, (tt, (record { fits = (tape-room .0) }, tt)))) $ pass1 ! (init ! 40 refl (tt, (tt, (record { fits = (seen-room .0) }, tt)))) $ pass1 ! (init ! 38 refl (tt, (tt, (record { fits = (opens-room .0) }, tt)))) $ pass1 ! (init ! 36 refl (tt, (tt, (record { fits = (list-room .0) }, tt)))) $ pass0 ! $
+        move ! (49 ∷ 47 ∷ 45 ∷ 43 ∷ 41 ∷ 39 ∷ 37 ∷ 35 ∷ 33 ∷ 31 ∷ 29 ∷ 27 ∷ 25 ∷ 23 ∷ 21 ∷ 19 ∷ 17 ∷ 15 ∷ 13 ∷ 11 ∷ 9 ∷ 7 ∷ 5 ∷ 3 ∷ 1 ∷ 48 ∷ 46 ∷ 44 ∷ 42 ∷ 40 ∷ 38 ∷ 36 ∷ 34 ∷ 32 ∷ 30 ∷ 28 ∷ 26 ∷ 24 ∷ 22 ∷ 20 ∷ 18 ∷ 16 ∷ 14 ∷ 12 ∷ 10 ∷ 8 ∷ 6 ∷ 4 ∷ 2 ∷ 0 ∷ []) $ group ! 25 $
         move ! (8 ∷ []) $ fills-array ! u64 (uint-makes 𝓤 H A W w64) (uint-lawful 𝓤 H A W w64) 512 l7 0 (vint w64 0) (refl, (lit< tt)) (lit ! tt) (from ! (stop !)) (λ xs-7 filled-7.
         let long-7 : length xs-7 ≡ 512 = filled-7 .long in
-        assigns ! (addr ! (from ! (stop !))) (from ! (stop !)) (init ! 14 refl (tt, tt)) $
-        assigns ! (agg ! (and-then ! (load ! (from ! (stop !)) (look ! 14 refl)) (and-then ! (lit ! tt) (no-more !)))) (from ! (stop !)) (init ! 15 refl (tt, (tt, (record { fits = (lit< tt) }, tt)))) $
-        assigns ! (of-opd ! (load ! (from ! (fld ! refl (stop !))) (look-in ! 6 (sub ! 1 refl (whole !))))) (from ! (stop !)) (init ! 16 refl (tt, record { fits = (seen-room .0) })) $
-        assigns ! (of-opd ! (load ! (from ! (fld ! refl (stop !))) (look-in ! 7 (sub ! 1 refl (whole !))))) (from ! (stop !)) (init ! 17 refl (tt, record { fits = (opens-room .0) })) $
+        assigns ! (addr ! (from ! (stop !))) (from ! (stop !)) (init ! 13 refl (tt, tt)) $
+        assigns ! (agg ! (and-then ! (load ! (from ! (stop !)) (look ! 13 refl)) (and-then ! (lit ! tt) (no-more !)))) (from ! (stop !)) (init ! 14 refl (tt, (tt, (record { fits = (lit< tt) }, tt)))) $
+        assigns ! (of-opd ! (load ! (from ! (fld ! refl (stop !))) (look-in ! 6 (sub ! 1 refl (whole !))))) (from ! (stop !)) (init ! 15 refl (tt, record { fits = (seen-room .0) })) $
+        assigns ! (of-opd ! (load ! (from ! (fld ! refl (stop !))) (look-in ! 7 (sub ! 1 refl (whole !))))) (from ! (stop !)) (init ! 16 refl (tt, record { fits = (opens-room .0) })) $
         use1 W (later (some (λ (ν : ℕ). some (λ (δ : GName). ‵ (HasMut u64 (array l7 512 ν δ) xs-7) ⊛ ‵ (KeptArray u64 512 l7 ν δ))))) (lend-array u64 512 l7 𝓤 H A W tt (lit< tt, lit< tt) xs-7) $ await ! tt $ pick ! (λ ν-array-1. pick ! (λ δ-array-1. split ! $
-        move ! (28 ∷ 0 ∷ 29 ∷ 30 ∷ []) $ let req-table-gate : 512 ≤ length xs-7 = as-long long-7 in
+        move ! (27 ∷ 0 ∷ 28 ∷ 29 ∷ []) $ let req-table-gate : 512 ≤ length xs-7 = as-long long-7 in
         table-gate-C.calls-table-gate ! at-mem run fm table-at table₀ (array l7 512 ν-array-1 δ-array-1) xs-7 source-at source₀ tape-at tape₀ (seen-at .n) (opens-at .n) (seen-room .0) (opens-room .0) req-table-gate (λ ν-words δ-words. known-table-gate (table-gate-C.to 𝓤 H A at-mem run table-at table₀ (array l7 512 ν-array-1 δ-array-1) xs-7 source-at source₀ tape-at tape₀ (seen-at .n) (opens-at .n) table-at (relent (array l7 512 ν-array-1 δ-array-1) ν-words δ-words) source-at tape-at))
-        (and-then ! (load ! (from ! (stop !)) (look ! 4 refl)) (and-then ! (load ! (from ! (stop !)) (look ! 16 refl)) (and-then ! (load ! (from ! (stop !)) (look ! 5 refl)) (and-then ! (load ! (from ! (stop !)) (look ! 6 refl)) (and-then ! (load ! (from ! (stop !)) (look ! 17 refl)) (and-then ! (load ! (from ! (stop !)) (look ! 18 refl)) (no-more !))))))) (λ z-table-gate s-table-gate.
+        (and-then ! (load ! (from ! (stop !)) (look ! 4 refl)) (and-then ! (load ! (from ! (stop !)) (look ! 15 refl)) (and-then ! (load ! (from ! (stop !)) (look ! 5 refl)) (and-then ! (load ! (from ! (stop !)) (look ! 6 refl)) (and-then ! (load ! (from ! (stop !)) (look ! 16 refl)) (and-then ! (load ! (from ! (stop !)) (look ! 17 refl)) (no-more !))))))) (λ z-table-gate s-table-gate.
         let len-table-gate-words : length (z-table-gate .1 .0) ≡ length xs-7 = s-table-gate .1 .0 in
         let says-table-gate : (gateOf (z-table-gate .0) ≡ fromTable table₀ source₀ tape₀ (seen-at .n) (opens-at .n)) × (Passed table₀ (z-table-gate .1 .0) (z-table-gate .0)) = s-table-gate .1 .1 in
         let says-table-gate-number : gateOf (z-table-gate .0) ≡ fromTable table₀ source₀ tape₀ (seen-at .n) (opens-at .n) = says-table-gate .0 in
         let says-table-gate-index : Passed table₀ (z-table-gate .1 .0) (z-table-gate .0) = says-table-gate .1 in
-        land ! (from ! (stop !)) (init ! 17 refl (EL.lawful Gate-T.the-type Gate-L.the-laws 𝓤 H A W tt .typed (z-table-gate .0) _ (s-table-gate .0) .0)) $
+        land ! (from ! (stop !)) (init ! 16 refl (EL.lawful Gate-T.the-type Gate-L.the-laws 𝓤 H A W tt .typed (z-table-gate .0) _ (s-table-gate .0) .0)) $
         move ! (1 ∷ 4 ∷ []) $ use2 W (later (‵ (ArrayAt u64 512 l7 (z-table-gate .1 .0)))) (back-array u64 512 l7 𝓤 H A W ν-array-1 δ-array-1 (z-table-gate .1 .0)) $ await ! tt $
         elim (cases-Gate (z-table-gate .0)) [
-          | inl y1 ↦ rewrite ! 16 (λ (u : Gate). ‵ (fat fullShare τ12 l12 0 (EL.val Gate-T.the-type Gate-L.the-laws u))) (y1 .1) refl $
+          | inl y1 ↦ rewrite ! 15 (λ (u : Gate). ‵ (fat fullShare τ11 l11 0 (EL.val Gate-T.the-type Gate-L.the-laws u))) (y1 .1) refl $
               let told-1 : z-table-gate .0 ≡ Gate-V.Open (y1 .0) = y1 .1 in
               let is-1-0 : Is Gate-T.the-row (Gate-V.Open (y1 .0)) (EL.val Gate-T.the-type Gate-L.the-laws (Gate-V.Open (y1 .0)) ∷ []) = subst (λ (u : Gate). Is Gate-T.the-row u (EL.val Gate-T.the-type Gate-L.the-laws u ∷ [])) (y1 .1) (s-table-gate .0) in
-              switch-then ! (load ! (from ! (vrt ! refl (fld ! refl (stop !)))) (look-tag ! 16 (whole !))) tt $
-              assoc-then 𝓣 ! $ assigns ! (of-opd ! (load ! (from ! (vrt ! refl (fld ! refl (stop !)))) (look-in ! 16 (in-variant ! 0 0 refl refl (whole !))))) (from ! (stop !)) (init ! 14 refl (tt, record { fits = (EL.lawful Gate-T.the-type Gate-L.the-laws 𝓤 H A W tt .typed (Gate-V.Open (y1 .0)) _ is-1-0 .0) .1 .1 .0 .fits })) $
-              assoc-then 𝓣 ! $ move ! (3 ∷ []) $ node-count-C.calls-node-count ! at-mem run fm tape-at tape₀ (known-node-count (node-count-C.to 𝓤 H A at-mem run tape-at tape₀ tape-at))
-              (and-then ! (load ! (from ! (stop !)) (look ! 8 refl)) (no-more !)) (λ z-node-count s-node-count.
-              let says-node-count : (z-node-count .0) ≡ nodes tape₀ = s-node-count .1 in
-              land ! (from ! (stop !)) (init ! 15 refl (tt, record { fits = ((s-node-count .0) .1) })) $
-              assoc-then 𝓣 ! $ assigns ! (addr ! (from ! (stop !))) (from ! (stop !)) (init ! 22 refl (tt, tt)) $
-              assoc-then 𝓣 ! $ assigns ! (agg ! (and-then ! (load ! (from ! (stop !)) (look ! 22 refl)) (and-then ! (lit ! tt) (no-more !)))) (from ! (stop !)) (init ! 23 refl (tt, (tt, (record { fits = (lit< tt) }, tt)))) $
-              assoc-then 𝓣 ! $ assigns ! (addr ! (from ! (fld ! refl (hop ! (look-in ! 9 (sub ! 0 refl (whole !))) (stop !))))) (from ! (stop !)) (init ! 24 refl (tt, tt)) $
-              assoc-then 𝓣 ! $ assigns ! (agg ! (and-then ! (load ! (from ! (stop !)) (look ! 24 refl)) (and-then ! (load ! (from ! (stop !)) (look ! 15 refl)) (no-more !)))) (from ! (stop !)) (init ! 25 refl (tt, (tt, (record { fits = ((s-node-count .0) .1) }, tt)))) $
-              assoc-then 𝓣 ! $ assigns ! (addr ! (from ! (fld ! refl (hop ! (look-in ! 10 (sub ! 0 refl (whole !))) (stop !))))) (from ! (stop !)) (init ! 26 refl (tt, tt)) $
-              assoc-then 𝓣 ! $ assigns ! (agg ! (and-then ! (load ! (from ! (stop !)) (look ! 26 refl)) (and-then ! (load ! (from ! (stop !)) (look ! 15 refl)) (no-more !)))) (from ! (stop !)) (init ! 27 refl (tt, (tt, (record { fits = ((s-node-count .0) .1) }, tt)))) $
-              assoc-then 𝓣 ! $ assigns ! (addr ! (from ! (fld ! refl (hop ! (look-in ! 11 (sub ! 0 refl (whole !))) (stop !))))) (from ! (stop !)) (init ! 28 refl (tt, tt)) $
-              assoc-then 𝓣 ! $ assigns ! (agg ! (and-then ! (load ! (from ! (stop !)) (look ! 28 refl)) (and-then ! (load ! (from ! (fld ! refl (stop !))) (look-in ! 11 (sub ! 1 refl (whole !)))) (no-more !)))) (from ! (stop !)) (init ! 29 refl (tt, (tt, (record { fits = (list-room .0) }, tt)))) $
-              move ! (1 ∷ []) $ use1 W (later (some (λ (ν : ℕ). some (λ (δ : GName). ‵ (HasShr u64 (array l7 512 ν δ) (z-table-gate .1 .0)) ⊛ ‵ (KeptArrayShr u64 512 l7 ν (z-table-gate .1 .0)))))) (lend-array-shr u64 512 l7 𝓤 H A W tt (lit< tt, lit< tt) (z-table-gate .1 .0)) $ await ! tt $ pick ! (λ ν-array-2. pick ! (λ δ-array-2. split ! $
-              let part-1 : (z-node-count .0) ≤ length seen₀ = part-seen table₀ source₀ tape₀ seen₀ opens₀ list₀ (z-table-gate .0) (seen-at .n) (opens-at .n) seen-n opens-n says-table-gate-number _ _ told-1 says-node-count in
-              move ! (31 ∷ []) $ use1 W (later (some (λ (ν : ℕ). some (λ (δ : GName). ‵ (HasMut u32 (part seen-at (z-node-count .0) ν δ) (take (z-node-count .0) seen₀)) ⊛ ‵ (KeptPart u32 seen-at (z-node-count .0) ν δ seen₀))))) (lend-part u32 𝓤 H A W seen-at seen₀ (z-node-count .0) (length-take-le (z-node-count .0) seen₀ part-1) (room-le u32 (z-node-count .0) (length seen₀) part-1 (subst (SizeOf u32) (seen-n ∙ sym (refl)) seen-room))) $ await ! tt $ pick ! (λ ν-part-1. pick ! (λ δ-part-1. split ! $
-              let part-2 : (z-node-count .0) ≤ length opens₀ = part-opens table₀ source₀ tape₀ seen₀ opens₀ list₀ (z-table-gate .0) (seen-at .n) (opens-at .n) seen-n opens-n says-table-gate-number _ _ told-1 says-node-count in
-              move ! (33 ∷ []) $ use1 W (later (some (λ (ν : ℕ). some (λ (δ : GName). ‵ (HasMut OpenStart-T.the-row (part opens-at (z-node-count .0) ν δ) (take (z-node-count .0) opens₀)) ⊛ ‵ (KeptPart OpenStart-T.the-row opens-at (z-node-count .0) ν δ opens₀))))) (lend-part OpenStart-T.the-row 𝓤 H A W opens-at opens₀ (z-node-count .0) (length-take-le (z-node-count .0) opens₀ part-2) (room-le OpenStart-T.the-row (z-node-count .0) (length opens₀) part-2 (subst (SizeOf OpenStart-T.the-row) (opens-n ∙ sym (refl)) opens-room))) $ await ! tt $ pick ! (λ ν-part-2. pick ! (λ δ-part-2. split ! $
-              move ! (7 ∷ 4 ∷ 8 ∷ 6 ∷ 2 ∷ 0 ∷ 35 ∷ []) $ let req-checked : Fit table₀ (z-table-gate .1 .0) (y1 .0) source₀ tape₀ (take (z-node-count .0) seen₀) (take (z-node-count .0) opens₀) = part-fit table₀ source₀ tape₀ seen₀ opens₀ list₀ (z-table-gate .0) (seen-at .n) (opens-at .n) seen-n opens-n says-table-gate-number _ _ told-1 says-node-count (z-table-gate .1 .0) says-table-gate-index in
-              checked-C.calls-checked ! at-mem run fm table-at table₀ (array l7 512 ν-array-2 δ-array-2) (z-table-gate .1 .0) (y1 .0) source-at source₀ tape-at tape₀ (part seen-at (z-node-count .0) ν-part-1 δ-part-1) (take (z-node-count .0) seen₀) (part opens-at (z-node-count .0) ν-part-2 δ-part-2) (take (z-node-count .0) opens₀) list-at list₀ ((EL.lawful Gate-T.the-type Gate-L.the-laws 𝓤 H A W tt .typed (Gate-V.Open (y1 .0)) _ is-1-0 .0) .1 .1 .0 .fits) req-checked (λ ν-seen δ-seen ν-opens δ-opens ν-list δ-list. known-checked (checked-C.to 𝓤 H A at-mem run table-at table₀ (array l7 512 ν-array-2 δ-array-2) (z-table-gate .1 .0) (y1 .0) source-at source₀ tape-at tape₀ (part seen-at (z-node-count .0) ν-part-1 δ-part-1) (take (z-node-count .0) seen₀) (part opens-at (z-node-count .0) ν-part-2 δ-part-2) (take (z-node-count .0) opens₀) list-at list₀ table-at (array l7 512 ν-array-2 δ-array-2) source-at tape-at (relent (part seen-at (z-node-count .0) ν-part-1 δ-part-1) ν-seen δ-seen) (relent (part opens-at (z-node-count .0) ν-part-2 δ-part-2) ν-opens δ-opens) (relent list-at ν-list δ-list)))
-              (and-then ! (load ! (from ! (stop !)) (look ! 6 refl)) (and-then ! (load ! (from ! (stop !)) (look ! 23 refl)) (and-then ! (load ! (from ! (stop !)) (look ! 14 refl)) (and-then ! (load ! (from ! (stop !)) (look ! 7 refl)) (and-then ! (load ! (from ! (stop !)) (look ! 8 refl)) (and-then ! (load ! (from ! (stop !)) (look ! 25 refl)) (and-then ! (load ! (from ! (stop !)) (look ! 27 refl)) (and-then ! (load ! (from ! (stop !)) (look ! 29 refl)) (no-more !))))))))) (λ z-checked s-checked.
-              let len-checked-seen : length (z-checked .1 .0) ≡ length (take (z-node-count .0) seen₀) = s-checked .1 .0 in
-              let len-checked-opens : length (z-checked .1 .1 .0) ≡ length (take (z-node-count .0) opens₀) = s-checked .1 .1 .0 in
-              let len-checked-list : length (z-checked .1 .1 .1 .0) ≡ length list₀ = s-checked .1 .1 .1 .0 in
-              let says-checked : Finished table₀ source₀ tape₀ (take (z-node-count .0) seen₀) (take (z-node-count .0) opens₀) list₀ (z-checked .1 .0) (z-checked .1 .1 .0) (z-checked .1 .1 .1 .0) (z-checked .0) = s-checked .1 .1 .1 .1 in
-              land ! (from ! (stop !)) (init ! 27 refl (EL.lawful Answer-T.the-type Answer-L.the-laws 𝓤 H A W tt .typed (z-checked .0) _ (s-checked .0) .0)) $
-              move ! (1 ∷ 9 ∷ []) $ use2 W (later (‵ (ArrayAt u64 512 l7 (z-table-gate .1 .0)))) (back-array-shr u64 512 l7 𝓤 H A W ν-array-2 δ-array-2 (z-table-gate .1 .0)) $ await ! tt $
-              move ! (4 ∷ 8 ∷ []) $ use2 W (later (‵ (HasMut u32 seen-at ((z-checked .1 .0) ++ skip (z-node-count .0) seen₀)))) (back-part u32 𝓤 H A W seen-at seen₀ (z-node-count .0) ν-part-1 δ-part-1 (z-checked .1 .0) len-checked-seen) $ await ! tt $
-              move ! (5 ∷ 7 ∷ []) $ use2 W (later (‵ (HasMut OpenStart-T.the-row opens-at ((z-checked .1 .1 .0) ++ skip (z-node-count .0) opens₀)))) (back-part OpenStart-T.the-row 𝓤 H A W opens-at opens₀ (z-node-count .0) ν-part-2 δ-part-2 (z-checked .1 .1 .0) len-checked-opens) $ await ! tt $
-              assigns ! (of-opd ! (load ! (from ! (stop !)) (look ! 24 refl))) (from ! (stop !)) (init ! 8 refl (EL.lawful Answer-T.the-type Answer-L.the-laws 𝓤 H A W tt .typed (z-checked .0) _ (s-checked .0) .0)) $
-              move ! (2 ∷ []) $ use1 W (‵ (froom τ7 l7 0)) (free-array u64 512 l7 𝓤 H A W (z-table-gate .1 .0)) $ returns-within ! Post refl (look ! 8 refl) $ move ! (7 ∷ 8 ∷ 9 ∷ 10 ∷ 11 ∷ 12 ∷ 13 ∷ 14 ∷ 0 ∷ 15 ∷ 16 ∷ 17 ∷ 18 ∷ 19 ∷ 20 ∷ 21 ∷ 22 ∷ 23 ∷ 24 ∷ 25 ∷ 26 ∷ 27 ∷ 28 ∷ 29 ∷ 30 ∷ 31 ∷ 32 ∷ []) $ frees-any ! (full _ ∷ full _ ∷ full _ ∷ full _ ∷ full _ ∷ full _ ∷ full _ ∷ empty ∷ empty ∷ empty ∷ full _ ∷ full _ ∷ full _ ∷ full _ ∷ full _ ∷ full _ ∷ full _ ∷ full _ ∷ full _ ∷ full _ ∷ full _ ∷ full _ ∷ full _ ∷ full _ ∷ full _ ∷ full _ ∷ []) $ keep ! (2 ∷ 3 ∷ 4 ∷ 1 ∷ 0 ∷ 5 ∷ []) $
-              by ! (exits (z-checked .0) ((z-checked .1 .0) ++ skip (z-node-count .0) seen₀) ((z-checked .1 .1 .0) ++ skip (z-node-count .0) opens₀) (z-checked .1 .1 .1 .0) (s-checked .0) (part-length seen₀ (z-checked .1 .0) (z-node-count .0) len-checked-seen ∙ refl) (part-length opens₀ (z-checked .1 .1 .0) (z-node-count .0) len-checked-opens ∙ refl) len-checked-list ((through table₀ source₀ tape₀ seen₀ opens₀ list₀ (z-table-gate .0) (seen-at .n) (opens-at .n) seen-n opens-n says-table-gate-number _ _ told-1 says-node-count _ _ _ _ says-checked) .0, (through table₀ source₀ tape₀ seen₀ opens₀ list₀ (z-table-gate .0) (seen-at .n) (opens-at .n) seen-n opens-n says-table-gate-number _ _ told-1 says-node-count _ _ _ _ says-checked) .1 .0, (through table₀ source₀ tape₀ seen₀ opens₀ list₀ (z-table-gate .0) (seen-at .n) (opens-at .n) seen-n opens-n says-table-gate-number _ _ told-1 says-node-count _ _ _ _ says-checked) .1 .1 .0, (through table₀ source₀ tape₀ seen₀ opens₀ list₀ (z-table-gate .0) (seen-at .n) (opens-at .n) seen-n opens-n says-table-gate-number _ _ told-1 says-node-count _ _ _ _ says-checked) .1 .1 .1))))))))))
-          | inr y1 ↦ rewrite ! 16 (λ (u : Gate). ‵ (fat fullShare τ12 l12 0 (EL.val Gate-T.the-type Gate-L.the-laws u))) (y1 .2) refl $
+              switch-then ! (load ! (from ! (vrt ! refl (fld ! refl (stop !)))) (look-tag ! 15 (whole !))) tt $
+              assoc-then 𝓣 ! $ assigns ! (of-opd ! (load ! (from ! (vrt ! refl (fld ! refl (stop !)))) (look-in ! 15 (in-variant ! 0 0 refl refl (whole !))))) (from ! (stop !)) (init ! 14 refl (tt, record { fits = (EL.lawful Gate-T.the-type Gate-L.the-laws 𝓤 H A W tt .typed (Gate-V.Open (y1 .0)) _ is-1-0 .0) .1 .1 .0 .fits })) $
+              assoc-then 𝓣 ! $ assigns ! (addr ! (from ! (stop !))) (from ! (stop !)) (init ! 21 refl (tt, tt)) $
+              assoc-then 𝓣 ! $ assigns ! (agg ! (and-then ! (load ! (from ! (stop !)) (look ! 21 refl)) (and-then ! (lit ! tt) (no-more !)))) (from ! (stop !)) (init ! 22 refl (tt, (tt, (record { fits = (lit< tt) }, tt)))) $
+              assoc-then 𝓣 ! $ assigns ! (addr ! (from ! (fld ! refl (hop ! (look-in ! 9 (sub ! 0 refl (whole !))) (stop !))))) (from ! (stop !)) (init ! 23 refl (tt, tt)) $
+              assoc-then 𝓣 ! $ assigns ! (agg ! (and-then ! (load ! (from ! (stop !)) (look ! 23 refl)) (and-then ! (load ! (from ! (fld ! refl (stop !))) (look-in ! 9 (sub ! 1 refl (whole !)))) (no-more !)))) (from ! (stop !)) (init ! 24 refl (tt, (tt, (record { fits = (seen-room .0) }, tt)))) $
+              assoc-then 𝓣 ! $ assigns ! (addr ! (from ! (fld ! refl (hop ! (look-in ! 10 (sub ! 0 refl (whole !))) (stop !))))) (from ! (stop !)) (init ! 25 refl (tt, tt)) $
+              assoc-then 𝓣 ! $ assigns ! (agg ! (and-then ! (load ! (from ! (stop !)) (look ! 25 refl)) (and-then ! (load ! (from ! (fld ! refl (stop !))) (look-in ! 10 (sub ! 1 refl (whole !)))) (no-more !)))) (from ! (stop !)) (init ! 26 refl (tt, (tt, (record { fits = (opens-room .0) }, tt)))) $
+              assoc-then 𝓣 ! $ assigns ! (addr ! (from ! (fld ! refl (hop ! (look-in ! 11 (sub ! 0 refl (whole !))) (stop !))))) (from ! (stop !)) (init ! 27 refl (tt, tt)) $
+              assoc-then 𝓣 ! $ assigns ! (agg ! (and-then ! (load ! (from ! (stop !)) (look ! 27 refl)) (and-then ! (load ! (from ! (fld ! refl (stop !))) (look-in ! 11 (sub ! 1 refl (whole !)))) (no-more !)))) (from ! (stop !)) (init ! 28 refl (tt, (tt, (record { fits = (list-room .0) }, tt)))) $
+              use1 W (later (some (λ (ν : ℕ). some (λ (δ : GName). ‵ (HasShr u64 (array l7 512 ν δ) (z-table-gate .1 .0)) ⊛ ‵ (KeptArrayShr u64 512 l7 ν (z-table-gate .1 .0)))))) (lend-array-shr u64 512 l7 𝓤 H A W tt (lit< tt, lit< tt) (z-table-gate .1 .0)) $ await ! tt $ pick ! (λ ν-array-2. pick ! (λ δ-array-2. split ! $
+              move ! (2 ∷ 0 ∷ 3 ∷ 4 ∷ 30 ∷ 31 ∷ 32 ∷ []) $ let req-passed : (Indexed table₀ (z-table-gate .1 .0) (y1 .0)) × (none ≡ fromTable table₀ source₀ tape₀ (length seen₀) (length opens₀)) = open-so table₀ source₀ tape₀ seen₀ opens₀ list₀ (z-table-gate .0) (seen-at .n) (opens-at .n) seen-n opens-n says-table-gate-number _ told-1 (z-table-gate .1 .0) says-table-gate-index in
+              passed-C.calls-passed ! at-mem run fm table-at table₀ (array l7 512 ν-array-2 δ-array-2) (z-table-gate .1 .0) (y1 .0) source-at source₀ tape-at tape₀ seen-at seen₀ opens-at opens₀ list-at list₀ ((EL.lawful Gate-T.the-type Gate-L.the-laws 𝓤 H A W tt .typed (Gate-V.Open (y1 .0)) _ is-1-0 .0) .1 .1 .0 .fits) req-passed (λ ν-seen δ-seen ν-opens δ-opens ν-list δ-list. known-passed (passed-C.to 𝓤 H A at-mem run table-at table₀ (array l7 512 ν-array-2 δ-array-2) (z-table-gate .1 .0) (y1 .0) source-at source₀ tape-at tape₀ seen-at seen₀ opens-at opens₀ list-at list₀ table-at (array l7 512 ν-array-2 δ-array-2) source-at tape-at (relent seen-at ν-seen δ-seen) (relent opens-at ν-opens δ-opens) (relent list-at ν-list δ-list)))
+              (and-then ! (load ! (from ! (stop !)) (look ! 4 refl)) (and-then ! (load ! (from ! (stop !)) (look ! 20 refl)) (and-then ! (load ! (from ! (stop !)) (look ! 12 refl)) (and-then ! (load ! (from ! (stop !)) (look ! 5 refl)) (and-then ! (load ! (from ! (stop !)) (look ! 6 refl)) (and-then ! (load ! (from ! (stop !)) (look ! 22 refl)) (and-then ! (load ! (from ! (stop !)) (look ! 24 refl)) (and-then ! (load ! (from ! (stop !)) (look ! 26 refl)) (no-more !))))))))) (λ z-passed s-passed.
+              let len-passed-seen : length (z-passed .1 .0) ≡ length seen₀ = s-passed .1 .0 in
+              let len-passed-opens : length (z-passed .1 .1 .0) ≡ length opens₀ = s-passed .1 .1 .0 in
+              let len-passed-list : length (z-passed .1 .1 .1 .0) ≡ length list₀ = s-passed .1 .1 .1 .0 in
+              let says-passed : (answerOf (z-passed .0) ≡ answer (lent table₀ source₀ tape₀ seen₀ opens₀ list₀)) × ((z-passed .1 .1 .1 .0) ≡ listAfter (lent table₀ source₀ tape₀ seen₀ opens₀ list₀)) × ((z-passed .1 .0) ≡ seenAfter (lent table₀ source₀ tape₀ seen₀ opens₀ list₀)) × ((z-passed .1 .1 .0) ≡ openAfter (lent table₀ source₀ tape₀ seen₀ opens₀ list₀)) = s-passed .1 .1 .1 .1 in
+              let says-passed-answer : answerOf (z-passed .0) ≡ answer (lent table₀ source₀ tape₀ seen₀ opens₀ list₀) = says-passed .0 in
+              let says-passed-list : (z-passed .1 .1 .1 .0) ≡ listAfter (lent table₀ source₀ tape₀ seen₀ opens₀ list₀) = says-passed .1 in
+              let says-passed-seen : (z-passed .1 .0) ≡ seenAfter (lent table₀ source₀ tape₀ seen₀ opens₀ list₀) = says-passed .2 in
+              let says-passed-opens : (z-passed .1 .1 .0) ≡ openAfter (lent table₀ source₀ tape₀ seen₀ opens₀ list₀) = says-passed .3 in
+              land ! (from ! (stop !)) (init ! 24 refl (EL.lawful Answer-T.the-type Answer-L.the-laws 𝓤 H A W tt .typed (z-passed .0) _ (s-passed .0) .0)) $
+              move ! (1 ∷ 7 ∷ []) $ use2 W (later (‵ (ArrayAt u64 512 l7 (z-table-gate .1 .0)))) (back-array-shr u64 512 l7 𝓤 H A W ν-array-2 δ-array-2 (z-table-gate .1 .0)) $ await ! tt $
+              assigns ! (of-opd ! (load ! (from ! (stop !)) (look ! 23 refl))) (from ! (stop !)) (init ! 8 refl (EL.lawful Answer-T.the-type Answer-L.the-laws 𝓤 H A W tt .typed (z-passed .0) _ (s-passed .0) .0)) $
+              use1 W (‵ (froom τ7 l7 0)) (free-array u64 512 l7 𝓤 H A W (z-table-gate .1 .0)) $ returns-within ! Post refl (look ! 8 refl) $ move ! (7 ∷ 8 ∷ 9 ∷ 10 ∷ 11 ∷ 12 ∷ 13 ∷ 14 ∷ 0 ∷ 15 ∷ 16 ∷ 17 ∷ 18 ∷ 19 ∷ 20 ∷ 21 ∷ 22 ∷ 23 ∷ 24 ∷ 25 ∷ 26 ∷ 27 ∷ 28 ∷ 29 ∷ 30 ∷ 31 ∷ []) $ frees-any ! (full _ ∷ full _ ∷ full _ ∷ full _ ∷ full _ ∷ full _ ∷ full _ ∷ empty ∷ empty ∷ empty ∷ full _ ∷ full _ ∷ full _ ∷ full _ ∷ full _ ∷ full _ ∷ full _ ∷ full _ ∷ full _ ∷ full _ ∷ full _ ∷ full _ ∷ full _ ∷ full _ ∷ full _ ∷ []) $ keep ! (0 ∷ 1 ∷ 2 ∷ 3 ∷ 4 ∷ 5 ∷ []) $
+              by ! (exits (z-passed .0) (z-passed .1 .0) (z-passed .1 .1 .0) (z-passed .1 .1 .1 .0) (s-passed .0) len-passed-seen len-passed-opens len-passed-list (says-passed-answer, says-passed-list, says-passed-seen, says-passed-opens)))))
+          | inr y1 ↦ rewrite ! 15 (λ (u : Gate). ‵ (fat fullShare τ11 l11 0 (EL.val Gate-T.the-type Gate-L.the-laws u))) (y1 .2) refl $
               let told-1 : z-table-gate .0 ≡ Gate-V.Shut (y1 .0) (y1 .1) = y1 .2 in
               let is-1-1 : Is Gate-T.the-row (Gate-V.Shut (y1 .0) (y1 .1)) (EL.val Gate-T.the-type Gate-L.the-laws (Gate-V.Shut (y1 .0) (y1 .1)) ∷ []) = subst (λ (u : Gate). Is Gate-T.the-row u (EL.val Gate-T.the-type Gate-L.the-laws u ∷ [])) (y1 .2) (s-table-gate .0) in
-              switch-then ! (load ! (from ! (vrt ! refl (fld ! refl (stop !)))) (look-tag ! 16 (whole !))) tt $
-              assoc-then 𝓣 ! $ assigns ! (of-opd ! (load ! (from ! (vrt ! refl (fld ! refl (stop !)))) (look-in ! 16 (in-variant ! 1 0 refl refl (whole !))))) (from ! (stop !)) (init ! 12 refl (tt, record { fits = (EL.lawful Gate-T.the-type Gate-L.the-laws 𝓤 H A W tt .typed (Gate-V.Shut (y1 .0) (y1 .1)) _ is-1-1 .0) .1 .1 .0 .fits })) $
-              assoc-then 𝓣 ! $ assigns ! (of-opd ! (load ! (from ! (vrt ! refl (fld ! refl (stop !)))) (look-in ! 16 (in-variant ! 1 1 refl refl (whole !))))) (from ! (stop !)) (init ! 13 refl (tt, record { fits = (EL.lawful Gate-T.the-type Gate-L.the-laws 𝓤 H A W tt .typed (Gate-V.Shut (y1 .0) (y1 .1)) _ is-1-1 .0) .1 .1 .1 .0 .fits })) $
-              assigns ! (agg ! (and-then ! (lit ! tt) (and-then ! (load ! (from ! (stop !)) (look ! 12 refl)) (and-then ! (load ! (from ! (stop !)) (look ! 13 refl)) (no-more !))))) (from ! (stop !)) (init ! 21 refl (EL.lawful Answer-T.the-type Answer-L.the-laws 𝓤 H A W tt .typed (Answer-V.Refused (y1 .0) (y1 .1)) _ (EL.owes Answer-T.the-type Answer-L.the-laws (Answer-V.Refused (y1 .0) (y1 .1)) ((refl, (EL.lawful Gate-T.the-type Gate-L.the-laws 𝓤 H A W tt .typed (Gate-V.Shut (y1 .0) (y1 .1)) _ is-1-1 .0) .1 .1 .0 .fits), ((refl, (EL.lawful Gate-T.the-type Gate-L.the-laws 𝓤 H A W tt .typed (Gate-V.Shut (y1 .0) (y1 .1)) _ is-1-1 .0) .1 .1 .1 .0 .fits), tt))) .0)) $
-              assigns ! (of-opd ! (load ! (from ! (stop !)) (look ! 21 refl))) (from ! (stop !)) (init ! 5 refl (EL.lawful Answer-T.the-type Answer-L.the-laws 𝓤 H A W tt .typed (Answer-V.Refused (y1 .0) (y1 .1)) _ (EL.owes Answer-T.the-type Answer-L.the-laws (Answer-V.Refused (y1 .0) (y1 .1)) ((refl, (EL.lawful Gate-T.the-type Gate-L.the-laws 𝓤 H A W tt .typed (Gate-V.Shut (y1 .0) (y1 .1)) _ is-1-1 .0) .1 .1 .0 .fits), ((refl, (EL.lawful Gate-T.the-type Gate-L.the-laws 𝓤 H A W tt .typed (Gate-V.Shut (y1 .0) (y1 .1)) _ is-1-1 .0) .1 .1 .1 .0 .fits), tt))) .0)) $
-              use1 W (‵ (froom τ7 l7 0)) (free-array u64 512 l7 𝓤 H A W (z-table-gate .1 .0)) $ returns-within ! Post refl (look ! 5 refl) $ move ! (4 ∷ 5 ∷ 6 ∷ 7 ∷ 8 ∷ 9 ∷ 10 ∷ 11 ∷ 0 ∷ 12 ∷ 13 ∷ 14 ∷ 15 ∷ 16 ∷ 17 ∷ 18 ∷ 19 ∷ 20 ∷ 21 ∷ 22 ∷ 23 ∷ 24 ∷ 25 ∷ 26 ∷ 27 ∷ 28 ∷ 29 ∷ []) $ frees-any ! (full _ ∷ full _ ∷ full _ ∷ full _ ∷ full _ ∷ full _ ∷ full _ ∷ empty ∷ full _ ∷ full _ ∷ empty ∷ empty ∷ full _ ∷ full _ ∷ full _ ∷ full _ ∷ full _ ∷ full _ ∷ empty ∷ empty ∷ empty ∷ empty ∷ empty ∷ empty ∷ empty ∷ empty ∷ []) $ keep ! (0 ∷ 1 ∷ 2 ∷ 3 ∷ 4 ∷ 5 ∷ []) $
+              switch-then ! (load ! (from ! (vrt ! refl (fld ! refl (stop !)))) (look-tag ! 15 (whole !))) tt $
+              assoc-then 𝓣 ! $ assigns ! (of-opd ! (load ! (from ! (vrt ! refl (fld ! refl (stop !)))) (look-in ! 15 (in-variant ! 1 0 refl refl (whole !))))) (from ! (stop !)) (init ! 12 refl (tt, record { fits = (EL.lawful Gate-T.the-type Gate-L.the-laws 𝓤 H A W tt .typed (Gate-V.Shut (y1 .0) (y1 .1)) _ is-1-1 .0) .1 .1 .0 .fits })) $
+              assoc-then 𝓣 ! $ assigns ! (of-opd ! (load ! (from ! (vrt ! refl (fld ! refl (stop !)))) (look-in ! 15 (in-variant ! 1 1 refl refl (whole !))))) (from ! (stop !)) (init ! 13 refl (tt, record { fits = (EL.lawful Gate-T.the-type Gate-L.the-laws 𝓤 H A W tt .typed (Gate-V.Shut (y1 .0) (y1 .1)) _ is-1-1 .0) .1 .1 .1 .0 .fits })) $
+              assigns ! (agg ! (and-then ! (lit ! tt) (and-then ! (load ! (from ! (stop !)) (look ! 12 refl)) (and-then ! (load ! (from ! (stop !)) (look ! 13 refl)) (no-more !))))) (from ! (stop !)) (init ! 20 refl (EL.lawful Answer-T.the-type Answer-L.the-laws 𝓤 H A W tt .typed (Answer-V.Refused (y1 .0) (y1 .1)) _ (EL.owes Answer-T.the-type Answer-L.the-laws (Answer-V.Refused (y1 .0) (y1 .1)) ((refl, (EL.lawful Gate-T.the-type Gate-L.the-laws 𝓤 H A W tt .typed (Gate-V.Shut (y1 .0) (y1 .1)) _ is-1-1 .0) .1 .1 .0 .fits), ((refl, (EL.lawful Gate-T.the-type Gate-L.the-laws 𝓤 H A W tt .typed (Gate-V.Shut (y1 .0) (y1 .1)) _ is-1-1 .0) .1 .1 .1 .0 .fits), tt))) .0)) $
+              assigns ! (of-opd ! (load ! (from ! (stop !)) (look ! 20 refl))) (from ! (stop !)) (init ! 5 refl (EL.lawful Answer-T.the-type Answer-L.the-laws 𝓤 H A W tt .typed (Answer-V.Refused (y1 .0) (y1 .1)) _ (EL.owes Answer-T.the-type Answer-L.the-laws (Answer-V.Refused (y1 .0) (y1 .1)) ((refl, (EL.lawful Gate-T.the-type Gate-L.the-laws 𝓤 H A W tt .typed (Gate-V.Shut (y1 .0) (y1 .1)) _ is-1-1 .0) .1 .1 .0 .fits), ((refl, (EL.lawful Gate-T.the-type Gate-L.the-laws 𝓤 H A W tt .typed (Gate-V.Shut (y1 .0) (y1 .1)) _ is-1-1 .0) .1 .1 .1 .0 .fits), tt))) .0)) $
+              use1 W (‵ (froom τ7 l7 0)) (free-array u64 512 l7 𝓤 H A W (z-table-gate .1 .0)) $ returns-within ! Post refl (look ! 5 refl) $ move ! (4 ∷ 5 ∷ 6 ∷ 7 ∷ 8 ∷ 9 ∷ 10 ∷ 11 ∷ 0 ∷ 12 ∷ 13 ∷ 14 ∷ 15 ∷ 16 ∷ 17 ∷ 18 ∷ 19 ∷ 20 ∷ 21 ∷ 22 ∷ 23 ∷ 24 ∷ 25 ∷ 26 ∷ 27 ∷ 28 ∷ []) $ frees-any ! (full _ ∷ full _ ∷ full _ ∷ full _ ∷ full _ ∷ full _ ∷ full _ ∷ empty ∷ full _ ∷ full _ ∷ empty ∷ full _ ∷ full _ ∷ full _ ∷ full _ ∷ full _ ∷ full _ ∷ empty ∷ empty ∷ empty ∷ empty ∷ empty ∷ empty ∷ empty ∷ empty ∷ []) $ keep ! (0 ∷ 1 ∷ 2 ∷ 3 ∷ 4 ∷ 5 ∷ []) $
               by ! (exits (Answer-V.Refused (y1 .0) (y1 .1)) seen₀ opens₀ list₀ (EL.owes Answer-T.the-type Answer-L.the-laws (Answer-V.Refused (y1 .0) (y1 .1)) ((refl, (EL.lawful Gate-T.the-type Gate-L.the-laws 𝓤 H A W tt .typed (Gate-V.Shut (y1 .0) (y1 .1)) _ is-1-1 .0) .1 .1 .0 .fits), ((refl, (EL.lawful Gate-T.the-type Gate-L.the-laws 𝓤 H A W tt .typed (Gate-V.Shut (y1 .0) (y1 .1)) _ is-1-1 .0) .1 .1 .1 .0 .fits), tt))) refl refl refl ((shut-so table₀ source₀ tape₀ seen₀ opens₀ list₀ (z-table-gate .0) (seen-at .n) (opens-at .n) seen-n opens-n says-table-gate-number _ _ told-1) .0, (shut-so table₀ source₀ tape₀ seen₀ opens₀ list₀ (z-table-gate .0) (seen-at .n) (opens-at .n) seen-n opens-n says-table-gate-number _ _ told-1) .1 .0, (shut-so table₀ source₀ tape₀ seen₀ opens₀ list₀ (z-table-gate .0) (seen-at .n) (opens-at .n) seen-n opens-n says-table-gate-number _ _ told-1) .1 .1 .0, (shut-so table₀ source₀ tape₀ seen₀ opens₀ list₀ (z-table-gate .0) (seen-at .n) (opens-at .n) seen-n opens-n says-table-gate-number _ _ told-1) .1 .1 .1))
-        ])))))))))))))))))))))))))))))))
+        ]))))))))))))))))))))))))))))))
 
-check-meets : {M : Type 1} (𝓤 : URA M) (H : Heap 𝓤) (A : Atoms 𝓤) (W : Given 𝓤 H A) (at-mem : Memory → SProp 𝓤) (run : Routine → Fun 𝓤) (𝓣 : Tables 𝓤 H) → Triple 𝓤 (𝓣 .C #marking·table-gate) (table-gate-C.Con 𝓤 H A at-mem run) → Triple 𝓤 (𝓣 .C #marking·node-count) (node-count-C.Con 𝓤 H A at-mem run) → Triple 𝓤 (𝓣 .C #marking·checked) (checked-C.Con 𝓤 H A at-mem run) → Meets 𝓤 H A check-F.signature (WpFn 𝓤 H (𝓣 .C) (𝓣 .Λ) code.function) (check-F.spec 𝓤 H A at-mem run)
-check-meets 𝓤 H A W at-mem run 𝓣 known-table-gate known-node-count known-checked y =
+check-meets : {M : Type 1} (𝓤 : URA M) (H : Heap 𝓤) (A : Atoms 𝓤) (W : Given 𝓤 H A) (at-mem : Memory → SProp 𝓤) (run : Routine → Fun 𝓤) (𝓣 : Tables 𝓤 H) → Triple 𝓤 (𝓣 .C #marking·table-gate) (table-gate-C.Con 𝓤 H A at-mem run) → Triple 𝓤 (𝓣 .C #marking·passed) (passed-C.Con 𝓤 H A at-mem run) → Meets 𝓤 H A check-F.signature (WpFn 𝓤 H (𝓣 .C) (𝓣 .Λ) code.function) (check-F.spec 𝓤 H A at-mem run)
+check-meets 𝓤 H A W at-mem run 𝓣 known-table-gate known-passed y =
     walk-meets-at 𝓤 H A check-F.ended stayed W (goes-none-slice 𝓤 H A W 6 (0 ∷ []) tt (plain (λ _. u8)) yes, (goes-none-slice 𝓤 H A W 6 (1 ∷ []) tt (plain (λ _. u8)) yes, (goes-none-slice 𝓤 H A W 6 (2 ∷ []) tt (plain (λ _. u8)) yes, (goes-slice 𝓤 H A W 6 3 tt (plain (λ _. u32)), (goes-slice 𝓤 H A W 6 4 tt (plain (λ _. OpenStart-T.the-row)), (goes-slice 𝓤 H A W 6 5 tt (plain (λ _. u64)), tt)))))) (check-F.clauses 𝓤 H A at-mem run) (WpFn 𝓤 H (𝓣 .C) (𝓣 .Λ) code.function) (WpFn-mono 𝓤 H (W .laws) 𝓣 code.function) y
-    (walked-at 𝓤 H A check-F.ended stayed (check-F.clauses 𝓤 H A at-mem run) (WpFn 𝓤 H (𝓣 .C) (𝓣 .Λ) code.function) y (slice-vals, (slice-vals, (slice-vals, (slice-vals, (slice-vals, (slice-vals, tt)))))) (shr-slice-tells (named 0) (y .0 .0 .0) u8, (shr-slice-tells (named 1) (y .0 .0 .1 .0) u8, (shr-slice-tells (named 2) (y .0 .0 .1 .1 .0) u8, (mut-slice-tells (named 3) (y .0 .0 .1 .1 .1 .0) u32, (mut-slice-tells (named 4) (y .0 .0 .1 .1 .1 .1 .0) OpenStart-T.the-row, (mut-slice-tells (named 5) (y .0 .0 .1 .1 .1 .1 .1 .0) u64, tt)))))) (λ are. via 𝓤 _ (fst∗ 𝓤 _ (emp 𝓤)) (walk 𝓤 H A W at-mem run (record { κ = y .0 .0 .0; q = y .0 .1 .0; γ = y .0 .3 .0 .name; b = y .0 .3 .0 .ptr .0; o = y .0 .3 .0 .ptr .1; n = length (y .0 .3 .0 .now) }) (y .0 .3 .0 .now) (record { κ = y .0 .0 .1 .0; q = y .0 .1 .1 .0; γ = y .0 .3 .1 .0 .name; b = y .0 .3 .1 .0 .ptr .0; o = y .0 .3 .1 .0 .ptr .1; n = length (y .0 .3 .1 .0 .now) }) (y .0 .3 .1 .0 .now) (record { κ = y .0 .0 .1 .1 .0; q = y .0 .1 .1 .1 .0; γ = y .0 .3 .1 .1 .0 .name; b = y .0 .3 .1 .1 .0 .ptr .0; o = y .0 .3 .1 .1 .0 .ptr .1; n = length (y .0 .3 .1 .1 .0 .now) }) (y .0 .3 .1 .1 .0 .now) (record { κ = y .0 .0 .1 .1 .1 .0; q = y .0 .1 .1 .1 .1 .0; γ = y .0 .3 .1 .1 .1 .0 .name; b = y .0 .3 .1 .1 .1 .0 .ptr .0; o = y .0 .3 .1 .1 .1 .0 .ptr .1; n = length (y .0 .3 .1 .1 .1 .0 .now) }) (y .0 .3 .1 .1 .1 .0 .now) (record { κ = y .0 .0 .1 .1 .1 .1 .0; q = y .0 .1 .1 .1 .1 .1 .0; γ = y .0 .3 .1 .1 .1 .1 .0 .name; b = y .0 .3 .1 .1 .1 .1 .0 .ptr .0; o = y .0 .3 .1 .1 .1 .1 .0 .ptr .1; n = length (y .0 .3 .1 .1 .1 .1 .0 .now) }) (y .0 .3 .1 .1 .1 .1 .0 .now) (record { κ = y .0 .0 .1 .1 .1 .1 .1 .0; q = y .0 .1 .1 .1 .1 .1 .1 .0; γ = y .0 .3 .1 .1 .1 .1 .1 .0 .name; b = y .0 .3 .1 .1 .1 .1 .1 .0 .ptr .0; o = y .0 .3 .1 .1 .1 .1 .1 .0 .ptr .1; n = length (y .0 .3 .1 .1 .1 .1 .1 .0 .now) }) (y .0 .3 .1 .1 .1 .1 .1 .0 .now) (are .0 .0 .1) refl (are .1 .0 .0 .1) refl (are .1 .1 .0 .0 .1) refl (are .1 .1 .1 .0 .0 .1) refl (are .1 .1 .1 .1 .0 .0 .1) refl (are .1 .1 .1 .1 .1 .0 .0 .1) refl 𝓣 known-table-gate known-node-count known-checked)))
+    (walked-at 𝓤 H A check-F.ended stayed (check-F.clauses 𝓤 H A at-mem run) (WpFn 𝓤 H (𝓣 .C) (𝓣 .Λ) code.function) y (slice-vals, (slice-vals, (slice-vals, (slice-vals, (slice-vals, (slice-vals, tt)))))) (shr-slice-tells (named 0) (y .0 .0 .0) u8, (shr-slice-tells (named 1) (y .0 .0 .1 .0) u8, (shr-slice-tells (named 2) (y .0 .0 .1 .1 .0) u8, (mut-slice-tells (named 3) (y .0 .0 .1 .1 .1 .0) u32, (mut-slice-tells (named 4) (y .0 .0 .1 .1 .1 .1 .0) OpenStart-T.the-row, (mut-slice-tells (named 5) (y .0 .0 .1 .1 .1 .1 .1 .0) u64, tt)))))) (λ are. via 𝓤 _ (fst∗ 𝓤 _ (emp 𝓤)) (walk 𝓤 H A W at-mem run (record { κ = y .0 .0 .0; q = y .0 .1 .0; γ = y .0 .3 .0 .name; b = y .0 .3 .0 .ptr .0; o = y .0 .3 .0 .ptr .1; n = length (y .0 .3 .0 .now) }) (y .0 .3 .0 .now) (record { κ = y .0 .0 .1 .0; q = y .0 .1 .1 .0; γ = y .0 .3 .1 .0 .name; b = y .0 .3 .1 .0 .ptr .0; o = y .0 .3 .1 .0 .ptr .1; n = length (y .0 .3 .1 .0 .now) }) (y .0 .3 .1 .0 .now) (record { κ = y .0 .0 .1 .1 .0; q = y .0 .1 .1 .1 .0; γ = y .0 .3 .1 .1 .0 .name; b = y .0 .3 .1 .1 .0 .ptr .0; o = y .0 .3 .1 .1 .0 .ptr .1; n = length (y .0 .3 .1 .1 .0 .now) }) (y .0 .3 .1 .1 .0 .now) (record { κ = y .0 .0 .1 .1 .1 .0; q = y .0 .1 .1 .1 .1 .0; γ = y .0 .3 .1 .1 .1 .0 .name; b = y .0 .3 .1 .1 .1 .0 .ptr .0; o = y .0 .3 .1 .1 .1 .0 .ptr .1; n = length (y .0 .3 .1 .1 .1 .0 .now) }) (y .0 .3 .1 .1 .1 .0 .now) (record { κ = y .0 .0 .1 .1 .1 .1 .0; q = y .0 .1 .1 .1 .1 .1 .0; γ = y .0 .3 .1 .1 .1 .1 .0 .name; b = y .0 .3 .1 .1 .1 .1 .0 .ptr .0; o = y .0 .3 .1 .1 .1 .1 .0 .ptr .1; n = length (y .0 .3 .1 .1 .1 .1 .0 .now) }) (y .0 .3 .1 .1 .1 .1 .0 .now) (record { κ = y .0 .0 .1 .1 .1 .1 .1 .0; q = y .0 .1 .1 .1 .1 .1 .1 .0; γ = y .0 .3 .1 .1 .1 .1 .1 .0 .name; b = y .0 .3 .1 .1 .1 .1 .1 .0 .ptr .0; o = y .0 .3 .1 .1 .1 .1 .1 .0 .ptr .1; n = length (y .0 .3 .1 .1 .1 .1 .1 .0 .now) }) (y .0 .3 .1 .1 .1 .1 .1 .0 .now) (are .0 .0 .1) refl (are .1 .0 .0 .1) refl (are .1 .1 .0 .0 .1) refl (are .1 .1 .1 .0 .0 .1) refl (are .1 .1 .1 .1 .0 .0 .1) refl (are .1 .1 .1 .1 .1 .0 .0 .1) refl 𝓣 known-table-gate known-passed)))
 
 pub check-spec : {M : Type 1} → stated.statement M
 unfolding code.routine tablesOf
@@ -313,5 +302,4 @@ check-spec 𝓤 H 𝓜 𝓖 𝓡 =
     (tables 𝓤 H 𝓜 𝓡 code.env .C) (tables 𝓤 H 𝓜 𝓡 code.env .Λ) #marking·check code.function (code.unfolded 𝓤 H 𝓜 𝓡)
     (check-meets 𝓤 H (𝓖 .A) (givenOf 𝓤 H 𝓜 𝓖) (𝓜 .mem) (𝓡 .run) (tablesOf 𝓤 H 𝓜 (tables 𝓤 H 𝓜 𝓡 code.env))
     (cited 𝓤 H (table-gate-C.Con 𝓤 H (𝓖 .A) (𝓜 .mem) (𝓡 .run)) 𝓜 𝓡 code.env #marking·table-gate table-gate-def.routine code.calls-marking·table-gate (table-gate-thm.met 𝓤 H 𝓜 𝓖 𝓡))
-    (cited 𝓤 H (node-count-C.Con 𝓤 H (𝓖 .A) (𝓜 .mem) (𝓡 .run)) 𝓜 𝓡 code.env #marking·node-count node-count-def.routine code.calls-marking·node-count (node-count-thm.met 𝓤 H 𝓜 𝓖 𝓡))
-    (cited 𝓤 H (checked-C.Con 𝓤 H (𝓖 .A) (𝓜 .mem) (𝓡 .run)) 𝓜 𝓡 code.env #marking·checked checked-def.routine code.calls-marking·checked (checked-thm.met 𝓤 H 𝓜 𝓖 𝓡)))
+    (cited 𝓤 H (passed-C.Con 𝓤 H (𝓖 .A) (𝓜 .mem) (𝓡 .run)) 𝓜 𝓡 code.env #marking·passed passed-def.routine code.calls-marking·passed (passed-thm.met 𝓤 H 𝓜 𝓖 𝓡)))
