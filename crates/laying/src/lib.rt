@@ -6,7 +6,7 @@ ghost use Rattle.laying.specs.Over.{Put, limit};
 ghost use Rattle.laying.specs.Decimal.{decimal};
 
 // How many of some bytes have room in a list from a place on.
-fn fitting(bytes: usize, list: usize, at: usize) -> usize
+pub fn fitting(bytes: usize, list: usize, at: usize) -> usize
     ensures { λ r. ⌜ r ≡ min bytes (list - at) ⌝ }
 {
     if list <= at {

@@ -32,7 +32,7 @@ module _ (table s t seen : List ℕ) (opens : List OpenStart) (l : List ℕ) whe
   abbrev it : Lent
   it = lent table s t seen opens l
 
-  refusal-is : fromTable table s t (length seen) (length opens) ≡ refusal it
+  pub refusal-is : fromTable table s t (length seen) (length opens) ≡ refusal it
   unfolding refusal
   refusal-is = ap (orElse (of1 it)) (or-assoc (of2 it) (of3 it) (fromTape table s t (length seen) (length opens)))
 

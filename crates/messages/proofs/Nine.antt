@@ -16,7 +16,7 @@ use Rattle.tape.specs.Forest.{Accepted}
 use Rattle.tape.specs.Reading.{Refusal, refuse, orElse, tapeRefusal}
 use Rattle.tape.proofs.OneNumber.{accepted, neither, either-false, only-not}
 use Rattle.numbers.specs.Label.{labelRefusal, pickList}
-use Rattle.validate.specs.Outcome.{of1, of2, of3, ofTape, of9}
+use Rattle.validate.specs.Outcome.{Lent, of1, of2, of3, ofTape, of9, of10, refusal}
 use Rattle.marking.specs.Entry.{gateOf, listsRefusal, fromTape, fromTable}
 use Rattle.marking.proofs.Whole.{or-assoc}
 use Rattle.marking.specs.declared.Gate.{Gate}
@@ -50,19 +50,33 @@ module _ (table s t : List ℕ) where
     pub shut : (a b : ℕ) → g ≡ gate.Shut a b → firstNine table s t ≡ refuse a b
     shut a b e = sym nine ∙ sym says ∙ ap gateOf e
 
-    module _ (n : ℕ) (e : g ≡ gate.Open n) where
-      pub passed : firstNine table s t ≡ none
-      passed = sym nine ∙ sym says ∙ ap gateOf e
+    pub passed : (n : ℕ) → g ≡ gate.Open n → firstNine table s t ≡ none
+    passed n e = sym nine ∙ sym says ∙ ap gateOf e
 
-      after1 : orElse (of2 (document table s t)) (orElse (of3 (document table s t)) (orElse (ofTape (document table s t)) (of9 (document table s t)))) ≡ none
-      unfolding firstNine
-      after1 = neither (of1 (document table s t)) _ passed .1
+  -- what numbers 1 to 9 leave
+  module _ (nothing : firstNine table s t ≡ none) where
+    after1 : orElse (of2 (document table s t)) (orElse (of3 (document table s t)) (orElse (ofTape (document table s t)) (of9 (document table s t)))) ≡ none
+    unfolding firstNine
+    after1 = neither (of1 (document table s t)) _ nothing .1
 
-      pub is-short : length s ≤ 1048576
-      is-short = ltb-false 1048576 (length s) (only-not (ltb 1048576 (length s)) 2 0 (neither (of2 (document table s t)) _ after1 .0))
+    pub is-short : length s ≤ 1048576
+    is-short = ltb-false 1048576 (length s) (only-not (ltb 1048576 (length s)) 2 0 (neither (of2 (document table s t)) _ after1 .0))
 
-      pub is-accepted : Accepted s t
-      is-accepted = accepted s t .0 (neither (ofTape (document table s t)) _ (neither (of3 (document table s t)) _ (neither (of2 (document table s t)) _ after1 .1) .1) .0)
+    pub is-accepted : Accepted s t
+    is-accepted = accepted s t .0 (neither (ofTape (document table s t)) _ (neither (of3 (document table s t)) _ (neither (of2 (document table s t)) _ after1 .1) .1) .0)
+
+-- numbers 1 to 9 of what number 10 doesn't turn back either
+first-five : (a b c d e f : Option Refusal) → orElse a (orElse b (orElse c (orElse d (orElse e f)))) ≡ none → orElse a (orElse b (orElse c (orElse d e))) ≡ none
+first-five none none none none none f z = refl
+first-five none none none none (some r) f z = z
+first-five none none none (some r) e f z = z
+first-five none none (some r) d e f z = z
+first-five none (some r) c d e f z = z
+first-five (some r) b c d e f z = z
+
+pub nine-none : (l : Lent) → refusal l ≡ none → firstNine (l .table) (l .source) (l .tape) ≡ none
+unfolding refusal firstNine
+nine-none l z = first-five (of1 l) (of2 l) (of3 l) (ofTape l) (of9 l) (of10 l) z
 
 -- what is told, by what the laying of a text answered and the length of the list
 unfoldable pub toldFor : ℕ → ℕ → Told

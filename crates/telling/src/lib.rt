@@ -35,7 +35,7 @@ fn asked_at(list: &[u64], k: usize) -> Asked
 }
 
 // The texts of a document that is passed already.
-fn tell_in<'a>(
+pub fn tell_in<'a>(
     table: &'a [u8],
     words: &[u64],
     entries: usize,

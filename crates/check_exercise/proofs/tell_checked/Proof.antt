@@ -1,7 +1,7 @@
 -- `check_exercise::tell_checked` meets its contract.
 -- Assumes nothing.
 use denote.Ref.{now}
-use Rattle.messages.proofs.Nine.{is-accepted}
+use Rattle.messages.proofs.Nine.{passed, is-accepted}
 use borrow.Author.Needs.{needs}
 use Rattle.check_exercise.proofs.tell_checked.Statement.{statement}
 use Rattle.check_exercise.proofs.tell_checked.Tie as tie
@@ -33,7 +33,8 @@ tell-findings-requires c κs =
     let s = c .before .before .before .before .before .before .before .before .before .before .before .before in
     let a = s .args in
     let m = c .before .before .entries .given in
-    (rw (m .1) at (g .ensures .1), is-accepted (now (a .table)) (now (a .source)) (now (a .tape)) (g .result) (g .ensures .0) (m .0 .0) (m .1), s .pre)
+    let z = passed (now (a .table)) (now (a .source)) (now (a .tape)) (g .result) (g .ensures .0) (m .0 .0) (m .1) in
+    (rw (m .1) at (g .ensures .1), is-accepted (now (a .table)) (now (a .source)) (now (a .tape)) z, s .pre)
 
 returns-2 : tie.Need-returns-2
 returns-2 c = search needs

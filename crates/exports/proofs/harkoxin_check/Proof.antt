@@ -45,7 +45,7 @@ use denote.Triple.Entry.{onEntry}
 use denote.Triple.Spec.{Meets, tripleOf}
 use denote.Triple.Table.{entered, cited}
 use denote.Triple.Cycle.{measured, at-on, mutual-elim, AllBelow}
-use denote.Triple.Walked.{says, needs, Stays, stay-none, stay-none-slice, stay-ref, stay-slice, walkOf, goes-none, goes-none-slice, goes-ref, goes-slice, Walks, ends-at, walked, walk-meets, walked-at, walk-meets-at}
+use denote.Triple.Walked.{says, needs, Stays, stay-none, stay-none-slice, stay-ref, stay-slice, walkOf, goes-none, goes-none-slice, goes-ref, goes-slice, Walks, ends-at as exit-at, walked, walk-meets, walked-at, walk-meets-at}
 use denote.Exit.{yes}
 use Rattle.references.proofs.Flow.{if-then, skip-then, exit-then, switch-then, assoc-then, loop-then, meets-at, frees-any}
 use Rattle.references.proofs.Hand.{At, lent as relent, ptrVal, fatVal, ref, HasRef, HasMut, HasShr, KeptRef, KeptMut, KeptShr, OpenRef, OpenAt, lend-ref, back-ref, lend-mut, back-mut, lend-shr, back-shr, open-ref, shut-ref, open-at, shut-at, back-at}
@@ -56,6 +56,10 @@ use Rattle.marking.specs.declared.Answer.{Answer}
 use Rattle.marking.proofs.Answer as Answer-T
 use Rattle.marking.proofs.Answer.Laws as Answer-L
 use Rattle.marking.specs.declared.Answer.the-variants as Answer-V
+use Rattle.marking.specs.declared.Gate.{Gate}
+use Rattle.marking.proofs.Gate as Gate-T
+use Rattle.marking.proofs.Gate.Laws as Gate-L
+use Rattle.marking.specs.declared.Gate.the-variants as Gate-V
 use Rattle.validate.specs.declared.OpenStart.{OpenStart}
 use Rattle.validate.proofs.OpenStart as OpenStart-T
 use Rattle.validate.proofs.OpenStart.Laws as OpenStart-L
@@ -74,11 +78,17 @@ use Rattle.references.proofs.Hand.{part, KeptPart, lend-part, back-part, part-l
 use Rattle.references.proofs.Flow.{ne-of, is-true, is-false, Dies}
 use denote.Index.{place}
 use lib.Dec.{nleb→lt}
+use mathlib.Core.List.{_++_}
+use mathlib.Core.Option.{none}
+use Rattle.tape.specs.Forest.{Accepted}
+use Rattle.table.specs.Entries.{Indexed}
 use Rattle.validate.specs.Outcome.{answer, listAfter, seenAfter, openAfter}
 use Rattle.validate.specs.Outcome as outcome
-use Rattle.marking.specs.Entry.{answerOf, lent}
+use Rattle.marking.specs.Entry.{answerOf, gateOf, fromTable, Passed, lent}
 use Rattle.laying.specs.Over.{over}
-use Rattle.exports.specs.Words.{answerWords}
+use Rattle.telling.specs.Telling.{textsOf, joined, endsFrom}
+use Rattle.exports.specs.Words.{answerWords, textsWords}
+use Rattle.exports.specs.Report.{heldOf, heldIn, toldHeld, turnedWords, reportTold, reportText, reportEnds}
 use Rattle.exports.proofs.harkoxin_check.Statement as stated
 use Rattle.exports.proofs.harkoxin_check.Key.{name as #exports·harkoxin-check}
 use base.Logic.{fst∗}
@@ -154,7 +164,7 @@ module _ {M : Type 1} (𝓤 : URA M) (H : Heap 𝓤) (A : Atoms 𝓤) (W : Given
 
   exits : (r : Unit {0}) (seen₁ : List ℕ) (opens₁ : List OpenStart) (list₁ : List ℕ) (out₁ : List ℕ) (len-seen : length seen₁ ≡ length seen₀) (len-opens : length opens₁ ≡ length opens₀) (len-list : length list₁ ≡ length list₀) (len-out : length out₁ ≡ length out₀) (e : (out₁ ≡ over out₀ 0 (answerWords (answer (lent table₀ source₀ tape₀ seen₀ opens₀ list₀)))) × (list₁ ≡ listAfter (lent table₀ source₀ tape₀ seen₀ opens₀ list₀)) × (seen₁ ≡ seenAfter (lent table₀ source₀ tape₀ seen₀ opens₀ list₀)) × (opens₁ ≡ openAfter (lent table₀ source₀ tape₀ seen₀ opens₀ list₀))) → ent 𝓤 (⋆ 𝓤 H A (‵ (HasShr u8 table-at table₀) ∷ ‵ (HasShr u8 source-at source₀) ∷ ‵ (HasShr u8 tape-at tape₀) ∷ ‵ (HasMut u32 seen-at seen₁) ∷ ‵ (HasMut OpenStart-T.the-row opens-at opens₁) ∷ ‵ (HasMut u64 list-at list₁) ∷ ‵ (HasMut u64 out-at out₁) ∷ [])) (Post (vunit))
   exits r seen₁ opens₁ list₁ out₁ len-seen len-opens len-list len-out e =
-      qed W (‵ (HasShr u8 table-at table₀) ∷ ‵ (HasShr u8 source-at source₀) ∷ ‵ (HasShr u8 tape-at tape₀) ∷ ‵ (HasMut u32 seen-at seen₁) ∷ ‵ (HasMut OpenStart-T.the-row opens-at opens₁) ∷ ‵ (HasMut u64 list-at list₁) ∷ ‵ (HasMut u64 out-at out₁) ∷ []) ∵ suffices ! _ (ends-at 𝓤 H A harkoxin-check-F.ended stayed (harkoxin-check-F.clauses 𝓤 H A at-mem run) W Y (vunit) r (tt, (tt, (tt, (seen₁, (opens₁, (list₁, (out₁, tt))))))) (tt, (tt, (tt, (len-seen, (len-opens, (len-list, (len-out, tt)))))))) $ fsplit ! $ move ! (2 ∷ []) $ fsplit ! $ move ! (4 ∷ []) $ fsplit ! $ move ! (6 ∷ []) $ fsplit ! $ move ! (8 ∷ []) $ fsplit ! $ move ! (10 ∷ []) $ fsplit ! $ move ! (12 ∷ []) $ fsplit ! $ nothing ! $ move ! (2 ∷ 0 ∷ []) $ join ! $ move ! (3 ∷ 0 ∷ []) $ join ! $ move ! (4 ∷ 0 ∷ []) $ join ! $ move ! (5 ∷ 0 ∷ []) $ join ! $ move ! (6 ∷ 0 ∷ []) $ join ! $ move ! (7 ∷ 0 ∷ []) $ join ! $ move ! (8 ∷ 0 ∷ []) $ join ! $ nothing ! $ move ! (2 ∷ 0 ∷ []) $ fjoin ! $ move ! (2 ∷ 0 ∷ []) $ fjoin ! $ move ! (2 ∷ 0 ∷ []) $ fjoin ! $ move ! (2 ∷ 0 ∷ []) $ fjoin ! $ move ! (2 ∷ 0 ∷ []) $ fjoin ! $ move ! (2 ∷ 0 ∷ []) $ fjoin ! $ move ! (2 ∷ 0 ∷ []) $ fjoin ! $ owned ! unit (Is unit) (nothing-makes 𝓤 H A W) r _ refl $ move ! (1 ∷ 0 ∷ []) $ join ! $ move ! (1 ∷ 0 ∷ []) $ join ! $ use0 W (raw (fact 𝓤 (opens₁ ≡ openAfter (lent table₀ source₀ tape₀ seen₀ opens₀ list₀)))) (factI 𝓤 (opens₁ ≡ openAfter (lent table₀ source₀ tape₀ seen₀ opens₀ list₀)) (emp 𝓤) (e .3)) $ use0 W (raw (fact 𝓤 (seen₁ ≡ seenAfter (lent table₀ source₀ tape₀ seen₀ opens₀ list₀)))) (factI 𝓤 (seen₁ ≡ seenAfter (lent table₀ source₀ tape₀ seen₀ opens₀ list₀)) (emp 𝓤) (e .2)) $ join ! $ use0 W (raw (fact 𝓤 (list₁ ≡ listAfter (lent table₀ source₀ tape₀ seen₀ opens₀ list₀)))) (factI 𝓤 (list₁ ≡ listAfter (lent table₀ source₀ tape₀ seen₀ opens₀ list₀)) (emp 𝓤) (e .1)) $ join ! $ use0 W (raw (fact 𝓤 (out₁ ≡ over out₀ 0 (answerWords (answer (lent table₀ source₀ tape₀ seen₀ opens₀ list₀)))))) (factI 𝓤 (out₁ ≡ over out₀ 0 (answerWords (answer (lent table₀ source₀ tape₀ seen₀ opens₀ list₀)))) (emp 𝓤) (e .0)) $ join ! $ move ! (1 ∷ 0 ∷ []) $ done !
+      qed W (‵ (HasShr u8 table-at table₀) ∷ ‵ (HasShr u8 source-at source₀) ∷ ‵ (HasShr u8 tape-at tape₀) ∷ ‵ (HasMut u32 seen-at seen₁) ∷ ‵ (HasMut OpenStart-T.the-row opens-at opens₁) ∷ ‵ (HasMut u64 list-at list₁) ∷ ‵ (HasMut u64 out-at out₁) ∷ []) ∵ suffices ! _ (exit-at 𝓤 H A harkoxin-check-F.ended stayed (harkoxin-check-F.clauses 𝓤 H A at-mem run) W Y (vunit) r (tt, (tt, (tt, (seen₁, (opens₁, (list₁, (out₁, tt))))))) (tt, (tt, (tt, (len-seen, (len-opens, (len-list, (len-out, tt)))))))) $ fsplit ! $ move ! (2 ∷ []) $ fsplit ! $ move ! (4 ∷ []) $ fsplit ! $ move ! (6 ∷ []) $ fsplit ! $ move ! (8 ∷ []) $ fsplit ! $ move ! (10 ∷ []) $ fsplit ! $ move ! (12 ∷ []) $ fsplit ! $ nothing ! $ move ! (2 ∷ 0 ∷ []) $ join ! $ move ! (3 ∷ 0 ∷ []) $ join ! $ move ! (4 ∷ 0 ∷ []) $ join ! $ move ! (5 ∷ 0 ∷ []) $ join ! $ move ! (6 ∷ 0 ∷ []) $ join ! $ move ! (7 ∷ 0 ∷ []) $ join ! $ move ! (8 ∷ 0 ∷ []) $ join ! $ nothing ! $ move ! (2 ∷ 0 ∷ []) $ fjoin ! $ move ! (2 ∷ 0 ∷ []) $ fjoin ! $ move ! (2 ∷ 0 ∷ []) $ fjoin ! $ move ! (2 ∷ 0 ∷ []) $ fjoin ! $ move ! (2 ∷ 0 ∷ []) $ fjoin ! $ move ! (2 ∷ 0 ∷ []) $ fjoin ! $ move ! (2 ∷ 0 ∷ []) $ fjoin ! $ owned ! unit (Is unit) (nothing-makes 𝓤 H A W) r _ refl $ move ! (1 ∷ 0 ∷ []) $ join ! $ move ! (1 ∷ 0 ∷ []) $ join ! $ use0 W (raw (fact 𝓤 (opens₁ ≡ openAfter (lent table₀ source₀ tape₀ seen₀ opens₀ list₀)))) (factI 𝓤 (opens₁ ≡ openAfter (lent table₀ source₀ tape₀ seen₀ opens₀ list₀)) (emp 𝓤) (e .3)) $ use0 W (raw (fact 𝓤 (seen₁ ≡ seenAfter (lent table₀ source₀ tape₀ seen₀ opens₀ list₀)))) (factI 𝓤 (seen₁ ≡ seenAfter (lent table₀ source₀ tape₀ seen₀ opens₀ list₀)) (emp 𝓤) (e .2)) $ join ! $ use0 W (raw (fact 𝓤 (list₁ ≡ listAfter (lent table₀ source₀ tape₀ seen₀ opens₀ list₀)))) (factI 𝓤 (list₁ ≡ listAfter (lent table₀ source₀ tape₀ seen₀ opens₀ list₀)) (emp 𝓤) (e .1)) $ join ! $ use0 W (raw (fact 𝓤 (out₁ ≡ over out₀ 0 (answerWords (answer (lent table₀ source₀ tape₀ seen₀ opens₀ list₀)))))) (factI 𝓤 (out₁ ≡ over out₀ 0 (answerWords (answer (lent table₀ source₀ tape₀ seen₀ opens₀ list₀)))) (emp 𝓤) (e .0)) $ join ! $ move ! (1 ∷ 0 ∷ []) $ done !
 
   entry : ent 𝓤 (onEntry 𝓤 H A harkoxin-check-F.signature (table-at .κ, (source-at .κ, (tape-at .κ, (seen-at .κ, (opens-at .κ, (list-at .κ, (out-at .κ, tt))))))) (table-at .q, (source-at .q, (tape-at .q, (seen-at .q, (opens-at .q, (list-at .q, (out-at .q, tt))))))) (ref table-at table₀, (ref source-at source₀, (ref tape-at tape₀, (ref seen-at seen₀, (ref opens-at opens₀, (ref list-at list₀, (ref out-at out₀, tt))))))) (fatVal table-at ∷ [], (fatVal source-at ∷ [], (fatVal tape-at ∷ [], (fatVal seen-at ∷ [], (fatVal opens-at ∷ [], (fatVal list-at ∷ [], (fatVal out-at ∷ [], tt)))))))) (⋆ 𝓤 H A (‵ (HasShr u8 table-at table₀) ∷ ‵ (HasShr u8 source-at source₀) ∷ ‵ (HasShr u8 tape-at tape₀) ∷ ‵ (HasMut u32 seen-at seen₀) ∷ ‵ (HasMut OpenStart-T.the-row opens-at opens₀) ∷ ‵ (HasMut u64 list-at list₀) ∷ ‵ (HasMut u64 out-at out₀) ∷ []))
   entry =

@@ -2,18 +2,19 @@
 -- Assumes nothing.
 use Prim.Native.Nat.{_-_}
 use native.Mathlib.Omega.{arith}
-use lib.ListN.{length}
-use Rattle.laying.proofs.Laying.{Laying, laying-start, laying-first, laying-full, laying-end}
+use Rattle.laying.proofs.Laying.{Laying, laying-start, laying-on, laying-done}
 use borrow.Author.Needs.{needs}
-use borrow.Author.Tests.{ltb-true, ltb-false}
 use Rattle.exports.proofs.lay.Statement.{statement}
 use Rattle.exports.proofs.lay.Tie as tie
 
 abbrev Inv-loop : tie.InvT-loop
-Inv-loop words out₀ i₀ out i = Laying words out₀ 0 out i
+Inv-loop words at out₀ n i₀ out i = Laying words out₀ at out i
 
 abbrev μ-loop : tie.MeasureT-loop
-μ-loop words out₀ i₀ out i = length words - i
+μ-loop words at out₀ n i₀ out i = n - i
+
+fitting-requires : tie.Need-fitting-requires Inv-loop μ-loop
+fitting-requires c κs = search needs
 
 loop-holds : tie.Need-loop-holds Inv-loop μ-loop
 loop-holds c = laying-start _ _ _
@@ -23,6 +24,9 @@ mul-out c = search needs
 
 shared-slice-read-out : tie.Need-shared-slice-read-out Inv-loop μ-loop
 shared-slice-read-out c = search needs
+
+add-out : tie.Need-add-out Inv-loop μ-loop
+add-out c = search needs
 
 mul-out-2 : tie.Need-mul-out-2 Inv-loop μ-loop
 mul-out-2 c = search needs
@@ -37,19 +41,13 @@ loop-less : tie.Need-loop-less Inv-loop μ-loop
 loop-less c = search needs
 
 loop-again : tie.Need-loop-again Inv-loop μ-loop
-loop-again c = laying-first _ _ _ _ (c .before .before .before .loop .inv) (c .before .before .loop-test .taken) (ltb-true _ _ (c .before .if1 .taken))
+loop-again c = laying-on _ _ _ _ _ (c .before .before .loop .inv) (omega arith) (omega arith)
 
 same-length : tie.Need-same-length Inv-loop μ-loop
-same-length c = c .before .before .loop .inv .same
+same-length c = c .before .loop .inv .same
 
 returns : tie.Need-returns Inv-loop μ-loop
-returns c = laying-full _ _ _ _ _ (c .before .before .loop .inv) (omega (arith, ltb-false))
-
-same-length-2 : tie.Need-same-length-2 Inv-loop μ-loop
-same-length-2 c = c .before .loop .inv .same
-
-returns-2 : tie.Need-returns-2 Inv-loop μ-loop
-returns-2 c = laying-end _ _ _ _ _ (c .before .loop .inv) (omega arith)
+returns c = laying-done _ _ _ _ _ (c .before .loop .inv) (omega arith)
 
 pub lay-spec : {M : Type 1} → statement M
 lay-spec =
@@ -57,15 +55,15 @@ lay-spec =
     (tie.spec
     Inv-loop
     μ-loop
+    fitting-requires
     loop-holds
     mul-out
     shared-slice-read-out
+    add-out
     mul-out-2
     slice-write-out
     add-i
     loop-less
     loop-again
     same-length
-    returns
-    same-length-2
-    returns-2)
+    returns)
