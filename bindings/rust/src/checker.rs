@@ -23,6 +23,15 @@ struct Lent<'a> {
     tape: &'a [u8],
 }
 
+/// What a report call gave: the counts, how many findings the list holds, how many bytes were lent for their texts, and what
+/// was answered of these.
+struct Told {
+    counts: Counts,
+    written: u64,
+    bytes: usize,
+    texts: [u64; raw::MESSAGES_WORDS],
+}
+
 /// Checks documents one after another and keeps its lists between them.
 ///
 /// ```
@@ -118,45 +127,48 @@ impl Checker {
             source,
             tape: tape.as_bytes(),
         };
-        let (counts, written) = self.find(lent, tape.len())?;
-        let texts = self.tell(lent, written)?;
-        Report::new(counts, &self.list, texts)
+        let told = self.find(lent, tape.len())?;
+        let texts = self.gather(lent, &told)?;
+        Report::new(told.counts, &self.list, texts)
     }
 
-    /// Has the findings written: by one call, or by a second where there are more than nodes. The counts, and how many findings
-    /// the list holds.
-    fn find(&mut self, lent: Lent<'_>, nodes: usize) -> Result<(Counts, u64), Refusal> {
+    /// Has the findings and their texts written: by one call, or by a second where there are more findings than nodes.
+    fn find(&mut self, lent: Lent<'_>, nodes: usize) -> Result<Told, Refusal> {
         // A longer tape is turned back by number 4 before the working lists are looked at.
         let nodes = nodes.min(MOST_NODES);
         lengthen(&mut self.seen, nodes);
         lengthen(&mut self.opens, nodes);
-        let first = nodes.min(self.max_findings);
-        lengthen(&mut self.list, FINDING_WORDS * first);
-        let (counts, written) = self.run(lent)?;
-        let wanted = counts.total.min(self.max_findings as u64);
-        if wanted <= written {
-            return Ok((counts, written));
+        let told = self.report(lent, nodes.min(self.max_findings))?;
+        let wanted = told.counts.total.min(self.max_findings as u64);
+        if wanted <= told.written {
+            return Ok(told);
         }
-        lengthen(&mut self.list, FINDING_WORDS * wanted as usize);
-        self.run(lent)
+        self.report(lent, wanted as usize)
     }
 
-    fn run(&mut self, lent: Lent<'_>) -> Result<(Counts, u64), Refusal> {
-        let mut out = [0; raw::CHECK_WORDS];
-        raw::check(
+    /// One call, with room for at least so many findings.
+    fn report(&mut self, lent: Lent<'_>, findings: usize) -> Result<Told, Refusal> {
+        lengthen(&mut self.list, FINDING_WORDS * findings);
+        let findings = self.list.len() / FINDING_WORDS;
+        self.room.lengthen(findings, self.max_text);
+        let bytes = self.room.bytes.len().min(self.max_text);
+        let mut out = [0; raw::REPORT_WORDS];
+        raw::report(
             lent.table,
             lent.source,
             lent.tape,
             &mut self.seen,
             &mut self.opens,
             &mut self.list,
+            &mut self.room.ends,
+            &mut self.room.bytes[..bytes],
             &mut out,
         );
         let [verdict, number, place, total, written, rest @ ..] = out;
         if verdict == raw::REFUSED {
             return Err(Refusal { number, place });
         }
-        let [verses, errors, warnings, infos] = rest;
+        let [verses, errors, warnings, infos, texts @ ..] = rest;
         let counts = Counts {
             total,
             verses,
@@ -164,14 +176,19 @@ impl Checker {
             warnings,
             infos,
         };
-        Ok((counts, written))
+        Ok(Told {
+            counts,
+            written,
+            bytes,
+            texts,
+        })
     }
 
-    /// The texts of the first findings of the list, so many of them.
-    fn tell(&mut self, lent: Lent<'_>, written: u64) -> Result<Texts, Refusal> {
-        let words = FINDING_WORDS.saturating_mul(written as usize);
+    /// The texts of the findings that the list holds: those that are told, and by further calls those that had no room.
+    fn gather(&mut self, lent: Lent<'_>, told: &Told) -> Result<Texts, Refusal> {
+        let words = FINDING_WORDS.saturating_mul(told.written as usize);
         let list = self.list.get(..words).unwrap_or_default();
-        texts::gather(list, &mut self.room, self.max_text, |list, ends, text| {
+        let ask = |list: &[u64], ends: &mut [u64], text: &mut [u8]| {
             let mut out = [0; raw::MESSAGES_WORDS];
             raw::messages(
                 lent.table,
@@ -183,6 +200,8 @@ impl Checker {
                 &mut out,
             );
             out
-        })
+        };
+        let (room, limit) = (&mut self.room, self.max_text);
+        texts::gather(list, room, limit, told.bytes, told.texts, ask)
     }
 }

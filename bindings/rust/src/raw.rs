@@ -30,6 +30,9 @@ pub const MESSAGE_WORDS: usize = 4;
 /// Words of the answer of [`messages`].
 pub const MESSAGES_WORDS: usize = 5;
 
+/// Words of the answer of [`report`].
+pub const REPORT_WORDS: usize = CHECK_WORDS + MESSAGES_WORDS;
+
 /// Words of the answer of [`tally`].
 pub const TALLY_WORDS: usize = 3;
 
@@ -76,6 +79,26 @@ mod library {
             opens_len: usize,
             list: *mut u64,
             list_len: usize,
+            out: *mut u64,
+            out_len: usize,
+        );
+        pub fn harkoxin_report(
+            table: *const u8,
+            table_len: usize,
+            source: *const u8,
+            source_len: usize,
+            tape: *const u8,
+            tape_len: usize,
+            seen: *mut u32,
+            seen_len: usize,
+            opens: *mut OpenStart,
+            opens_len: usize,
+            list: *mut u64,
+            list_len: usize,
+            ends: *mut u64,
+            ends_len: usize,
+            text: *mut u8,
+            text_len: usize,
             out: *mut u64,
             out_len: usize,
         );
@@ -264,6 +287,72 @@ pub fn messages(
             tape.as_ptr(),
             tape.len(),
             list.as_ptr(),
+            list.len(),
+            ends.as_mut_ptr(),
+            ends.len(),
+            text.as_mut_ptr(),
+            text.len(),
+            out.as_mut_ptr(),
+            out.len(),
+        );
+    }
+}
+
+/// Checks a document as [`check`] does, and lays the texts of the findings that it wrote over `text` as [`messages`] does of a
+/// list, by one reading of the document. A refusal changes no list.
+///
+/// `out`: the nine words of [`check`], then the five of [`messages`].
+///
+/// ```
+/// use harkoxin::raw::{self, OpenStart};
+/// use harkoxin::{Node, NodeKind, Tape};
+///
+/// let table = b"name=v\ncategory=verse\nrole=content\n";
+/// let nodes = [
+///     Node::new(NodeKind::Root, 0, 0, 0, 2),
+///     Node::new(NodeKind::Verse, 0, 0, 4, 0),
+/// ];
+/// let tape = Tape::from_nodes(&nodes);
+/// let (mut seen, mut opens) = ([0; 2], [OpenStart::default(); 2]);
+/// let mut list = [0; 4 * raw::FINDING_WORDS];
+/// let (mut ends, mut text) = ([0; 4], [0; 1_000]);
+/// let mut out = [0; raw::REPORT_WORDS];
+/// raw::report(
+///     table, b"\\v 2", tape.as_bytes(),
+///     &mut seen, &mut opens, &mut list, &mut ends, &mut text, &mut out,
+/// );
+/// let (check, messages) = out.split_at(raw::CHECK_WORDS);
+/// assert_eq!((check[0], check[4]), (raw::DONE, 4));
+/// assert_eq!((messages[0], messages[3]), (raw::DONE, 4));
+/// let second = &text[ends[0] as usize..ends[1] as usize];
+/// assert_eq!(second, b"expected verse 1 but found 2");
+/// ```
+#[allow(clippy::too_many_arguments)]
+pub fn report(
+    table: &[u8],
+    source: &[u8],
+    tape: &[u8],
+    seen: &mut [u32],
+    opens: &mut [OpenStart],
+    list: &mut [u64],
+    ends: &mut [u64],
+    text: &mut [u8],
+    out: &mut [u64],
+) {
+    // SAFETY: as in `check`.
+    unsafe {
+        library::harkoxin_report(
+            table.as_ptr(),
+            table.len(),
+            source.as_ptr(),
+            source.len(),
+            tape.as_ptr(),
+            tape.len(),
+            seen.as_mut_ptr(),
+            seen.len(),
+            opens.as_mut_ptr(),
+            opens.len(),
+            list.as_mut_ptr(),
             list.len(),
             ends.as_mut_ptr(),
             ends.len(),

@@ -20,8 +20,16 @@ pub(crate) fn lengthen<T: Clone + Default>(list: &mut Vec<T>, len: usize) {
 /// The lists that the library is lent for texts.
 #[derive(Clone, Debug, Default)]
 pub(crate) struct Room {
-    ends: Vec<u64>,
-    bytes: Vec<u8>,
+    pub(crate) ends: Vec<u64>,
+    pub(crate) bytes: Vec<u8>,
+}
+
+impl Room {
+    /// Makes room for the texts of so many findings, if they are as short as most, within a limit of bytes.
+    pub(crate) fn lengthen(&mut self, findings: usize, limit: usize) {
+        lengthen(&mut self.ends, findings);
+        lengthen(&mut self.bytes, findings.saturating_mul(GUESS).min(limit));
+    }
 }
 
 /// Texts one behind another.
@@ -93,34 +101,34 @@ impl Texts {
     }
 }
 
-/// The texts of a list's findings, as many as take at most `limit` bytes. `ask` is the library's call: the list, the ends and
-/// the bytes that are lent, the answer.
+/// The texts of a list's findings, as many as take at most `limit` bytes. The first of them are in the room, with what the
+/// library answered, which was lent so many bytes for them. `ask` is the library's call for more: the list, the ends and the
+/// bytes that are lent, the answer.
 ///
 /// The bytes that are lent double from call to call, so that there are few calls; each reads the whole document.
 pub(crate) fn gather(
     list: &[u64],
     room: &mut Room,
     limit: usize,
+    mut lent: usize,
+    mut answer: [u64; MESSAGES_WORDS],
     mut ask: impl FnMut(&[u64], &mut [u64], &mut [u8]) -> [u64; MESSAGES_WORDS],
 ) -> Result<Texts, Refusal> {
     let mut texts = Texts::default();
     let findings = list.len() / FINDING_WORDS;
-    lengthen(&mut room.ends, findings);
-    lengthen(&mut room.bytes, findings.saturating_mul(GUESS).min(limit));
-    let mut left = limit;
-    while texts.len() < findings {
-        let rest = list.get(FINDING_WORDS * texts.len()..).unwrap_or_default();
-        let lent = room.bytes.len().min(left);
-        let answer = ask(rest, &mut room.ends, &mut room.bytes[..lent]);
+    loop {
         let needed = texts.take(room, lent, answer)?;
-        left = limit.saturating_sub(texts.text.len());
-        let Some(needed) = needed.filter(|&needed| needed <= left) else {
-            break;
+        let left = limit.saturating_sub(texts.text.len());
+        let needed = needed.filter(|&needed| needed <= left && texts.len() < findings);
+        let Some(needed) = needed else {
+            return Ok(texts);
         };
         let more = room.bytes.len().saturating_mul(2).min(limit);
         lengthen(&mut room.bytes, more.max(needed));
+        let rest = list.get(FINDING_WORDS * texts.len()..).unwrap_or_default();
+        lent = room.bytes.len().min(left);
+        answer = ask(rest, &mut room.ends, &mut room.bytes[..lent]);
     }
-    Ok(texts)
 }
 
 #[cfg(test)]
@@ -148,13 +156,26 @@ mod tests {
         [DONE, 0, 0, told as u64, used as u64]
     }
 
+    /// What is gathered from a library that is asked each time, the first time too.
+    fn asked(
+        list: &[u64],
+        limit: usize,
+        mut ask: impl FnMut(&[u64], &mut [u64], &mut [u8]) -> [u64; MESSAGES_WORDS],
+    ) -> Result<Texts, Refusal> {
+        let mut room = Room::default();
+        room.lengthen(list.len() / FINDING_WORDS, limit);
+        let lent = room.bytes.len();
+        let answer = ask(list, &mut room.ends, &mut room.bytes);
+        gather(list, &mut room, limit, lent, answer, ask)
+    }
+
     /// What is gathered of these texts within a limit, and the number of calls.
     fn gathered(texts: &[&[u8]], limit: usize) -> (Vec<String>, usize) {
         let list: Vec<u64> = (0..texts.len() as u64)
             .flat_map(|k| [k; FINDING_WORDS])
             .collect();
         let mut calls = 0;
-        let told = gather(&list, &mut Room::default(), limit, |list, ends, bytes| {
+        let told = asked(&list, limit, |list, ends, bytes| {
             calls += 1;
             library(texts, list, ends, bytes)
         });
@@ -168,7 +189,7 @@ mod tests {
         let (told, calls) = gathered(&[b"one", b"", b"three"], 1_000);
         assert_eq!(told, ["one", "", "three"]);
         assert_eq!(calls, 1);
-        assert_eq!(gathered(&[], 1_000), (vec![], 0));
+        assert_eq!(gathered(&[], 1_000), (vec![], 1));
     }
 
     #[test]
@@ -233,7 +254,7 @@ mod tests {
     fn from_answer(answer: [u64; MESSAGES_WORDS]) -> (Result<Texts, Refusal>, usize) {
         let list = [0; 2 * FINDING_WORDS];
         let mut calls = 0;
-        let told = gather(&list, &mut Room::default(), 1_000, |_, _, _| {
+        let told = asked(&list, 1_000, |_, _, _| {
             calls += 1;
             answer
         });

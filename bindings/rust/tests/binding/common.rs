@@ -85,6 +85,20 @@ impl Document {
         );
     }
 
+    pub fn raw_report(&self, lists: &mut Lists, ends: &mut [u64], text: &mut [u8]) {
+        raw::report(
+            &self.table,
+            &self.source,
+            &self.tape,
+            &mut lists.seen,
+            &mut lists.opens,
+            &mut lists.list,
+            ends,
+            text,
+            &mut lists.out,
+        );
+    }
+
     pub fn raw_message(&self, asked: Asked, text: &mut [u8], out: &mut [u64]) {
         raw::message(&self.table, &self.source, &self.tape, asked, text, out);
     }

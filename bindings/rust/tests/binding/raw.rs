@@ -260,6 +260,69 @@ fn tallies_and_their_refusals() {
     }
 }
 
+/// A check, and then the texts of the findings that it wrote: what a report gives by one call.
+fn in_two_calls(document: &Document, lent: &mut Lists, ends: &mut [u64], text: &mut [u8]) {
+    let out = std::mem::replace(&mut lent.out, vec![ANY; raw::CHECK_WORDS]);
+    document.raw_check(lent);
+    let check = std::mem::replace(&mut lent.out, out);
+    let messages = if check[0] == REFUSED {
+        [REFUSED, check[1], check[2], 0, 0]
+    } else {
+        let held = FINDING_WORDS * check[4] as usize;
+        document.raw_messages(&lent.list[..held], ends, text)
+    };
+    let words = check.iter().chain(&messages);
+    for (slot, word) in lent.out.iter_mut().zip(words) {
+        *slot = *word;
+    }
+}
+
+#[test]
+fn a_report_is_a_check_and_the_texts_of_what_it_wrote() {
+    let mut reported = 0;
+    for name in example_names() {
+        let document = Document::example(&name);
+        let n = document.node_count();
+        for (list, ends, bytes, out) in [
+            (20_000, 2_500, 200_000, 14),
+            (20_000, 2_500, 500, 16),
+            (85, 9, 300, 14),
+            (20_000, 3, 200_000, 13),
+            (0, 0, 0, 9),
+            (8, 1, 0, 3),
+        ] {
+            for (seen, opens) in [(n + 2, n + 2), (n, n), (n, n.saturating_sub(1))] {
+                let mut lent = lists(seen, opens, list, out);
+                let mut alone = lent.clone();
+                let (mut ends, mut text) = (vec![ANY; ends], vec![b'#'; bytes]);
+                let (mut ends_alone, mut text_alone) = (ends.clone(), text.clone());
+                document.raw_report(&mut lent, &mut ends, &mut text);
+                in_two_calls(&document, &mut alone, &mut ends_alone, &mut text_alone);
+                assert_eq!(
+                    (lent, ends, text),
+                    (alone, ends_alone, text_alone),
+                    "{name}"
+                );
+                reported += 1;
+            }
+        }
+    }
+    assert!(reported > 300);
+}
+
+#[test]
+fn a_report_of_the_listing() {
+    let mut lent = lists(9, 9, 8, raw::REPORT_WORDS + 1);
+    let (mut ends, mut text) = ([ANY; 2], [b'#'; 30]);
+    Document::listing().raw_report(&mut lent, &mut ends, &mut text);
+    let check = [DONE, 0, 0, 1, 1, 1, 0, 1, 0];
+    let messages = [DONE, 0, 0, 1, 28, ANY];
+    assert_eq!(lent.out, [&check[..], &messages[..]].concat());
+    assert_eq!(lent.list, FINDING);
+    assert_eq!(ends, [28, ANY]);
+    assert_eq!(&text, b"expected verse 1 but found 2##");
+}
+
 #[test]
 fn empty_slices_everywhere() {
     let mut out = [ANY; 9];
@@ -272,6 +335,14 @@ fn empty_slices_everywhere() {
     raw::messages(&[], &[], &[], &[], &mut [], &mut [], &mut []);
     raw::messages(&[], &[], &[], &[], &mut [], &mut [], &mut out);
     assert_eq!(out[..5], [REFUSED, 4, 0, 0, 0]);
+    let mut both = [ANY; raw::REPORT_WORDS];
+    let report = |out: &mut [u64]| {
+        let (seen, opens, list) = (&mut [], &mut [], &mut []);
+        raw::report(&[], &[], &[], seen, opens, list, &mut [], &mut [], out);
+    };
+    report(&mut []);
+    report(&mut both);
+    assert_eq!(both, [2, 4, 0, 0, 0, 0, 0, 0, 0, 2, 4, 0, 0, 0]);
     raw::tally(&[], &mut [], &mut []);
     raw::tally(&[], &mut [], &mut out);
     assert_eq!(out[..3], [DONE, 0, 0]);
