@@ -8,7 +8,8 @@ use Prim.Native.Nat.{ℕ, zero, suc, _+_, _-_, _<_, _≤_}
 use native.Mathlib.Decide.{decLt}
 use native.Mathlib.Omega.{arith}
 use lib.Dec.{eqb}
-use lib.ListN.{length, getD, take, drop, List·getD-eq-default}
+use lib.ListN.{length, getD, take, drop, length-take, length-drop, List·getD-eq-default}
+use lib.Seq.{getD-take, getD-drop}
 use borrow.Author.Tests.{eq-eqb, ne-eqb, eqb-true}
 use Rattle.text.specs.Pick.{pickNat, end}
 use Rattle.text.specs.Blank.{blank}
@@ -49,6 +50,55 @@ module _ (s : List ℕ) (i b : ℕ) where
       go true e (yes h) =
           let z : getD s i 0 ≡ b = sym (same-byte h) ∙ eqb-true (getD s i 256) b e in
           past-ascii p s i h (omega arith) (ap p z ∙ y)
+
+past-least : (b : ℕ) (s : List ℕ) (i : ℕ) → i ≤ pastOne b s i
+past-least b s i = go (eqb (getD s i 256) b)
+  where
+    go : (t : Bool) → i ≤ pickNat t (i + 1) i
+    go true = omega arith
+    go false = omega arith
+
+-- where the name of a part begins in its list, if it isn't empty
+module _ (s : List ℕ) (a n : ℕ) (fits : a + n ≤ length s) (some : 0 < length (nameOf (take n (drop a s)))) where
+  abbrev part : List ℕ
+  part = take n (drop a s)
+
+  long : length part ≤ n
+  long = omega (arith, length-take n (drop a s))
+
+  byte-at : (k : ℕ) → k < length part → getD part k 256 ≡ getD s (a + k) 0
+  byte-at k h = same-byte part k 0 h ∙ getD-take n (drop a s) k 0 (omega (arith, long)) ∙ getD-drop a s k 0
+
+  one-at : (b k : ℕ) → k < length part → a + pastOne b part k ≡ a + k + pickNat (eqb (getD s (a + k) 0) b) 1 0
+  one-at b k h = rw (byte-at k h) (go (eqb (getD s (a + k) 0) b))
+    where
+      go : (t : Bool) → a + pickNat t (k + 1) k ≡ a + k + pickNat t 1 0
+      go true = omega arith
+      go false = omega arith
+
+  abbrev past-slash : ℕ
+  past-slash = pastOne 0x5C part 0
+
+  slash-less : past-slash < length part
+  unfolding namePart
+  slash-less =
+      omega
+      (arith, some, past-least 0x2B part past-slash, length-take (namePart part .len) (drop (namePart part .start) part), length-drop (namePart part .start) part)
+
+  pub slash-inside : a < length s
+  slash-inside = omega (arith, slash-less, long)
+
+  slash-at : a + past-slash ≡ a + pickNat (eqb (getD s a 0) 0x5C) 1 0
+  slash-at =
+      let z : a + 0 ≡ a = omega arith in
+      rw z at (one-at 0x5C 0 (omega (arith, slash-less)))
+
+  pub plus-inside : a + pickNat (eqb (getD s a 0) 0x5C) 1 0 < length s
+  plus-inside = omega (arith, slash-less, long, slash-at)
+
+  pub named-at : a + pickNat (eqb (getD s a 0) 0x5C) 1 0 + pickNat (eqb (getD s (a + pickNat (eqb (getD s a 0) 0x5C) 1 0) 0) 0x2B) 1 0 ≡ a + namePart (take n (drop a s)) .start
+  unfolding namePart
+  named-at = sym (rw (slash-at) at (one-at 0x2B past-slash slash-less))
 
 -- the test of a code point, by the tests that the code takes
 module _ (c : ℕ) (x : Bool) (is-blank : x ≡ blank c) where

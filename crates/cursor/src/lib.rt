@@ -3,7 +3,7 @@ use table::Info;
 use table::MarkerId;
 ghost use mathlib.Core.Path.{_≡_};
 ghost use mathlib.Core.Bool.{true};
-ghost use Prim.Native.Nat.{_<_, _≤_};
+ghost use Prim.Native.Nat.{_+_, _<_, _≤_};
 ghost use lib.ListN.{length, drop};
 ghost use Rattle.text.specs.Pick.{cut};
 ghost use Rattle.text.specs.Characters.{find};
@@ -117,6 +117,16 @@ pub fn name_start(s: &[u8]) -> usize
 {
     let a = past_one(s, 0, 0x5C);
     past_one(s, a, 0x2B)
+}
+
+// Where the name of a node stands in the source. If it isn't empty, the text's length needn't be looked at.
+pub fn name_at(source: &[u8], tape: &[u8], i: usize) -> usize
+    requires { ⌜ (Spanned (now source) (now tape) i) × (0 < length (nameOf (cut (nodes.span (now tape) i) (now source)))) ⌝ }
+    ensures { λ r. ⌜ r ≡ startAt (now (tape .entry)) i + namePart (cut (nodes.span (now (tape .entry)) i) (now (source .entry))) .start ⌝ }
+{
+    let a = tape::start_at(tape, i) as usize;
+    let b = a + tape::one_if(source[a] == 0x5C);
+    b + tape::one_if(source[b] == 0x2B)
 }
 
 pub fn name_span(s: &[u8]) -> NameSpan

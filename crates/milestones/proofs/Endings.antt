@@ -2,7 +2,7 @@
 -- Assumes nothing.
 use Prim.Native.Nat.{ℕ, _+_, _-_, _<_, _≤_}
 use native.Mathlib.Omega.{arith}
-use mathlib.Core.Path.{_≡_, refl, sym, _∙_}
+use mathlib.Core.Path.{_≡_, refl, sym, ap, _∙_}
 use mathlib.Core.Bool.{Bool, true, false}
 use mathlib.Core.List.{List, [], _∷_}
 use lib.Dec.{eqb}
@@ -12,23 +12,19 @@ use denote.Enum.Declared.{tagOf}
 use types.Run.{OneOf, miss}
 use borrow.Author.Tests.{eq-eqb, ne-eqb}
 use Rattle.text.specs.Pick.{both, either, cut}
-use Rattle.text.proofs.Rows.{place}
-use Rattle.tape.specs.Nodes.{nodeAt, span}
+use Rattle.text.proofs.Rows.{both-true, place}
+use Rattle.tape.specs.Nodes.{nodeAt, span, startAt, lenAt}
 use Rattle.table.specs.Bytes.{equal}
 use Rattle.table.specs.Entries.{categoryOf, entryOfInfo}
 use Rattle.table.specs.declared.MarkerInfo.{MarkerInfo}
 use Rattle.table.specs.declared.Category.{Category}
 use Rattle.table.specs.declared.Category.the-variants.{Identification, Chapter, Verse, Paragraph, Character, Note, Milestone, Other}
 use Rattle.table.proofs.Category as declared
-use Rattle.table.proofs.Words.{equal-apart}
+use Rattle.table.proofs.Words.{equal-apart, equal-ends}
 use Rattle.cursor.specs.Names.{namePart, nameOf}
-use Rattle.cursor.specs.Inner.{Reached}
+use Rattle.numbers.proofs.Labels.{part-from}
 use Rattle.validate.specs.Milestones.{endsIn, baseOf}
 use Rattle.milestones.specs.Inner.{baseIn, named, Measured}
-
-both-true : (a : Bool) → both a true ≡ a
-both-true true = refl
-both-true false = refl
 
 pub too-short : (name : List ℕ) (letter : ℕ) → length name < 2 → false ≡ endsIn letter name
 too-short name letter h = sym (equal-apart (drop (length name - 2) name) (0x2D ∷ letter ∷ []) (λ e. omega (arith, e, length-drop (length name - 2) name)))
@@ -58,27 +54,49 @@ module _ (s t : List ℕ) (node len : ℕ) (m : Measured s t node len) where
   pub apart : (base : List ℕ) → (len ≡ length base → ⊥) → false ≡ equal (baseOf (nodeAt s t node)) base
   apart base h = sym (equal-apart (baseOf (nodeAt s t node)) base (λ e. h (m .is ∙ e)))
 
-  module _ (x : List ℕ) (is : x ≡ cut (span t node) s) where
-    own-length : len ≡ length (nameOf x) - 2
-    own-length = m .is ∙ rw (← is) (length-take-le (length (nameOf x) - 2) (nameOf x) (omega arith))
+  pub none : (base : List ℕ) → len ≡ length base → len ≡ 0 → true ≡ equal (baseOf (nodeAt s t node)) base
+  none base h z = sym (equal-ends (baseOf (nodeAt s t node)) base 0 (omega (arith, m .is)) (omega arith))
 
-    module _ (b : ℕ) (h : Reached x (namePart x .start) b) where
-      name-inside : (length (nameOf x) ≤ namePart x .len) × (length (nameOf x) ≤ length x - b)
-      name-inside =
-          let e = length-take (namePart x .len) (drop (namePart x .start) x) in
-          let d = length-drop (namePart x .start) x in
-          let h = h .is in
-          (omega arith, omega arith)
+  abbrev x : List ℕ
+  x = cut (span t node) s
 
-      pub own-inside : b + len ≤ length x
-      own-inside = omega (arith, own-length, name-inside .1, h .inside)
+  own-length : len ≡ length (nameOf x) - 2
+  own-length = m .is ∙ length-take-le (length (nameOf x) - 2) (nameOf x) (omega arith)
 
-      -- the base stands where the name begins
-      pub own-base : (base : List ℕ) (r : Bool) → r ≡ equal (take (b + len - b) (drop b x)) base → r ≡ equal (baseOf (nodeAt s t node)) base
-      own-base base r e =
-          let z : b + len - b ≡ length (nameOf x) - 2 = omega (arith, own-length) in
-          let f = take-take (length (nameOf x) - 2) (namePart x .len) (drop (namePart x .start) x) (omega (arith, name-inside .0)) in
-          e ∙ rw (z, h .is, sym f, is)
+  pub own-name : (len ≡ 0 → ⊥) → 0 < length (nameOf x)
+  own-name h = omega (arith, h, own-length)
+
+  -- the base stands where the name begins
+  module _ (from : ℕ) (is : from ≡ startAt t node + namePart x .start) (h : len ≡ 0 → ⊥) where
+    long : length x ≡ lenAt t node
+    long = length-take-le (lenAt t node) (drop (startAt t node) s) (rw length-drop (omega (arith, m .spanned .fits)))
+
+    inside : (len + 2 ≤ namePart x .len) × (len + 2 + namePart x .start ≤ lenAt t node)
+    inside =
+        let e = length-take (namePart x .len) (drop (namePart x .start) x) in
+        let d = length-drop (namePart x .start) x in
+        let o = own-name h in
+        (omega (arith, own-length), omega (arith, own-length, long))
+
+    pub own-inside : from + len ≤ length s
+    own-inside = omega (arith, is, inside .1, m .spanned .fits)
+
+    placed : take (from + len - from) (drop from s) ≡ baseOf (nodeAt s t node)
+    placed =
+        let a = startAt t node in
+        let b = namePart x .start in
+        let n = lenAt t node in
+        let z : from + len - from ≡ len = omega arith in
+        let y : a + n - a ≡ n = omega arith in
+        let p : take (a + n - (a + b)) (drop (a + b) s) ≡ drop b x = rw y at (part-from s a (a + n) b (omega (arith, inside .1)) (m .spanned .fits)) in
+        rw (z, is)
+        (sym (take-take len (a + n - (a + b)) (drop (a + b) s) (omega (arith, inside .1)))
+        ∙ ap (take len) p
+        ∙ sym (take-take len (namePart x .len) (drop b x) (omega (arith, inside .0)))
+        ∙ ap (λ (k : ℕ). take k (nameOf x)) own-length)
+
+    pub own-base : (base : List ℕ) (r : Bool) → r ≡ equal (take (from + len - from) (drop from s)) base → r ≡ equal (baseOf (nodeAt s t node)) base
+    own-base base r e = e ∙ ap (λ (k : List ℕ). equal k base) placed
 
 -- a part that lies in its list is as long as it says
 pub part-long : (s : List ℕ) (at len : ℕ) → at + len ≤ length s → length (take len (drop at s)) ≡ len

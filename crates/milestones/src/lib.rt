@@ -107,11 +107,13 @@ fn has_base(source: &[u8], tape: &[u8], o: OpenStart, at: usize, len: usize) -> 
     if n != len {
         return false;
     }
-    let text = cursor::text(source, tape, o.node as usize);
-    let start = cursor::name_start(text);
-    let end = start + n;
+    if n == 0 {
+        return true;
+    }
+    let from = cursor::name_at(source, tape, o.node as usize);
+    let end = from + n;
     let to = at + len;
-    table::same(&text[start..end], &source[at..to])
+    table::same(&source[from..end], &source[at..to])
 }
 
 fn with_open(r: Record, n: usize) -> Record

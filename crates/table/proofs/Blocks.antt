@@ -3,7 +3,7 @@
 use mathlib.Core.Path.{_≡_, refl, sym, _∙_}
 use mathlib.Core.Bool.{Bool, true, false}
 use mathlib.Core.List.{List, [], _∷_}
-use Prim.Native.Nat.{ℕ, zero, suc, _+_, _*_, _<_, _≤_}
+use Prim.Native.Nat.{ℕ, zero, suc, _+_, _-_, _*_, _<_, _≤_}
 use native.Mathlib.Nat.{add-assoc}
 use native.Mathlib.Omega.{arith}
 use mir.Syntax.{w8}
@@ -14,10 +14,10 @@ use lib.Seq.{take-length, length-take-le, drop-drop}
 use borrow.Author.Tests.{eq-eqb, ne-eqb, ltb-true, ltb-false, eqb-true, eqb-false}
 use Rattle.text.specs.Pick.{both, pickNat}
 use Rattle.text.specs.Scans.{eightBytes}
-use Rattle.text.proofs.Rows.{both-left, both-right, place}
+use Rattle.text.proofs.Rows.{both-false, both-true, both-left, both-right, place}
 use Rattle.table.specs.Bytes.{equal, all, starting}
 use Rattle.table.specs.Inner.{headOf}
-use Rattle.table.proofs.Words.{starts-short}
+use Rattle.table.proofs.Words.{starts-short, equal-ends}
 
 -- the digits of a number are unique
 digits : (a b x y : ℕ) → a < 256 → b < 256 → eqb (a + 256 * x) (b + 256 * y) ≡ both (eqb a b) (eqb x y)
@@ -74,6 +74,21 @@ block a b i n e h =
     let f : (j : ℕ) → length (drop j a) ≡ length (drop j b) = λ j. simp length-drop (rw e) in
     sym (whole (drop i a) (drop i b) (f i)) ∙ parts n (drop i a) (drop i b) ∙
     rw (length-take-le n (drop i a) k, drop-drop n i a, drop-drop n i b, whole (drop (i + n) a) (drop (i + n) b) (f (i + n)))
+
+-- what the ends of two lists of one length say of the lists
+module _ (a b : List ℕ) (n : ℕ) (e : length a ≡ length b) where
+  pub ending : n + 8 ≡ length a → equal (take 8 (drop n a)) (take 8 (drop n b)) ≡ equal (drop n a) (drop n b)
+  ending h = sym (block a b n 8 e (omega arith) ∙ rw (equal-ends a b (n + 8) (omega arith) (omega arith)) (both-true _))
+
+  pub ends-apart : n ≤ length a → equal (drop n a) (drop n b) ≡ false → equal a b ≡ false
+  ends-apart h f =
+      let z : 0 + n ≡ n = omega arith in
+      (rw z at (block a b 0 n e (omega arith))) ∙ rw f (both-false (equal (take n a) (take n b)))
+
+  pub ends-same : (i : ℕ) → n ≤ i → i ≤ length a → equal (drop n a) (drop n b) ≡ true → equal (drop i a) (drop i b) ≡ true
+  ends-same i h k f =
+      let m : n + (i - n) ≡ i = omega arith in
+      both-right (equal (take (i - n) (drop n a)) (take (i - n) (drop n b))) _ (sym (rw m at (block a b n (i - n) e (omega arith))) ∙ f)
 
 -- eight bytes that a number other than 0 stands for
 abbrev pub eight : List ℕ → Bool

@@ -128,12 +128,31 @@ fn same_8(a: &[u8], b: &[u8], at: usize) -> bool
     text::eight_bytes(a, at) == text::eight_bytes(b, at)
 }
 
-// Whether two lists of one length are equal from a place on.
-fn same_from(a: &[u8], b: &[u8], from: usize) -> bool
-    requires { ⌜ length (now a) ≡ length (now b) ⌝ }
-    ensures { λ r. ⌜ r ≡ equal (drop from (now (a .entry))) (drop from (now (b .entry))) ⌝ }
+// Whether two long lists of one length are equal. Their ends are compared first, so that the blocks need no rest.
+fn same_long(a: &[u8], b: &[u8]) -> bool
+    requires { ⌜ (length (now a) ≡ length (now b)) × (8 ≤ length (now a)) ⌝ }
+    ensures { λ r. ⌜ r ≡ equal (now (a .entry)) (now (b .entry)) ⌝ }
 {
-    let mut i = from;
+    let last = a.len() - 8;
+    if !same_8(a, b, last) {
+        return false;
+    }
+    let mut i: usize = 0;
+    while i < last {
+        if !same_8(a, b, i) {
+            return false;
+        }
+        i += 8;
+    }
+    true
+}
+
+// Whether two lists of one length are equal, byte by byte.
+fn same_short(a: &[u8], b: &[u8]) -> bool
+    requires { ⌜ length (now a) ≡ length (now b) ⌝ }
+    ensures { λ r. ⌜ r ≡ equal (now (a .entry)) (now (b .entry)) ⌝ }
+{
+    let mut i: usize = 0;
     while i < a.len() {
         if a[i] != b[i] {
             return false;
@@ -150,14 +169,10 @@ pub fn same(a: &[u8], b: &[u8]) -> bool
     if a.len() != b.len() {
         return false;
     }
-    let mut i: usize = 0;
-    while 8 <= a.len() - i {
-        if !same_8(a, b, i) {
-            return false;
-        }
-        i += 8;
+    if a.len() < 8 {
+        return same_short(a, b);
     }
-    same_from(a, b, i)
+    same_long(a, b)
 }
 
 pub fn starts_with(s: &[u8], key: &[u8]) -> bool

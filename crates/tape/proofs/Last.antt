@@ -10,14 +10,11 @@ use native.Mathlib.Omega.{arith}
 use lib.Dec.{eqb}
 use borrow.Author.Tests.{eq-eqb, ne-eqb, not-true, not-false}
 use Rattle.text.specs.Pick.{both, either}
+use Rattle.text.proofs.Rows.{both-false}
 use Rattle.tape.specs.Nodes.{kindAt, linkAt, isOpen, isClose}
 use Rattle.tape.specs.Reading.{Refusal, refuse, onlyIf, orElse, opensTo}
 use Rattle.tape.specs.Inner.{met, metSpan, Known, rootBy, leftOpen, lastly}
 use Rattle.tape.specs.declared.Reading.{Reading}
-
-both-false : (a : Bool) → both a false ≡ false
-both-false true = refl
-both-false false = refl
 
 -- an open that has the root's link
 pub taken-other : (t : List ℕ) (root i kind : ℕ) (taken : Bool) → taken ≡ false → kind ≡ kindAt t i → (kind ≡ 1 → ⊥) → false ≡ either taken (opensTo t root i)

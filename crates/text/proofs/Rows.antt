@@ -51,7 +51,7 @@ begins-yes lo hi rs s at h e = begins-at (span lo hi) rs s at h ∙ ap (λ (t : 
 pub begins-no : (lo hi : ℕ) (rs : List Range) (s : List ℕ) (at : ℕ) → at < length s → within lo hi (getD s at 0) ≡ false → begins (span lo hi ∷ rs) (drop at s) ≡ false
 begins-no lo hi rs s at h e = begins-at (span lo hi) rs s at h ∙ ap (λ (t : Bool). both t (begins rs (drop (at + 1) s))) e
 
-both-true : (a : Bool) → both a true ≡ a
+pub both-true : (a : Bool) → both a true ≡ a
 both-true true = refl
 both-true false = refl
 

@@ -1,14 +1,21 @@
 -- `milestones::has_base` meets its contract.
 -- Assumes nothing.
-use mathlib.Core.Path.{_≡_, _∙_}
-use Prim.Native.Nat.{_+_, _-_}
+use mathlib.Core.Path.{_≡_, sym, _∙_}
+use Prim.Native.Nat.{_+_, _-_, _≤_}
 use native.Mathlib.Omega.{arith}
-use lib.ListN.{take, drop}
+use lib.ListN.{length, take, drop}
 use denote.Ref.{now}
-use Rattle.milestones.proofs.Endings.{part-long, apart, own-inside, own-base}
+use Rattle.milestones.proofs.Endings.{part-long, apart, none, own-name, own-inside, own-base}
 use borrow.Author.Needs.{needs}
 use Rattle.milestones.proofs.has_base.Statement.{statement}
 use Rattle.milestones.proofs.has_base.Tie as tie
+
+-- the base of the start lies in the source
+inside : (c : tie.After-name-at) → c .name-at .result + c .before .before .before .before .before .before .before .args .o .«base_len» ≤ length (now (c .before .before .before .before .before .before .before .args .source))
+inside c =
+    let b = c .before .before .before .before .before .before .before in
+    let a = b .args in
+    own-inside (now (a .source)) (now (a .tape)) (a .o .node) (a .o .«base_len») (b .pre .0) (c .name-at .result) (c .name-at .ensures) (c .before .before .if2 .left)
 
 cast-n : tie.Need-cast-n
 cast-n c = search needs
@@ -19,17 +26,23 @@ returns c =
     let a = b .args in
     apart (now (a .source)) (now (a .tape)) (a .o .node) (a .o .«base_len») (b .pre .0) (take (a .len) (drop (a .at) (now (a .source)))) (λ e. c .if1 .taken (e ∙ part-long (now (a .source)) (a .at) (a .len) (b .pre .1)))
 
-cast-text : tie.Need-cast-text
-cast-text c = search needs
+returns-2 : tie.Need-returns-2
+returns-2 c =
+    let b = c .before .before .before .before .before in
+    let a = b .args in
+    none (now (a .source)) (now (a .tape)) (a .o .node) (a .o .«base_len») (b .pre .0) (take (a .len) (drop (a .at) (now (a .source)))) (c .before .if1 .left ∙ sym (part-long (now (a .source)) (a .at) (a .len) (b .pre .1))) (c .if2 .taken)
 
-text-requires : tie.Need-text-requires
-text-requires c κs = c .before .before .before .before .before .pre .0 .spanned
+cast-name-at : tie.Need-cast-name-at
+cast-name-at c = search needs
 
-name-start-requires : tie.Need-name-start-requires
-name-start-requires c κs = search needs
+name-at-requires : tie.Need-name-at-requires
+name-at-requires c κs =
+    let b = c .before .before .before .before .before .before in
+    let a = b .args in
+    (b .pre .0 .spanned, own-name (now (a .source)) (now (a .tape)) (a .o .node) (a .o .«base_len») (b .pre .0) (c .before .if2 .left))
 
 add-end : tie.Need-add-end
-add-end c = search needs
+add-end c = let h = inside c in search needs
 
 add-to : tie.Need-add-to
 add-to c = search needs
@@ -41,10 +54,7 @@ part-same-start : tie.Need-part-same-start
 part-same-start c = search needs
 
 part-same-end : tie.Need-part-same-end
-part-same-end c =
-    let d = c .before .before .before .before .before .before .before in
-    let a = d .args in
-    own-inside (now (a .source)) (now (a .tape)) (a .o .node) (a .o .«base_len») (d .pre .0) (now (c .before .text .result)) (c .before .text .ensures) (c .name-start .result) (c .name-start .ensures)
+part-same-end c = inside c
 
 sub-same-2 : tie.Need-sub-same-2
 sub-same-2 c = search needs
@@ -53,18 +63,18 @@ part-same-start-2 : tie.Need-part-same-start-2
 part-same-start-2 c = search needs
 
 part-same-end-2 : tie.Need-part-same-end-2
-part-same-end-2 c = c .before .before .before .before .before .before .before .before .pre .1
+part-same-end-2 c = search needs
 
 same-requires : tie.Need-same-requires
 same-requires c κs = search needs
 
-returns-2 : tie.Need-returns-2
-returns-2 c =
+returns-3 : tie.Need-returns-3
+returns-3 c =
     let n = c .before .before .before in
-    let d = n .before .before .before .before .before .before .before in
-    let a = d .args in
+    let b = n .before .before .before .before .before .before .before in
+    let a = b .args in
     let l : a .at + a .len - a .at ≡ a .len = omega arith in
-    own-base (now (a .source)) (now (a .tape)) (a .o .node) (a .o .«base_len») (d .pre .0) (now (n .before .text .result)) (n .before .text .ensures) (n .name-start .result) (n .name-start .ensures) (take (a .len) (drop (a .at) (now (a .source)))) (c .same .result) (rw l at (c .same .ensures))
+    own-base (now (a .source)) (now (a .tape)) (a .o .node) (a .o .«base_len») (b .pre .0) (n .name-at .result) (n .name-at .ensures) (n .before .before .if2 .left) (take (a .len) (drop (a .at) (now (a .source)))) (c .same .result) (rw l at (c .same .ensures))
 
 pub has-base-spec : {M : Type 1} → statement M
 has-base-spec =
@@ -72,9 +82,9 @@ has-base-spec =
     (tie.spec
     cast-n
     returns
-    cast-text
-    text-requires
-    name-start-requires
+    returns-2
+    cast-name-at
+    name-at-requires
     add-end
     add-to
     sub-same
@@ -84,4 +94,4 @@ has-base-spec =
     part-same-start-2
     part-same-end-2
     same-requires
-    returns-2)
+    returns-3)

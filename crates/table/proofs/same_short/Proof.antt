@@ -1,4 +1,4 @@
--- `table::same_from` meets its contract. The invariant: what is left of the two lists is equal exactly if what stands from the place on is.
+-- `table::same_short` meets its contract. The invariant: what is left of the two lists is equal exactly if the lists are.
 -- Assumes nothing.
 use borrow.Author.Needs.{needs}
 use Prim.Native.Nat.{_-_}
@@ -7,14 +7,14 @@ use mathlib.Core.Path.{_≡_, refl, sym, _∙_}
 use native.Mathlib.Omega.{arith}
 use Rattle.table.specs.Bytes.{equal}
 use Rattle.table.proofs.Words.{equal-past, equal-stops, equal-ends}
-use Rattle.table.proofs.same_from.Statement.{statement}
-use Rattle.table.proofs.same_from.Tie as tie
+use Rattle.table.proofs.same_short.Statement.{statement}
+use Rattle.table.proofs.same_short.Tie as tie
 
 abbrev Inv-loop : tie.InvT-loop
-Inv-loop a b from i₀ i = (length a ≡ length b) × (equal (drop from a) (drop from b) ≡ equal (drop i a) (drop i b))
+Inv-loop a b i₀ i = (length a ≡ length b) × (equal a b ≡ equal (drop i a) (drop i b))
 
 abbrev μ-loop : tie.MeasureT-loop
-μ-loop a b from i₀ i = length a - i
+μ-loop a b i₀ i = length a - i
 
 loop-holds : tie.Need-loop-holds Inv-loop μ-loop
 loop-holds c = (omega arith, refl)
@@ -44,8 +44,8 @@ loop-again c =
 returns-2 : tie.Need-returns-2 Inv-loop μ-loop
 returns-2 c = let l = c .before .loop in sym (l .inv .1 ∙ equal-ends _ _ (l .i) (omega arith) (omega arith))
 
-pub same-from-spec : {M : Type 1} → statement M
-same-from-spec =
+pub same-short-spec : {M : Type 1} → statement M
+same-short-spec =
     tie.close
     (tie.spec
     Inv-loop
