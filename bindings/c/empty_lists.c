@@ -7,7 +7,7 @@
 #include <stdio.h>
 #include <string.h>
 
-enum { TABLE, SOURCE, TAPE, SEEN, OPENS, LIST, TEXT, OUT, LISTS };
+enum { TABLE, SOURCE, TAPE, SEEN, OPENS, LIST, ENDS, TEXT, OUT, LISTS };
 
 static const uint8_t table[] = "name=v\ncategory=verse\nrole=content\n";
 static const uint8_t source[] = "\\v 2";
@@ -19,8 +19,8 @@ static const uint64_t finding[HARKOXIN_FINDING_WORDS] = {1, HARKOXIN_INVALID_VER
 struct lists {
     uint32_t seen[2];
     harkoxin_open_start opens[2];
-    uint64_t list[40], out[HARKOXIN_CHECK_WORDS], ends[1];
-    uint8_t text[40];
+    uint64_t list[40], out[HARKOXIN_REPORT_WORDS], ends[4];
+    uint8_t text[400];
 };
 
 /* A pointer and a length for a list: whole, or empty with its pointer, or empty with NULL. */
@@ -36,15 +36,19 @@ static void run(int function, unsigned empty, int is_null, struct lists *l)
                        LENT(l->out, HARKOXIN_CHECK_WORDS, OUT));
         break;
     case 1:
-        harkoxin_message(DOCUMENT, HARKOXIN_INVALID_VERSE_SEQUENCE, 0, 1, 1, 0, LENT(l->text, 40, TEXT),
+        harkoxin_message(DOCUMENT, HARKOXIN_INVALID_VERSE_SEQUENCE, 0, 1, 1, 0, LENT(l->text, 400, TEXT),
                          LENT(l->out, HARKOXIN_MESSAGE_WORDS, OUT));
         break;
     case 2:
-        harkoxin_messages(DOCUMENT, LENT(finding, HARKOXIN_FINDING_WORDS, LIST), LENT(l->ends, 1, SEEN),
-                          LENT(l->text, 40, TEXT), LENT(l->out, HARKOXIN_MESSAGES_WORDS, OUT));
+        harkoxin_messages(DOCUMENT, LENT(finding, HARKOXIN_FINDING_WORDS, LIST), LENT(l->ends, 4, ENDS),
+                          LENT(l->text, 400, TEXT), LENT(l->out, HARKOXIN_MESSAGES_WORDS, OUT));
+        break;
+    case 3:
+        harkoxin_report(DOCUMENT, LENT(l->seen, 2, SEEN), LENT(l->opens, 2, OPENS), LENT(l->list, 40, LIST),
+                        LENT(l->ends, 4, ENDS), LENT(l->text, 400, TEXT), LENT(l->out, HARKOXIN_REPORT_WORDS, OUT));
         break;
     default:
-        harkoxin_tally(LENT(finding, HARKOXIN_FINDING_WORDS, LIST), LENT(l->list, 40, SEEN),
+        harkoxin_tally(LENT(finding, HARKOXIN_FINDING_WORDS, LIST), LENT(l->list, 40, ENDS),
                        LENT(l->out, HARKOXIN_TALLY_WORDS, OUT));
     }
 }
@@ -58,6 +62,10 @@ static int try_call(int function, unsigned empty)
         printf("function %d isn't done with whole lists\n", function);
         return 0;
     }
+    if (empty == 0 && function == 3 && with_null.out[HARKOXIN_REPORT_MESSAGES] != HARKOXIN_DONE) {
+        printf("the texts of a report aren't told\n");
+        return 0;
+    }
     if (memcmp(&with_pointer, &with_null, sizeof with_null) != 0) {
         printf("function %d, empty lists %x: NULL gives another answer\n", function, empty);
         return 0;
@@ -68,7 +76,7 @@ static int try_call(int function, unsigned empty)
 int main(void)
 {
     unsigned calls = 0;
-    for (int function = 0; function < 4; function++) {
+    for (int function = 0; function < 5; function++) {
         for (unsigned empty = 0; empty < 1u << LISTS; empty++) {
             if (!try_call(function, empty))
                 return 1;

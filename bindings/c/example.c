@@ -61,27 +61,50 @@ static struct bytes read_file(const char *folder, const char *name)
     return read;
 }
 
-/* The findings of a document, with the answer; the caller frees them. */
-static uint64_t *check(const struct document *d, uint64_t answer[HARKOXIN_CHECK_WORDS])
+/* What is lent for a report and freed behind it. */
+struct lists {
+    uint64_t *list, *ends;
+    uint8_t *text;
+    size_t findings, bytes;
+};
+
+static void lend(struct lists *l, size_t findings, size_t bytes)
 {
+    l->list = room(HARKOXIN_FINDING_WORDS * findings, sizeof *l->list);
+    l->ends = room(findings, sizeof *l->ends);
+    l->text = room(bytes, sizeof *l->text);
+    l->findings = findings;
+    l->bytes = bytes;
+}
+
+static void release(struct lists *l)
+{
+    free(l->list);
+    free(l->ends);
+    free(l->text);
+}
+
+/* Reports on a document, once more with longer lists where they were too short. */
+static void report(const struct document *d, struct lists *l, uint64_t answer[HARKOXIN_REPORT_WORDS])
+{
+    const uint64_t *messages = answer + HARKOXIN_REPORT_MESSAGES;
     size_t nodes = d->tape.len / 16;
     uint32_t *seen = room(nodes, sizeof *seen);
     harkoxin_open_start *opens = room(nodes, sizeof *opens);
-    size_t words = HARKOXIN_FINDING_WORDS * 16;
-    uint64_t *list = room(words, sizeof *list);
+    lend(l, 16, 1024);
     for (;;) {
-        harkoxin_check(d->table.at, d->table.len, d->source.at, d->source.len, d->tape.at, d->tape.len,
-                       seen, nodes, opens, nodes, list, words, answer, HARKOXIN_CHECK_WORDS);
-        if (answer[HARKOXIN_CHECK_VERDICT] != HARKOXIN_CUT)
+        harkoxin_report(d->table.at, d->table.len, d->source.at, d->source.len, d->tape.at, d->tape.len,
+                        seen, nodes, opens, nodes, l->list, HARKOXIN_FINDING_WORDS * l->findings,
+                        l->ends, l->findings, l->text, l->bytes, answer, HARKOXIN_REPORT_WORDS);
+        if (answer[HARKOXIN_CHECK_VERDICT] != HARKOXIN_CUT && messages[HARKOXIN_MESSAGES_VERDICT] != HARKOXIN_CUT)
             break;
-        /* Once more, with room for just as many findings as there are. */
-        free(list);
-        words = HARKOXIN_FINDING_WORDS * (size_t)answer[HARKOXIN_CHECK_TOTAL];
-        list = room(words, sizeof *list);
+        if (messages[HARKOXIN_MESSAGES_NUMBER] == HARKOXIN_NO_TEXT)
+            fail("no text for", "a finding");
+        release(l);
+        lend(l, (size_t)answer[HARKOXIN_CHECK_TOTAL], 2 * l->bytes + (size_t)messages[HARKOXIN_MESSAGES_PLACE]);
     }
     free(seen);
     free(opens);
-    return list;
 }
 
 static void print_finding(const uint64_t *finding, const uint8_t *text, size_t len)
@@ -95,44 +118,11 @@ static void print_finding(const uint64_t *finding, const uint8_t *text, size_t l
     putchar('\n');
 }
 
-/* Prints the findings whose texts have room, and says by the answer whether more are left. */
-static void print_some(const struct document *d, const uint64_t *list, size_t count, size_t text_len,
-                       uint64_t answer[HARKOXIN_MESSAGES_WORDS])
-{
-    uint64_t *ends = room(count, sizeof *ends);
-    uint8_t *text = room(text_len, sizeof *text);
-    harkoxin_messages(d->table.at, d->table.len, d->source.at, d->source.len, d->tape.at, d->tape.len,
-                      list, HARKOXIN_FINDING_WORDS * count, ends, count, text, text_len,
-                      answer, HARKOXIN_MESSAGES_WORDS);
-    size_t start = 0;
-    for (size_t k = 0; k < answer[HARKOXIN_MESSAGES_TOLD]; k++) {
-        print_finding(list + HARKOXIN_FINDING_WORDS * k, text + start, (size_t)ends[k] - start);
-        start = (size_t)ends[k];
-    }
-    free(ends);
-    free(text);
-}
-
-static void print_findings(const struct document *d, const uint64_t *list, size_t count)
-{
-    uint64_t answer[HARKOXIN_MESSAGES_WORDS];
-    size_t text_len = 1024;
-    while (count > 0) {
-        print_some(d, list, count, text_len, answer);
-        if (answer[HARKOXIN_MESSAGES_NUMBER] == HARKOXIN_NO_TEXT)
-            fail("no text for", "a finding");
-        size_t told = (size_t)answer[HARKOXIN_MESSAGES_TOLD];
-        list += HARKOXIN_FINDING_WORDS * told;
-        count -= told;
-        /* The place is what the next text needs, so that each turn prints a finding. */
-        text_len = 2 * text_len + (size_t)answer[HARKOXIN_MESSAGES_PLACE];
-    }
-}
-
 static void print_document(const char *folder, const struct document *d)
 {
-    uint64_t answer[HARKOXIN_CHECK_WORDS];
-    uint64_t *list = check(d, answer);
+    uint64_t answer[HARKOXIN_REPORT_WORDS];
+    struct lists l;
+    report(d, &l, answer);
     printf("%s: ", folder);
     if (answer[HARKOXIN_CHECK_VERDICT] == HARKOXIN_REFUSED)
         printf("refused by number %" PRIu64 ", place %" PRIu64 "\n",
@@ -141,8 +131,13 @@ static void print_document(const char *folder, const struct document *d)
         printf("errors %" PRIu64 ", warnings %" PRIu64 ", infos %" PRIu64 ", verses %" PRIu64 "\n",
                answer[HARKOXIN_CHECK_ERRORS], answer[HARKOXIN_CHECK_WARNINGS],
                answer[HARKOXIN_CHECK_INFOS], answer[HARKOXIN_CHECK_VERSES]);
-    print_findings(d, list, (size_t)answer[HARKOXIN_CHECK_WRITTEN]);
-    free(list);
+    size_t start = 0;
+    for (size_t k = 0; k < answer[HARKOXIN_CHECK_WRITTEN]; k++) {
+        size_t end = (size_t)l.ends[k];
+        print_finding(l.list + HARKOXIN_FINDING_WORDS * k, l.text + start, end - start);
+        start = end;
+    }
+    release(&l);
 }
 
 int main(int argc, char **argv)

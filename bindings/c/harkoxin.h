@@ -197,6 +197,27 @@ void harkoxin_messages(
     uint8_t *text, size_t text_len,
     uint64_t *out, size_t out_len);
 
+/* The answer of harkoxin_report: that of harkoxin_check, then that of harkoxin_messages from this word on. */
+enum {
+    HARKOXIN_REPORT_MESSAGES = HARKOXIN_CHECK_WORDS,
+    HARKOXIN_REPORT_WORDS = HARKOXIN_CHECK_WORDS + HARKOXIN_MESSAGES_WORDS
+};
+
+/*
+ * Checks a document as harkoxin_check does, and lays the texts of the findings that `list` then holds as harkoxin_messages does,
+ * by one reading of the document. Refused by numbers 1 to 10, which both answers say; then every list is as it was.
+ */
+void harkoxin_report(
+    const uint8_t *table, size_t table_len,
+    const uint8_t *source, size_t source_len,
+    const uint8_t *tape, size_t tape_len,
+    uint32_t *seen, size_t seen_len,
+    harkoxin_open_start *opens, size_t opens_len,
+    uint64_t *list, size_t list_len,
+    uint64_t *ends, size_t ends_len,
+    uint8_t *text, size_t text_len,
+    uint64_t *out, size_t out_len);
+
 /* The answer of harkoxin_tally. */
 enum {
     HARKOXIN_TALLY_VERDICT = 0, /* done or refused */
