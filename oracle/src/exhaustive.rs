@@ -1,5 +1,9 @@
 //! Small documents, all of them.
 
+mod pairs;
+
+pub use pairs::{every_pair_of_bases, every_pair_of_labels, every_pair_of_spans};
+
 use crate::document::{Document, Node, kind, table_text};
 use crate::samples::{Sketch, entry, node};
 

@@ -11,6 +11,8 @@ use crate::forms::FORMS;
 pub enum Function {
     Check,
     /// The check through the binding's own lists.
+    Checker,
+    /// The check and its texts; number 13 stops it before a text.
     Report,
     Message,
     /// Numbers 12 and 13 stop it before a text.
@@ -18,7 +20,7 @@ pub enum Function {
     Tally,
 }
 
-const FUNCTIONS: usize = 5;
+const FUNCTIONS: usize = 6;
 const LAST_REFUSAL: usize = 13;
 const CODES: usize = 35;
 const ROOMS: [&str; 3] = ["too short", "exact", "longer"];
@@ -26,13 +28,14 @@ const ROOMS: [&str; 3] = ["too short", "exact", "longer"];
 impl Function {
     const ALL: [Function; FUNCTIONS] = {
         use Function::*;
-        [Check, Report, Message, Messages, Tally]
+        [Check, Checker, Report, Message, Messages, Tally]
     };
 
     fn name(self) -> &'static str {
         match self {
             Function::Check => "check",
-            Function::Report => "check through lists of its own",
+            Function::Checker => "check through lists of its own",
+            Function::Report => "report",
             Function::Message => "message",
             Function::Messages => "messages",
             Function::Tally => "tally",
@@ -43,7 +46,8 @@ impl Function {
     fn numbers(self) -> &'static [usize] {
         match self {
             Function::Check => &[1, 2, 3, 4, 5, 6, 7, 8, 9, 10],
-            Function::Report => &[1, 2, 3, 4, 5, 6, 7, 8, 9],
+            Function::Checker => &[1, 2, 3, 4, 5, 6, 7, 8, 9],
+            Function::Report => &[1, 2, 3, 4, 5, 6, 7, 8, 9, 10, 13],
             Function::Message | Function::Messages => &[1, 2, 3, 4, 5, 6, 7, 8, 9, 12, 13],
             Function::Tally => &[11],
         }
@@ -186,7 +190,7 @@ mod tests {
     #[test]
     fn each_hole_is_told_until_it_is_reached() {
         let mut reached = Reached::default();
-        let calls = 1 + 10 + 1 + 9 + 2 * (1 + 11) + 1 + 1;
+        let calls = 1 + 10 + 1 + 9 + 3 * (1 + 11) + 1 + 1;
         assert_eq!(reached.holes().len(), 4 * FORMS.len() + calls);
         for (code, form) in FORMS {
             reached.finding(code.into(), form);

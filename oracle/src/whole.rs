@@ -4,6 +4,7 @@
 mod counts;
 mod findings;
 mod limits;
+mod reports;
 mod slots;
 mod told;
 mod workers;
@@ -52,6 +53,11 @@ impl Owed<'_> {
     }
 }
 
+/// The answer of a check that is turned back.
+fn refused_words(number: u64, place: u64) -> [u64; ANSWER_WORDS] {
+    [REFUSED, number, place, 0, 0, 0, 0, 0, 0]
+}
+
 /// Compares documents one after another; its lists and its checker are kept between them.
 #[derive(Default)]
 pub struct Comparison {
@@ -93,10 +99,11 @@ impl Comparison {
         let report = self.report();
         let told = report.err().map(|refusal| (refusal.number, refusal.place));
         agree("a report's refusal", told, Some((number, place)))?;
-        self.counts.reached.answer(Function::Report, number);
+        self.counts.reached.answer(Function::Checker, number);
         let findings = rng.below(4);
-        self.lend_lists(lengths, findings, rng);
+        self.lend_lists(lengths, findings, ANSWER_WORDS, rng);
         self.check_refused((number, place))?;
+        self.report_refused((number, place), lengths, rng)?;
         let n = document.node_count();
         self.refused_texts((number, place), n, rng)?;
         self.tallies(&[], n as u64, rng)
@@ -109,11 +116,17 @@ impl Comparison {
         rng: &mut Rng,
     ) -> Result<(), String> {
         let owed = self.reported(document)?;
-        self.lend_lists(lengths, owed.texts.len(), rng);
+        self.lend_lists(lengths, owed.texts.len(), ANSWER_WORDS, rng);
         let (seen, opens) = lengths;
         match working_list_refusal(document.node_count(), seen, opens) {
-            Some((number, place)) => self.check_refused((number.into(), place))?,
-            None => self.check(&owed)?,
+            Some((number, place)) => {
+                self.check_refused((number.into(), place))?;
+                self.report_refused((number.into(), place), lengths, rng)?;
+            }
+            None => {
+                self.check(&owed)?;
+                self.report_checked(&owed, lengths, rng)?;
+            }
         }
         if rng.one_in(16) {
             self.limits(&owed, rng)?;
@@ -134,7 +147,7 @@ impl Comparison {
     /// the texts are those that document 01 has for the report's findings.
     fn reported<'a>(&mut self, document: &'a Document) -> Result<Owed<'a>, String> {
         let report = self.report().map_err(|refusal| refusal.to_string())?;
-        self.counts.reached.answer(Function::Report, 0);
+        self.counts.reached.answer(Function::Checker, 0);
         let (list, reader) = (words_of(&report), Reader::new(document));
         let plain = requests(&list).map(|asked| reader.text(asked));
         let plain: Option<Vec<String>> = plain.collect();
@@ -159,8 +172,15 @@ impl Comparison {
         })
     }
 
-    /// The lists of a check by the seed: long enough for so many findings, or not, and filled with anything.
-    fn lend_lists(&mut self, (seen, opens): (usize, usize), findings: usize, rng: &mut Rng) {
+    /// The lists of a check by the seed: long enough for so many findings and for an answer of so many words, or not, and
+    /// filled with anything.
+    fn lend_lists(
+        &mut self,
+        (seen, opens): (usize, usize),
+        findings: usize,
+        answer: usize,
+        rng: &mut Rng,
+    ) {
         let enough = findings * FINDING_WORDS;
         let room = match rng.below(10) {
             0 => 0,
@@ -173,7 +193,7 @@ impl Comparison {
         self.slots.seen.fill(seen, rng);
         self.slots.opens.fill(opens, rng);
         self.slots.list.fill(room, rng);
-        self.slots.fill_out(ANSWER_WORDS, rng);
+        self.slots.fill_out(answer, rng);
         let words = room + self.slots.out.len();
         self.counts
             .lent(&[4 * seen, size_of::<OpenStart>() * opens, 8 * words]);
@@ -182,46 +202,45 @@ impl Comparison {
     fn check_refused(&mut self, (number, place): (u64, u64)) -> Result<(), String> {
         self.slots.check();
         self.counts.reached.answer(Function::Check, number);
-        self.expect_lists(0, &[], [REFUSED, number, place, 0, 0, 0, 0, 0, 0])
+        self.expect_lists(0, &[], &refused_words(number, place))
     }
 
     fn check(&mut self, owed: &Owed<'_>) -> Result<(), String> {
         self.slots.check();
+        let (written, answer) = self.owed_answer(owed);
+        let is_cut = answer[0] == CUT;
+        self.counts.checked(is_cut, written as u64);
+        self.counts.reached.answer(Function::Check, 0);
+        let list = &owed.list[..written * FINDING_WORDS];
+        self.expect_lists(owed.document.node_count(), list, &answer)
+    }
+
+    /// How many findings the lent list can hold, and the answer of a check.
+    fn owed_answer(&self, owed: &Owed<'_>) -> (usize, [u64; ANSWER_WORDS]) {
         let total = owed.texts.len();
         let written = total.min(self.slots.list.len() / FINDING_WORDS);
         let verdict = if written < total { CUT } else { CHECKED };
         let [errors, warnings, infos] = severities(&owed.list);
-        let (total, held) = (total as u64, written as u64);
-        self.counts.checked(verdict == CUT, held);
-        self.counts.reached.answer(Function::Check, 0);
-        self.expect_lists(
-            owed.document.node_count(),
-            &owed.list[..written * FINDING_WORDS],
-            [
-                verdict,
-                0,
-                0,
-                total,
-                held,
-                owed.verses,
-                errors,
-                warnings,
-                infos,
-            ],
-        )
+        let answer = [
+            verdict,
+            0,
+            0,
+            total as u64,
+            written as u64,
+            owed.verses,
+            errors,
+            warnings,
+            infos,
+        ];
+        (written, answer)
     }
 
     /// The lists after a check: so many entries of the working lists are zero, these words and the answer are laid.
-    fn expect_lists(
-        &self,
-        n: usize,
-        words: &[u64],
-        answer: [u64; ANSWER_WORDS],
-    ) -> Result<(), String> {
+    fn expect_lists(&self, n: usize, words: &[u64], answer: &[u64]) -> Result<(), String> {
         self.slots.seen.expect("the chapters seen", &vec![0; n])?;
         let cleared = vec![OpenStart::default(); n];
         self.slots.opens.expect("the open starts", &cleared)?;
         self.slots.list.expect("the findings list", words)?;
-        self.slots.expect_out("the answer", &answer)
+        self.slots.expect_out("the answer", answer)
     }
 }

@@ -9,7 +9,9 @@ use std::time::Instant;
 
 use oracle::arguments::numbers;
 use oracle::document::{Document, kind};
-use oracle::exhaustive::{every_nesting, every_tape};
+use oracle::exhaustive::{
+    every_nesting, every_pair_of_bases, every_pair_of_labels, every_pair_of_spans, every_tape,
+};
 use oracle::faults;
 use oracle::generate::{generate, lengths};
 use oracle::judge::overflow_is_noticed;
@@ -21,6 +23,9 @@ use oracle::whole::{Comparison, Counts, Source, all_threads, compare_seeds, told
 const SMALL_STACK: usize = 256 * 1024;
 /// The most nodes of a tape of which there are all.
 const NODES: usize = 3;
+/// Bases are compared by 8 bytes, labels by 64 nodes: the longest of which there are all pairs.
+const LONGEST_BASE: usize = 34;
+const LABELLED: usize = 130;
 /// So many generated documents reach every form and every refusal.
 const REACHES_ALL: u64 = 200_000;
 
@@ -43,8 +48,8 @@ fn by_hand() -> Result<Counts, String> {
     Ok(comparison.counts)
 }
 
-/// Every small tape and every small nesting, the lists by their count.
-fn small(tokens: usize) -> Result<Counts, String> {
+/// These documents, the lists of each by how many were before it.
+fn each(all: impl FnOnce(&mut dyn FnMut(&Document))) -> Result<Counts, String> {
     let mut comparison = Comparison::default();
     let mut first_error = Ok(());
     let mut visit = |document: &Document| {
@@ -53,9 +58,25 @@ fn small(tokens: usize) -> Result<Counts, String> {
             first_error = compare(&mut comparison, document, seed);
         }
     };
-    every_tape(NODES, &mut visit);
-    every_nesting(tokens, &mut visit);
+    all(&mut visit);
     first_error.map(|()| comparison.counts)
+}
+
+/// Every small tape and every small nesting.
+fn small(tokens: usize) -> Result<Counts, String> {
+    each(|visit| {
+        every_tape(NODES, &mut *visit);
+        every_nesting(tokens, visit);
+    })
+}
+
+/// Every pair of bases, of labels and of spans up to a length.
+fn pairs() -> Result<Counts, String> {
+    each(|visit| {
+        every_pair_of_bases(LONGEST_BASE, &mut *visit);
+        every_pair_of_labels(LABELLED, &mut *visit);
+        every_pair_of_spans(visit);
+    })
 }
 
 /// A verse inside as many markers as may nest, checked on a small stack.
@@ -94,6 +115,7 @@ fn run() -> Result<(), String> {
     println!("by hand: {}", by_hand()?.line());
     println!("deepest, on a stack of 256 KiB: {}", deepest()?.line());
     println!("every small document: {}", small(tokens as usize)?.line());
+    println!("pairs of all lengths: {}", pairs()?.line());
     let source = Source {
         document: generate,
         lengths,

@@ -79,6 +79,20 @@ impl Slots {
         );
     }
 
+    pub fn report(&mut self) {
+        raw::report(
+            self.table.list(),
+            self.source.list(),
+            self.tape.list(),
+            self.seen.list_mut(),
+            self.opens.list_mut(),
+            self.list.list_mut(),
+            self.ends.list_mut(),
+            self.text.list_mut(),
+            self.out.list_mut(),
+        );
+    }
+
     pub fn message(&mut self, asked: Asked) {
         raw::message(
             self.table.list(),

@@ -7,7 +7,7 @@ use crate::reached::Function;
 use crate::requests::{damaged_list, request};
 use crate::rng::Rng;
 use crate::tallies::{CODES, tally};
-use crate::texts::{Asked, requests, together};
+use crate::texts::{Asked, Together, requests, together};
 
 /// The most texts of a document that are asked for one by one; of more findings the seed chooses.
 const MOST_TEXTS: usize = 40;
@@ -32,6 +32,16 @@ pub(super) fn room_for(rng: &mut Rng, len: usize) -> usize {
         5 => rng.below(len + 1),
         _ => len + rng.from_to(1, 40),
     }
+}
+
+/// The answer of texts that are laid together.
+pub(super) fn together_words(laid: &Together) -> [u64; MESSAGES_WORDS] {
+    let (verdict, (number, place)) = match laid.stopped {
+        None => (DONE, (0, 0)),
+        Some(stopped) => (CUT, stopped),
+    };
+    let (told, bytes) = (laid.ends.len() as u64, laid.bytes.len() as u64);
+    [verdict, number, place, told, bytes]
 }
 
 impl Comparison {
@@ -118,12 +128,7 @@ impl Comparison {
             _ => room_for(rng, len),
         };
         let laid = together(texts, room);
-        let (verdict, (number, place)) = match laid.stopped {
-            None => (DONE, (0, 0)),
-            Some(stopped) => (CUT, stopped),
-        };
-        let (told, bytes) = (laid.ends.len() as u64, laid.bytes.len() as u64);
-        let answer = [verdict, number, place, told, bytes];
+        let answer = together_words(&laid);
         self.ask_together(list, room, (&laid.ends, &laid.bytes), answer, rng)
     }
 
@@ -144,15 +149,20 @@ impl Comparison {
         self.slots.text.fill(room, rng);
         self.slots.fill_out(MESSAGES_WORDS, rng);
         self.slots.messages();
-        let ends = &ends[..ends.len().min(ends_room)];
-        self.slots.ends.expect("the ends of texts", ends)?;
-        self.slots.text.expect("texts", bytes)?;
+        self.expect_texts(ends, bytes)?;
         self.slots.list.expect("the list of texts", &[])?;
         self.slots.expect_out("the answer of texts", &answer)?;
         let words = ends_room + self.slots.list.len() + self.slots.out.len();
         self.counts.lent(&[room, 8 * words]);
         self.counts.reached.answer(Function::Messages, answer[1]);
         Ok(())
+    }
+
+    /// The lists after texts were laid together.
+    pub(super) fn expect_texts(&self, ends: &[u64], bytes: &[u8]) -> Result<(), String> {
+        let ends = &ends[..ends.len().min(self.slots.ends.len())];
+        self.slots.ends.expect("the ends of texts", ends)?;
+        self.slots.text.expect("texts", bytes)
     }
 
     /// Requests for texts of a document that is turned back.
