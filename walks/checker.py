@@ -1,32 +1,34 @@
 import handwalk as hw
 
 c=hw.Crate(hw.ROOT, 'checker',types=['validate::OpenStart','running::Record','running::Around','table::MarkerInfo','table::Info','attachment::Attached'],
-  calls=['opens::visit_marker','milestones::milestone','tape::link_at','running::with_anchor','running::inside','cursor::past_node'],hand='references')
+  calls=['opens::is_calm','opens::visit_marker','milestones::milestone','tape::link_at','running::with_anchor','running::inside','cursor::past_node'],hand='references')
 U=['use Rattle.tape.specs.Nodes.{nodeAt, kindAt, linkAt, isOpen, count}','use Rattle.tape.specs.Nodes.{count as nodes}','use Rattle.tape.specs.Forest.{forest, Nested, Accepted}','use Rattle.table.specs.Entries.{Indexed, infoOf, entryOfInfo}','use Rattle.cursor.specs.Info.{infoAt}','use Rattle.cursor.specs.Steps.{pastNode}','use Rattle.numbers.specs.Label.{numbered}','use Rattle.cursor.specs.Inner.{Run, Spanned}','use Rattle.findings.specs.Written.{Room}','use Rattle.attachment.specs.Attached.{startsOf}',
- 'use Rattle.validate.specs.Checks.{leafTold}','use Rattle.validate.specs.Walk as Walk','use Rattle.running.specs.Running.{stateOf, aroundOf, anchorOf, startsFor, countsOf, withAnchor, Sane}','use Rattle.opens.specs.Own.{ownAt, Marked}','use Rattle.milestones.specs.Steps.{Milestoned, Steppable}',
+ 'use Rattle.validate.specs.Checks.{leafTold}','use Rattle.validate.specs.Walk as Walk','use Rattle.running.specs.Running.{stateOf, aroundOf, anchorOf, startsFor, countsOf, withAnchor, Sane}','use Rattle.opens.specs.Own.{ownAt, Marked}','use Rattle.opens.specs.Calm.{calmAt}','use Rattle.milestones.specs.Steps.{Milestoned, Steppable}',
  'use Rattle.checker.specs.Walking.{Ready, Walked, Visited, Visitable, Anchored, walkAt, visitFindings, Passable, PassedBy, LeafPassed, Leaved, Unchanged, numbersAfter, onlyOpen, quiet}']
-fs=['anchored','is_number','marker','visit_leaf','leaf','numbers_after','past_node','is_quiet','visit_marker','milestone','link_at','with_anchor','inside','visit','walk']
+fs=['anchored','is_number','marker','visit_leaf','leaf','numbers_after','past_node','is_quiet','is_calm','visit_marker','milestone','link_at','with_anchor','inside','visit','walk']
 c.call_files(fs, U)
 
 L=U+['use Rattle.references.proofs.Sizes.{scaled, less-fits, more-fits, nearer, wide}','use Rattle.checker.proofs.Going.{Going, going-start, going-end, going-below, passable, going-past, visit-asks, going-visited, going-nearer}',
- 'use Rattle.checker.proofs.Visiting.{visit-with, visit-run, visit-below, own-room, visit-deep, steppable, enters, Entered, inner-run, visited-still, Inner, inner-asks, inner-less, visited-whole, next-fits, same-depth}']
+ 'use Rattle.checker.proofs.Visiting.{visit-with, visit-run, visit-below, visit-children, visited-calm, own-room, visit-deep, steppable, enters, Entered, inner-run, visited-still, Inner, inner-asks, inner-less, visited-whole, next-fits, same-depth}']
 V='(visit-with (aroundOf around₀) (entryOfInfo m₀) list₀ (req .0) (req .1) (req .3))'
 A='table₀ words₀ count₀ source₀ tape₀ depth₀ (aroundOf around₀) i₀ to₀ (entryOfInfo m₀) numbers₀ seen₀ opens₀ list₀ rec₀'
 G='{table₀} {words₀} {count₀} {source₀} {tape₀} {depth₀} {aroundOf around₀} {i₀} {to₀} {entryOfInfo m₀} {numbers₀} {seen₀} {opens₀} {list₀} {rec₀}'
 E='Entered '+A
 visit=dict(uses=L,
-  calls={'visit_marker':dict(req='(req .2, visit-run %s, req .1 .more, req .1 .opened, req .1 .attached, own-room %s)'%(V,V)),
+  calls={'is_calm':dict(req='(req .2, visit-below %s, visit-children %s)'%(V,V)),
+    'visit_marker':dict(req='(req .2, visit-run %s, req .1 .more, req .1 .opened, req .1 .attached, own-room %s)'%(V,V)),
     'milestone':dict(req='steppable %s _ _ says-visit-marker'%V),
-    'link_at':dict(req='visit-below (inv-c10 .1 .visit)'),
-    'is_quiet':dict(req='inner-run (inv-c10 .1) _ says-link-at'),
-    'walk':dict(req='inner-asks inv-c19',less='inner-less inv-c19')},
-  arith={'_19':'next-fits (inv-c10 .1 .visit)','_20':'wide _ (s-link-at .0 .1)','_32':dict(sub='visit-deep (inv-c15 .3 .visit)',fits='less-fits _ _ depth₀-is')},
-  cuts={10:dict(vars={'b':16,'p':18,'ys':'opens','l':'list'},fact='($b ≡ rec₀) × (%s $l $ys $p)'%E,reach='(refl, enters %s _ _ says-visit-marker _ _ _ len-milestone-opens says-milestone)'%V),
-    15:dict(vars={'b':16,'p':18,'f':19,'k':20,'ys':'opens','l':'list'},fact='($b ≡ rec₀) × ($f ≡ i₀ + 1) × ($k ≡ linkAt tape₀ i₀) × (%s $l $ys $p)'%E,reach='(inv-c10 .0, refl, says-link-at, inv-c10 .1)'),
-    19:dict(vars={'b':16,'p':18,'f':19,'k':20,'d':32,'o':33,'r':'rec','ys':'opens','l':'list'},fact='Inner %s $l $ys $p $b $r $f $k $d (aroundOf $o)'%A,
-      reach='record { whole = inv-c15 .3; before = inv-c15 .0; now-is = says-with-anchor-2; from-is = inv-c15 .1; link-is = inv-c15 .2; deeper = refl; around = says-inside }')},
-  returns=['visited-still (inv-c10 .1) _ says-link-at _ says-is-quiet test-0 _ _ (inv-c10 .0) says-with-anchor',
-    'visited-whole inv-c19 _ _ _ _ says-walk _ says-with-anchor-3'])
+    'link_at':dict(req='visit-below (inv-c12 .1 .visit)'),
+    'is_quiet':dict(req='inner-run (inv-c12 .1) _ says-link-at'),
+    'walk':dict(req='inner-asks inv-c21',less='inner-less inv-c21')},
+  arith={'_19':'next-fits (inv-c12 .1 .visit)','_20':'wide _ (s-link-at .0 .1)','_33':dict(sub='visit-deep (inv-c17 .3 .visit)',fits='less-fits _ _ depth₀-is')},
+  cuts={12:dict(vars={'b':16,'p':18,'ys':'opens','l':'list'},fact='($b ≡ rec₀) × (%s $l $ys $p)'%E,reach='(refl, enters %s _ _ says-visit-marker _ _ _ len-milestone-opens says-milestone)'%V),
+    17:dict(vars={'b':16,'p':18,'f':19,'k':20,'ys':'opens','l':'list'},fact='($b ≡ rec₀) × ($f ≡ i₀ + 1) × ($k ≡ linkAt tape₀ i₀) × (%s $l $ys $p)'%E,reach='(inv-c12 .0, refl, says-link-at, inv-c12 .1)'),
+    21:dict(vars={'b':16,'p':18,'f':19,'k':20,'d':33,'o':34,'r':'rec','ys':'opens','l':'list'},fact='Inner %s $l $ys $p $b $r $f $k $d (aroundOf $o)'%A,
+      reach='record { whole = inv-c17 .3; before = inv-c17 .0; now-is = says-with-anchor-2; from-is = inv-c17 .1; link-is = inv-c17 .2; deeper = refl; around = says-inside }')},
+  returns=['visited-calm %s _ says-is-calm test-0'%V,
+    'visited-still (inv-c12 .1) _ says-link-at _ says-is-quiet test-1 _ _ (inv-c12 .0) says-with-anchor',
+    'visited-whole inv-c21 _ _ _ _ says-walk _ says-with-anchor-3'])
 W0='(walkAt table₀ source₀ tape₀ (aroundOf around₀) from₀ to₀ seen₀ opens₀ rec₀)'
 walk=dict(uses=L,
   calls={'anchored':dict(req='(req .0 .accepted, req .0 .nested, req .0 .within, req .0 .anchored)'),

@@ -45,10 +45,10 @@ use denote.Triple.Entry.{onEntry}
 use denote.Triple.Spec.{Meets, tripleOf}
 use denote.Triple.Table.{entered, cited}
 use denote.Triple.Cycle.{measured, at-on, mutual-elim, AllBelow}
-use denote.Triple.Walked.{says, needs, Stays, stay-none, stay-none-slice, stay-ref, stay-slice, walkOf, goes-none, goes-none-slice, goes-ref, goes-slice, Walks, ends-at, walked, walk-meets, walked-at, walk-meets-at}
+use denote.Triple.Walked.{says, needs, Stays, stay-none, stay-none-slice, stay-ref, stay-slice, walkOf, goes-none, goes-none-slice, goes-ref, goes-slice, Walks, ends-at as exit-at, walked, walk-meets, walked-at, walk-meets-at}
 use denote.Exit.{yes}
 use Rattle.references.proofs.Flow.{if-then, skip-then, exit-then, switch-then, assoc-then, loop-then, meets-at, frees-any}
-use Rattle.references.proofs.Hand.{At, lent, ptrVal, fatVal, ref, HasRef, HasMut, HasShr, KeptRef, KeptMut, KeptShr, OpenRef, OpenAt, lend-ref, back-ref, lend-mut, back-mut, lend-shr, back-shr, open-ref, shut-ref, open-at, shut-at, back-at}
+use Rattle.references.proofs.Hand.{At, lent as relent, ptrVal, fatVal, ref, HasRef, HasMut, HasShr, KeptRef, KeptMut, KeptShr, OpenRef, OpenAt, lend-ref, back-ref, lend-mut, back-mut, lend-shr, back-shr, open-ref, shut-ref, open-at, shut-at, back-at}
 use Rattle.attachment.specs.declared.Attached.{Attached}
 use Rattle.attachment.proofs.Attached as Attached-T
 use Rattle.attachment.proofs.Attached.Laws as Attached-L
@@ -83,6 +83,7 @@ use Rattle.validate.specs.Checks.{leafTold}
 use Rattle.validate.specs.Walk as Walk
 use Rattle.running.specs.Running.{stateOf, aroundOf, anchorOf, startsFor, countsOf, withAnchor, Sane}
 use Rattle.opens.specs.Own.{ownAt, Marked}
+use Rattle.opens.specs.Calm.{calmAt}
 use Rattle.milestones.specs.Steps.{Milestoned, Steppable}
 use Rattle.checker.specs.Walking.{Ready, Walked, Visited, Visitable, Anchored, walkAt, visitFindings, Passable, PassedBy, LeafPassed, Leaved, Unchanged, numbersAfter, onlyOpen, quiet}
 use Rattle.milestones.proofs.milestone as milestone-F
@@ -108,7 +109,7 @@ module _ {M : Type 1} (𝓤 : URA M) (H : Heap 𝓤) (A : Atoms 𝓤) (at-mem : 
     abbrev pub to : At → At → At → At → Con .Ghost
     to source-at′ tape-at′ opens-at′ list-at′ = (((source-at′ .κ, (tape-at′ .κ, (opens-at′ .κ, (list-at′ .κ, tt)))), (source-at′ .q, (tape-at′ .q, (opens-at′ .q, (list-at′ .q, tt)))), tt, (m₀, (ref source-at′ source₀, (ref tape-at′ tape₀, (i₀, (ref opens-at′ opens₀, (rec₀, (ref list-at′ list₀, tt))))))), (LL.val MarkerInfo-T.the-type MarkerInfo-L.the-laws m₀ ∷ [], (fatVal source-at′ ∷ [], (fatVal tape-at′ ∷ [], (vint w64 i₀ ∷ [], (fatVal opens-at′ ∷ [], (LL.val Record-T.the-type Record-L.the-laws rec₀ ∷ [], (fatVal list-at′ ∷ [], tt)))))))), tt)
 
-    module _ (W : Given 𝓤 H A) (C : Calls 𝓤 H) (fm : FmC 𝓤 H (W .laws) C) (m₀-is : Is MarkerInfo-T.the-row m₀ (LL.val MarkerInfo-T.the-type MarkerInfo-L.the-laws m₀ ∷ [])) (i₀-is : i₀ < 2 ^ 64) (rec₀-is : Is Record-T.the-row rec₀ (LL.val Record-T.the-type Record-L.the-laws rec₀ ∷ [])) (req : Steppable (entryOfInfo m₀) source₀ tape₀ i₀ opens₀ rec₀) (met : ((ν-opens : ℕ) → (δ-opens : GName) → (ν-list : ℕ) → (δ-list : GName) → ent 𝓤 (Con .pre (to source-at tape-at (lent opens-at ν-opens δ-opens) (lent list-at ν-list δ-list))) (C #milestones·milestone vs (Con .post (to source-at tape-at (lent opens-at ν-opens δ-opens) (lent list-at ν-list δ-list)))))) where
+    module _ (W : Given 𝓤 H A) (C : Calls 𝓤 H) (fm : FmC 𝓤 H (W .laws) C) (m₀-is : Is MarkerInfo-T.the-row m₀ (LL.val MarkerInfo-T.the-type MarkerInfo-L.the-laws m₀ ∷ [])) (i₀-is : i₀ < 2 ^ 64) (rec₀-is : Is Record-T.the-row rec₀ (LL.val Record-T.the-type Record-L.the-laws rec₀ ∷ [])) (req : Steppable (entryOfInfo m₀) source₀ tape₀ i₀ opens₀ rec₀) (met : ((ν-opens : ℕ) → (δ-opens : GName) → (ν-list : ℕ) → (δ-list : GName) → ent 𝓤 (Con .pre (to source-at tape-at (relent opens-at ν-opens δ-opens) (relent list-at ν-list δ-list))) (C #milestones·milestone vs (Con .post (to source-at tape-at (relent opens-at ν-opens δ-opens) (relent list-at ν-list δ-list)))))) where
       pub called : ent 𝓤 (⋆ 𝓤 H A (‵ (HasShr u8 source-at source₀) ∷ ‵ (HasShr u8 tape-at tape₀) ∷ ‵ (HasMut OpenStart-T.the-row opens-at opens₀) ∷ ‵ (HasMut u64 list-at list₀) ∷ [])) (H .⇛ (C #milestones·milestone vs (λ v. mean 𝓤 H A (After v))))
       called =
           qed W (‵ (HasShr u8 source-at source₀) ∷ ‵ (HasShr u8 tape-at tape₀) ∷ ‵ (HasMut OpenStart-T.the-row opens-at opens₀) ∷ ‵ (HasMut u64 list-at list₀) ∷ []) ∵ updating ! $
@@ -116,9 +117,9 @@ module _ {M : Type 1} (𝓤 : URA M) (H : Heap 𝓤) (A : Atoms 𝓤) (at-mem : 
           move ! (2 ∷ []) $
           use1 W (‵ (HasShr u8 tape-at tape₀) ⊛ ‵ (KeptShr u8 tape-at tape₀)) (lend-shr u8 𝓤 H A W tape-at tape₀) $ split ! $
           move ! (4 ∷ []) $
-          use1 W (later (some (λ (ν : ℕ). some (λ (δ : GName). ‵ (HasMut OpenStart-T.the-row (lent opens-at ν δ) opens₀) ⊛ ‵ (KeptMut OpenStart-T.the-row opens-at ν δ opens₀))))) (lend-mut OpenStart-T.the-row 𝓤 H A W opens-at opens₀) $ await ! tt $ pick ! (λ ν-opens. pick ! (λ δ-opens. split ! $
+          use1 W (later (some (λ (ν : ℕ). some (λ (δ : GName). ‵ (HasMut OpenStart-T.the-row (relent opens-at ν δ) opens₀) ⊛ ‵ (KeptMut OpenStart-T.the-row opens-at ν δ opens₀))))) (lend-mut OpenStart-T.the-row 𝓤 H A W opens-at opens₀) $ await ! tt $ pick ! (λ ν-opens. pick ! (λ δ-opens. split ! $
           move ! (6 ∷ []) $
-          use1 W (later (some (λ (ν : ℕ). some (λ (δ : GName). ‵ (HasMut u64 (lent list-at ν δ) list₀) ⊛ ‵ (KeptMut u64 list-at ν δ list₀))))) (lend-mut u64 𝓤 H A W list-at list₀) $ await ! tt $ pick ! (λ ν-list. pick ! (λ δ-list. split ! $
+          use1 W (later (some (λ (ν : ℕ). some (λ (δ : GName). ‵ (HasMut u64 (relent list-at ν δ) list₀) ⊛ ‵ (KeptMut u64 list-at ν δ list₀))))) (lend-mut u64 𝓤 H A W list-at list₀) $ await ! tt $ pick ! (λ ν-list. pick ! (λ δ-list. split ! $
           move ! (6 ∷ []) $
           fsplit ! $
           move ! (6 ∷ []) $
@@ -153,14 +154,14 @@ module _ {M : Type 1} (𝓤 : URA M) (H : Heap 𝓤) (A : Atoms 𝓤) (at-mem : 
           use0 W (raw (fact 𝓤 (Steppable (entryOfInfo m₀) source₀ tape₀ i₀ opens₀ rec₀))) (factI 𝓤 (Steppable (entryOfInfo m₀) source₀ tape₀ i₀ opens₀ rec₀) (emp 𝓤) req) $
           move ! (1 ∷ 0 ∷ []) $
           join ! $
-          use1 W (raw (C #milestones·milestone vs (Con .post (to source-at tape-at (lent opens-at ν-opens δ-opens) (lent list-at ν-list δ-list))))) (met ν-opens δ-opens ν-list δ-list) $
+          use1 W (raw (C #milestones·milestone vs (Con .post (to source-at tape-at (relent opens-at ν-opens δ-opens) (relent list-at ν-list δ-list))))) (met ν-opens δ-opens ν-list δ-list) $
           nothing ! $
           at-once ! $ keep ! (1 ∷ 5 ∷ 4 ∷ 3 ∷ 2 ∷ 0 ∷ []) $
-          by ! (fm #milestones·milestone vs (Con .post (to source-at tape-at (lent opens-at ν-opens δ-opens) (lent list-at ν-list δ-list))) (λ v. mean 𝓤 H A (After v)) (⋆ 𝓤 H A (‵ (KeptShr u8 source-at source₀) ∷ ‵ (KeptShr u8 tape-at tape₀) ∷ ‵ (KeptMut OpenStart-T.the-row opens-at ν-opens δ-opens opens₀) ∷ ‵ (KeptMut u64 list-at ν-list δ-list list₀) ∷ ‵ ftrue ∷ [])) (λ v.
-          qed W (raw (Con .post (to source-at tape-at (lent opens-at ν-opens δ-opens) (lent list-at ν-list δ-list)) v) ∷ ‵ (KeptShr u8 source-at source₀) ∷ ‵ (KeptShr u8 tape-at tape₀) ∷ ‵ (KeptMut OpenStart-T.the-row opens-at ν-opens δ-opens opens₀) ∷ ‵ (KeptMut u64 list-at ν-list δ-list list₀) ∷ ‵ ftrue ∷ []) ∵ updating ! $
-          use1 W (later (some (λ (r : Record). ((‵ (flft (source-at .κ) (source-at .q)) ⊛ (‵ (flft (tape-at .κ) (tape-at .q)) ⊛ (‵ (flft ((lent opens-at ν-opens δ-opens) .κ) ((lent opens-at ν-opens δ-opens) .q)) ⊛ (‵ (flft ((lent list-at ν-list δ-list) .κ) ((lent list-at ν-list δ-list) .q)) ⊛ ‵ ftrue)))) ⊛ ‵ (Record-T.the-row .own r (v ∷ []))) ⊛ raw (ensured 𝓤 H A milestone-F.ended (milestone-F.clauses 𝓤 H A at-mem run) (source-at .κ, (tape-at .κ, ((lent opens-at ν-opens δ-opens) .κ, ((lent list-at ν-list δ-list) .κ, tt)))) (m₀, (ref source-at source₀, (ref tape-at tape₀, (i₀, (ref (lent opens-at ν-opens δ-opens) opens₀, (rec₀, (ref (lent list-at ν-list δ-list) list₀, tt))))))) tt r)))) (id⊢ 𝓤 _) $ await ! tt $ pick ! (λ r. split ! $
+          by ! (fm #milestones·milestone vs (Con .post (to source-at tape-at (relent opens-at ν-opens δ-opens) (relent list-at ν-list δ-list))) (λ v. mean 𝓤 H A (After v)) (⋆ 𝓤 H A (‵ (KeptShr u8 source-at source₀) ∷ ‵ (KeptShr u8 tape-at tape₀) ∷ ‵ (KeptMut OpenStart-T.the-row opens-at ν-opens δ-opens opens₀) ∷ ‵ (KeptMut u64 list-at ν-list δ-list list₀) ∷ ‵ ftrue ∷ [])) (λ v.
+          qed W (raw (Con .post (to source-at tape-at (relent opens-at ν-opens δ-opens) (relent list-at ν-list δ-list)) v) ∷ ‵ (KeptShr u8 source-at source₀) ∷ ‵ (KeptShr u8 tape-at tape₀) ∷ ‵ (KeptMut OpenStart-T.the-row opens-at ν-opens δ-opens opens₀) ∷ ‵ (KeptMut u64 list-at ν-list δ-list list₀) ∷ ‵ ftrue ∷ []) ∵ updating ! $
+          use1 W (later (some (λ (r : Record). ((‵ (flft (source-at .κ) (source-at .q)) ⊛ (‵ (flft (tape-at .κ) (tape-at .q)) ⊛ (‵ (flft ((relent opens-at ν-opens δ-opens) .κ) ((relent opens-at ν-opens δ-opens) .q)) ⊛ (‵ (flft ((relent list-at ν-list δ-list) .κ) ((relent list-at ν-list δ-list) .q)) ⊛ ‵ ftrue)))) ⊛ ‵ (Record-T.the-row .own r (v ∷ []))) ⊛ raw (ensured 𝓤 H A milestone-F.ended (milestone-F.clauses 𝓤 H A at-mem run) (source-at .κ, (tape-at .κ, ((relent opens-at ν-opens δ-opens) .κ, ((relent list-at ν-list δ-list) .κ, tt)))) (m₀, (ref source-at source₀, (ref tape-at tape₀, (i₀, (ref (relent opens-at ν-opens δ-opens) opens₀, (rec₀, (ref (relent list-at ν-list δ-list) list₀, tt))))))) tt r)))) (id⊢ 𝓤 _) $ await ! tt $ pick ! (λ r. split ! $
           move ! (1 ∷ []) $
-          use1 W (some (λ (ws : (Unit {0}) × ((Unit {0}) × ((Unit {0}) × ((Unit {0}) × ((List OpenStart) × ((Unit {0}) × ((List ℕ) × Unit {0}))))))). ‵ (lasts milestone-F.ended (source-at .κ, (tape-at .κ, ((lent opens-at ν-opens δ-opens) .κ, ((lent list-at ν-list δ-list) .κ, tt)))) (m₀, (ref source-at source₀, (ref tape-at tape₀, (i₀, (ref (lent opens-at ν-opens δ-opens) opens₀, (rec₀, (ref (lent list-at ν-list δ-list) list₀, tt))))))) ws) ⊛ raw (fact 𝓤 (Milestoned (entryOfInfo m₀) source₀ tape₀ i₀ opens₀ list₀ rec₀ (ws .1 .1 .1 .1 .0) (ws .1 .1 .1 .1 .1 .1 .0) r)))) (id⊢ 𝓤 _) $ pick ! (λ ws. split ! $
+          use1 W (some (λ (ws : (Unit {0}) × ((Unit {0}) × ((Unit {0}) × ((Unit {0}) × ((List OpenStart) × ((Unit {0}) × ((List ℕ) × Unit {0}))))))). ‵ (lasts milestone-F.ended (source-at .κ, (tape-at .κ, ((relent opens-at ν-opens δ-opens) .κ, ((relent list-at ν-list δ-list) .κ, tt)))) (m₀, (ref source-at source₀, (ref tape-at tape₀, (i₀, (ref (relent opens-at ν-opens δ-opens) opens₀, (rec₀, (ref (relent list-at ν-list δ-list) list₀, tt))))))) ws) ⊛ raw (fact 𝓤 (Milestoned (entryOfInfo m₀) source₀ tape₀ i₀ opens₀ list₀ rec₀ (ws .1 .1 .1 .1 .0) (ws .1 .1 .1 .1 .1 .1 .0) r)))) (id⊢ 𝓤 _) $ pick ! (λ ws. split ! $
           move ! (1 ∷ []) $
           heard ! (Milestoned (entryOfInfo m₀) source₀ tape₀ i₀ opens₀ list₀ rec₀ (ws .1 .1 .1 .1 .0) (ws .1 .1 .1 .1 .1 .1 .0) r) (λ e.
           fsplit ! $
@@ -205,13 +206,13 @@ module _ {M : Type 1} (𝓤 : URA M) (H : Heap 𝓤) (A : Atoms 𝓤) (at-mem : 
           keep ! (3 ∷ 2 ∷ 1 ∷ 0 ∷ []) $ join ! $ join ! $ join ! $ done !))))))))))))
 
 module _ {M : Type 1} {𝓤 : URA M} {H : Heap 𝓤} {A : Atoms 𝓤} {K : Type 0} {W : Given 𝓤 H A} {Γ : List (Item 𝓤)} {E : Env 𝓤 H} {C : Calls 𝓤 H} {Λ : Loops 𝓤 H} {q : PostOf 𝓤 H} {dst : Place} {xs : List Operand} where
-  pub calls-milestone : K → (at-mem : Memory → SProp 𝓤) (run : Routine → Fun 𝓤) → FmC 𝓤 H (W .laws) C → {rest : Body} (m₀ : MarkerInfo) (source-at : At) (source₀ : List ℕ) (tape-at : At) (tape₀ : List ℕ) (i₀ : ℕ) (opens-at : At) (opens₀ : List OpenStart) (rec₀ : Record) (list-at : At) (list₀ : List ℕ) (m₀-is : Is MarkerInfo-T.the-row m₀ (LL.val MarkerInfo-T.the-type MarkerInfo-L.the-laws m₀ ∷ [])) (i₀-is : i₀ < 2 ^ 64) (rec₀-is : Is Record-T.the-row rec₀ (LL.val Record-T.the-type Record-L.the-laws rec₀ ∷ [])) (req : Steppable (entryOfInfo m₀) source₀ tape₀ i₀ opens₀ rec₀) → ((ν-opens : ℕ) → (δ-opens : GName) → (ν-list : ℕ) → (δ-list : GName) → ent 𝓤 (Con 𝓤 H A at-mem run .pre (to 𝓤 H A at-mem run m₀ source-at source₀ tape-at tape₀ i₀ opens-at opens₀ rec₀ list-at list₀ source-at tape-at (lent opens-at ν-opens δ-opens) (lent list-at ν-list δ-list))) (C #milestones·milestone (vs 𝓤 H A at-mem run m₀ source-at source₀ tape-at tape₀ i₀ opens-at opens₀ rec₀ list-at list₀) (Con 𝓤 H A at-mem run .post (to 𝓤 H A at-mem run m₀ source-at source₀ tape-at tape₀ i₀ opens-at opens₀ rec₀ list-at list₀ source-at tape-at (lent opens-at ν-opens δ-opens) (lent list-at ν-list δ-list))))) → Opds K W (raw (C #milestones·milestone (vs 𝓤 H A at-mem run m₀ source-at source₀ tape-at tape₀ i₀ opens-at opens₀ rec₀ list-at list₀) (λ v. mean 𝓤 H A (After 𝓤 H A at-mem run m₀ source-at source₀ tape-at tape₀ i₀ opens-at opens₀ rec₀ list-at list₀ v))) ∷ Γ) E xs (vs 𝓤 H A at-mem run m₀ source-at source₀ tape-at tape₀ i₀ opens-at opens₀ rec₀ list-at list₀)
+  pub calls-milestone : K → (at-mem : Memory → SProp 𝓤) (run : Routine → Fun 𝓤) → FmC 𝓤 H (W .laws) C → {rest : Body} (m₀ : MarkerInfo) (source-at : At) (source₀ : List ℕ) (tape-at : At) (tape₀ : List ℕ) (i₀ : ℕ) (opens-at : At) (opens₀ : List OpenStart) (rec₀ : Record) (list-at : At) (list₀ : List ℕ) (m₀-is : Is MarkerInfo-T.the-row m₀ (LL.val MarkerInfo-T.the-type MarkerInfo-L.the-laws m₀ ∷ [])) (i₀-is : i₀ < 2 ^ 64) (rec₀-is : Is Record-T.the-row rec₀ (LL.val Record-T.the-type Record-L.the-laws rec₀ ∷ [])) (req : Steppable (entryOfInfo m₀) source₀ tape₀ i₀ opens₀ rec₀) → ((ν-opens : ℕ) → (δ-opens : GName) → (ν-list : ℕ) → (δ-list : GName) → ent 𝓤 (Con 𝓤 H A at-mem run .pre (to 𝓤 H A at-mem run m₀ source-at source₀ tape-at tape₀ i₀ opens-at opens₀ rec₀ list-at list₀ source-at tape-at (relent opens-at ν-opens δ-opens) (relent list-at ν-list δ-list))) (C #milestones·milestone (vs 𝓤 H A at-mem run m₀ source-at source₀ tape-at tape₀ i₀ opens-at opens₀ rec₀ list-at list₀) (Con 𝓤 H A at-mem run .post (to 𝓤 H A at-mem run m₀ source-at source₀ tape-at tape₀ i₀ opens-at opens₀ rec₀ list-at list₀ source-at tape-at (relent opens-at ν-opens δ-opens) (relent list-at ν-list δ-list))))) → Opds K W (raw (C #milestones·milestone (vs 𝓤 H A at-mem run m₀ source-at source₀ tape-at tape₀ i₀ opens-at opens₀ rec₀ list-at list₀) (λ v. mean 𝓤 H A (After 𝓤 H A at-mem run m₀ source-at source₀ tape-at tape₀ i₀ opens-at opens₀ rec₀ list-at list₀ v))) ∷ Γ) E xs (vs 𝓤 H A at-mem run m₀ source-at source₀ tape-at tape₀ i₀ opens-at opens₀ rec₀ list-at list₀)
       → ((z : Z 𝓤 H A at-mem run m₀ source-at source₀ tape-at tape₀ i₀ opens-at opens₀ rec₀ list-at list₀) → Says 𝓤 H A at-mem run m₀ source-at source₀ tape-at tape₀ i₀ opens-at opens₀ rec₀ list-at list₀ (LL.val Record-T.the-type Record-L.the-laws (z .0) ∷ []) z → Seq K W (‵ (HasShr u8 source-at source₀) ∷ ‵ (HasShr u8 tape-at tape₀) ∷ ‵ (HasMut OpenStart-T.the-row opens-at (z .1 .0)) ∷ ‵ (HasMut u64 list-at (z .1 .1 .0)) ∷ Γ) (lands C Λ E dst (LL.val Record-T.the-type Record-L.the-laws (z .0)) rest q)) → Seq K W (‵ (HasShr u8 source-at source₀) ∷ ‵ (HasShr u8 tape-at tape₀) ∷ ‵ (HasMut OpenStart-T.the-row opens-at opens₀) ∷ ‵ (HasMut u64 list-at list₀) ∷ Γ) (runs C Λ E (seq (call #milestones·milestone xs dst) rest) q)
   calls-milestone t at-mem run fm {rest} m₀ source-at source₀ tape-at tape₀ i₀ opens-at opens₀ rec₀ list-at list₀ m₀-is i₀-is rec₀-is req met os k =
       cut (‵ (HasShr u8 source-at source₀) ∷ ‵ (HasShr u8 tape-at tape₀) ∷ ‵ (HasMut OpenStart-T.the-row opens-at opens₀) ∷ ‵ (HasMut u64 list-at list₀) ∷ []) (later (raw (C #milestones·milestone (vs 𝓤 H A at-mem run m₀ source-at source₀ tape-at tape₀ i₀ opens-at opens₀ rec₀ list-at list₀) (λ v. mean 𝓤 H A (After 𝓤 H A at-mem run m₀ source-at source₀ tape-at tape₀ i₀ opens-at opens₀ rec₀ list-at list₀ v)))) ∷ []) Γ (called 𝓤 H A at-mem run m₀ source-at source₀ tape-at tape₀ i₀ opens-at opens₀ rec₀ list-at list₀ W C fm m₀-is i₀-is rec₀-is req met) $ await t tt $ calls t fm (After 𝓤 H A at-mem run m₀ source-at source₀ tape-at tape₀ i₀ opens-at opens₀ rec₀ list-at list₀) os (λ v. await t tt $ pick t (λ z. learn t (λ s. split t $ split t $ split t $ subst (λ (u : Val). Seq K W (‵ (HasShr u8 source-at source₀) ∷ ‵ (HasShr u8 tape-at tape₀) ∷ ‵ (HasMut OpenStart-T.the-row opens-at (z .1 .0)) ∷ ‵ (HasMut u64 list-at (z .1 .1 .0)) ∷ Γ) (lands C Λ E dst u rest q)) (sym (ap only ((LL.tells Record-T.the-type Record-L.the-laws) (z .0) (v ∷ []) (s .0)))) (k z (subst (Is Record-T.the-row (z .0)) ((LL.tells Record-T.the-type Record-L.the-laws) (z .0) (v ∷ []) (s .0)) (s .0), (s .1 .0, (s .1 .1 .0, s .1 .1 .1)))))))
 
 module _ {M : Type 1} {𝓤 : URA M} {H : Heap 𝓤} {A : Atoms 𝓤} {K : Type 0} {W : Given 𝓤 H A} {Γ : List (Item 𝓤)} {E : Env 𝓤 H} {C : Calls 𝓤 H} {Λ : Loops 𝓤 H} {q : PostOf 𝓤 H} {dst : Place} {xs : List Operand} where
-  pub calls-milestone-last : K → (at-mem : Memory → SProp 𝓤) (run : Routine → Fun 𝓤) → FmC 𝓤 H (W .laws) C → (m₀ : MarkerInfo) (source-at : At) (source₀ : List ℕ) (tape-at : At) (tape₀ : List ℕ) (i₀ : ℕ) (opens-at : At) (opens₀ : List OpenStart) (rec₀ : Record) (list-at : At) (list₀ : List ℕ) (m₀-is : Is MarkerInfo-T.the-row m₀ (LL.val MarkerInfo-T.the-type MarkerInfo-L.the-laws m₀ ∷ [])) (i₀-is : i₀ < 2 ^ 64) (rec₀-is : Is Record-T.the-row rec₀ (LL.val Record-T.the-type Record-L.the-laws rec₀ ∷ [])) (req : Steppable (entryOfInfo m₀) source₀ tape₀ i₀ opens₀ rec₀) → ((ν-opens : ℕ) → (δ-opens : GName) → (ν-list : ℕ) → (δ-list : GName) → ent 𝓤 (Con 𝓤 H A at-mem run .pre (to 𝓤 H A at-mem run m₀ source-at source₀ tape-at tape₀ i₀ opens-at opens₀ rec₀ list-at list₀ source-at tape-at (lent opens-at ν-opens δ-opens) (lent list-at ν-list δ-list))) (C #milestones·milestone (vs 𝓤 H A at-mem run m₀ source-at source₀ tape-at tape₀ i₀ opens-at opens₀ rec₀ list-at list₀) (Con 𝓤 H A at-mem run .post (to 𝓤 H A at-mem run m₀ source-at source₀ tape-at tape₀ i₀ opens-at opens₀ rec₀ list-at list₀ source-at tape-at (lent opens-at ν-opens δ-opens) (lent list-at ν-list δ-list))))) → Opds K W (raw (C #milestones·milestone (vs 𝓤 H A at-mem run m₀ source-at source₀ tape-at tape₀ i₀ opens-at opens₀ rec₀ list-at list₀) (λ v. mean 𝓤 H A (After 𝓤 H A at-mem run m₀ source-at source₀ tape-at tape₀ i₀ opens-at opens₀ rec₀ list-at list₀ v))) ∷ Γ) E xs (vs 𝓤 H A at-mem run m₀ source-at source₀ tape-at tape₀ i₀ opens-at opens₀ rec₀ list-at list₀)
+  pub calls-milestone-last : K → (at-mem : Memory → SProp 𝓤) (run : Routine → Fun 𝓤) → FmC 𝓤 H (W .laws) C → (m₀ : MarkerInfo) (source-at : At) (source₀ : List ℕ) (tape-at : At) (tape₀ : List ℕ) (i₀ : ℕ) (opens-at : At) (opens₀ : List OpenStart) (rec₀ : Record) (list-at : At) (list₀ : List ℕ) (m₀-is : Is MarkerInfo-T.the-row m₀ (LL.val MarkerInfo-T.the-type MarkerInfo-L.the-laws m₀ ∷ [])) (i₀-is : i₀ < 2 ^ 64) (rec₀-is : Is Record-T.the-row rec₀ (LL.val Record-T.the-type Record-L.the-laws rec₀ ∷ [])) (req : Steppable (entryOfInfo m₀) source₀ tape₀ i₀ opens₀ rec₀) → ((ν-opens : ℕ) → (δ-opens : GName) → (ν-list : ℕ) → (δ-list : GName) → ent 𝓤 (Con 𝓤 H A at-mem run .pre (to 𝓤 H A at-mem run m₀ source-at source₀ tape-at tape₀ i₀ opens-at opens₀ rec₀ list-at list₀ source-at tape-at (relent opens-at ν-opens δ-opens) (relent list-at ν-list δ-list))) (C #milestones·milestone (vs 𝓤 H A at-mem run m₀ source-at source₀ tape-at tape₀ i₀ opens-at opens₀ rec₀ list-at list₀) (Con 𝓤 H A at-mem run .post (to 𝓤 H A at-mem run m₀ source-at source₀ tape-at tape₀ i₀ opens-at opens₀ rec₀ list-at list₀ source-at tape-at (relent opens-at ν-opens δ-opens) (relent list-at ν-list δ-list))))) → Opds K W (raw (C #milestones·milestone (vs 𝓤 H A at-mem run m₀ source-at source₀ tape-at tape₀ i₀ opens-at opens₀ rec₀ list-at list₀) (λ v. mean 𝓤 H A (After 𝓤 H A at-mem run m₀ source-at source₀ tape-at tape₀ i₀ opens-at opens₀ rec₀ list-at list₀ v))) ∷ Γ) E xs (vs 𝓤 H A at-mem run m₀ source-at source₀ tape-at tape₀ i₀ opens-at opens₀ rec₀ list-at list₀)
       → ((z : Z 𝓤 H A at-mem run m₀ source-at source₀ tape-at tape₀ i₀ opens-at opens₀ rec₀ list-at list₀) → Says 𝓤 H A at-mem run m₀ source-at source₀ tape-at tape₀ i₀ opens-at opens₀ rec₀ list-at list₀ (LL.val Record-T.the-type Record-L.the-laws (z .0) ∷ []) z → Seq K W (‵ (HasShr u8 source-at source₀) ∷ ‵ (HasShr u8 tape-at tape₀) ∷ ‵ (HasMut OpenStart-T.the-row opens-at (z .1 .0)) ∷ ‵ (HasMut u64 list-at (z .1 .1 .0)) ∷ Γ) (settles E dst (LL.val Record-T.the-type Record-L.the-laws (z .0)) q)) → Seq K W (‵ (HasShr u8 source-at source₀) ∷ ‵ (HasShr u8 tape-at tape₀) ∷ ‵ (HasMut OpenStart-T.the-row opens-at opens₀) ∷ ‵ (HasMut u64 list-at list₀) ∷ Γ) (runs C Λ E (call #milestones·milestone xs dst) q)
   calls-milestone-last t at-mem run fm m₀ source-at source₀ tape-at tape₀ i₀ opens-at opens₀ rec₀ list-at list₀ m₀-is i₀-is rec₀-is req met os k =
       cut (‵ (HasShr u8 source-at source₀) ∷ ‵ (HasShr u8 tape-at tape₀) ∷ ‵ (HasMut OpenStart-T.the-row opens-at opens₀) ∷ ‵ (HasMut u64 list-at list₀) ∷ []) (later (raw (C #milestones·milestone (vs 𝓤 H A at-mem run m₀ source-at source₀ tape-at tape₀ i₀ opens-at opens₀ rec₀ list-at list₀) (λ v. mean 𝓤 H A (After 𝓤 H A at-mem run m₀ source-at source₀ tape-at tape₀ i₀ opens-at opens₀ rec₀ list-at list₀ v)))) ∷ []) Γ (called 𝓤 H A at-mem run m₀ source-at source₀ tape-at tape₀ i₀ opens-at opens₀ rec₀ list-at list₀ W C fm m₀-is i₀-is rec₀-is req met) $ await t tt $ calls-last t fm (After 𝓤 H A at-mem run m₀ source-at source₀ tape-at tape₀ i₀ opens-at opens₀ rec₀ list-at list₀) os (λ v. await t tt $ pick t (λ z. learn t (λ s. split t $ split t $ split t $ subst (λ (u : Val). Seq K W (‵ (HasShr u8 source-at source₀) ∷ ‵ (HasShr u8 tape-at tape₀) ∷ ‵ (HasMut OpenStart-T.the-row opens-at (z .1 .0)) ∷ ‵ (HasMut u64 list-at (z .1 .1 .0)) ∷ Γ) (settles E dst u q)) (sym (ap only ((LL.tells Record-T.the-type Record-L.the-laws) (z .0) (v ∷ []) (s .0)))) (k z (subst (Is Record-T.the-row (z .0)) ((LL.tells Record-T.the-type Record-L.the-laws) (z .0) (v ∷ []) (s .0)) (s .0), (s .1 .0, (s .1 .1 .0, s .1 .1 .1)))))))

@@ -45,10 +45,10 @@ use denote.Triple.Entry.{onEntry}
 use denote.Triple.Spec.{Meets, tripleOf}
 use denote.Triple.Table.{entered, cited}
 use denote.Triple.Cycle.{measured, at-on, mutual-elim, AllBelow}
-use denote.Triple.Walked.{says, needs, Stays, stay-none, stay-none-slice, stay-ref, stay-slice, walkOf, goes-none, goes-none-slice, goes-ref, goes-slice, Walks, ends-at, walked, walk-meets, walked-at, walk-meets-at}
+use denote.Triple.Walked.{says, needs, Stays, stay-none, stay-none-slice, stay-ref, stay-slice, walkOf, goes-none, goes-none-slice, goes-ref, goes-slice, Walks, ends-at as exit-at, walked, walk-meets, walked-at, walk-meets-at}
 use denote.Exit.{yes}
 use Rattle.references.proofs.Flow.{if-then, skip-then, exit-then, switch-then, assoc-then, loop-then, meets-at, frees-any}
-use Rattle.references.proofs.Hand.{At, lent, ptrVal, fatVal, ref, HasRef, HasMut, HasShr, KeptRef, KeptMut, KeptShr, OpenRef, OpenAt, lend-ref, back-ref, lend-mut, back-mut, lend-shr, back-shr, open-ref, shut-ref, open-at, shut-at, back-at}
+use Rattle.references.proofs.Hand.{At, lent as relent, ptrVal, fatVal, ref, HasRef, HasMut, HasShr, KeptRef, KeptMut, KeptShr, OpenRef, OpenAt, lend-ref, back-ref, lend-mut, back-mut, lend-shr, back-shr, open-ref, shut-ref, open-at, shut-at, back-at}
 use Rattle.attachment.specs.declared.Attached.{Attached}
 use Rattle.attachment.proofs.Attached as Attached-T
 use Rattle.attachment.proofs.Attached.Laws as Attached-L
@@ -83,6 +83,7 @@ use Rattle.validate.specs.Checks.{leafTold}
 use Rattle.validate.specs.Walk as Walk
 use Rattle.running.specs.Running.{stateOf, aroundOf, anchorOf, startsFor, countsOf, withAnchor, Sane}
 use Rattle.opens.specs.Own.{ownAt, Marked}
+use Rattle.opens.specs.Calm.{calmAt}
 use Rattle.milestones.specs.Steps.{Milestoned, Steppable}
 use Rattle.checker.specs.Walking.{Ready, Walked, Visited, Visitable, Anchored, walkAt, visitFindings, Passable, PassedBy, LeafPassed, Leaved, Unchanged, numbersAfter, onlyOpen, quiet}
 use Rattle.checker.proofs.visit as visit-F
@@ -108,7 +109,7 @@ module _ {M : Type 1} (𝓤 : URA M) (H : Heap 𝓤) (A : Atoms 𝓤) (at-mem : 
     abbrev pub to : At → At → At → At → At → At → At → At → Con .Ghost
     to table-at′ words-at′ source-at′ tape-at′ rec-at′ seen-at′ opens-at′ list-at′ = (((table-at′ .κ, (words-at′ .κ, (source-at′ .κ, (tape-at′ .κ, (rec-at′ .κ, (seen-at′ .κ, (opens-at′ .κ, (list-at′ .κ, tt)))))))), (table-at′ .q, (words-at′ .q, (source-at′ .q, (tape-at′ .q, (rec-at′ .q, (seen-at′ .q, (opens-at′ .q, (list-at′ .q, tt)))))))), tt, (ref table-at′ table₀, (ref words-at′ words₀, (count₀, (ref source-at′ source₀, (ref tape-at′ tape₀, (i₀, (to₀, (depth₀, (m₀, (around₀, (numbers₀, (ref rec-at′ rec₀, (ref seen-at′ seen₀, (ref opens-at′ opens₀, (ref list-at′ list₀, tt))))))))))))))), (fatVal table-at′ ∷ [], (fatVal words-at′ ∷ [], (vint w64 count₀ ∷ [], (fatVal source-at′ ∷ [], (fatVal tape-at′ ∷ [], (vint w64 i₀ ∷ [], (vint w64 to₀ ∷ [], (vint w64 depth₀ ∷ [], (LL.val MarkerInfo-T.the-type MarkerInfo-L.the-laws m₀ ∷ [], (LL.val Around-T.the-type Around-L.the-laws around₀ ∷ [], (EL.val Attached-T.the-type Attached-L.the-laws numbers₀ ∷ [], (ptrVal rec-at′ ∷ [], (fatVal seen-at′ ∷ [], (fatVal opens-at′ ∷ [], (fatVal list-at′ ∷ [], tt)))))))))))))))), tt)
 
-    module _ (W : Given 𝓤 H A) (C : Calls 𝓤 H) (fm : FmC 𝓤 H (W .laws) C) (count₀-is : count₀ < 2 ^ 64) (i₀-is : i₀ < 2 ^ 64) (to₀-is : to₀ < 2 ^ 64) (depth₀-is : depth₀ < 2 ^ 64) (m₀-is : Is MarkerInfo-T.the-row m₀ (LL.val MarkerInfo-T.the-type MarkerInfo-L.the-laws m₀ ∷ [])) (around₀-is : Is Around-T.the-row around₀ (LL.val Around-T.the-type Around-L.the-laws around₀ ∷ [])) (numbers₀-is : Is Attached-T.the-row numbers₀ (EL.val Attached-T.the-type Attached-L.the-laws numbers₀ ∷ [])) (req : (Ready table₀ words₀ count₀ source₀ tape₀ depth₀ i₀ to₀ seen₀ opens₀ rec₀) × (Visitable source₀ tape₀ i₀ to₀ numbers₀ rec₀) × (m₀ .«name_start» + m₀ .«name_len» ≤ length table₀) × Room (countsOf rec₀) (visitFindings table₀ source₀ tape₀ (aroundOf around₀) (entryOfInfo m₀) i₀ to₀ seen₀ opens₀ rec₀)) (met : ((ν-rec : ℕ) → (δ-rec : GName) → (ν-seen : ℕ) → (δ-seen : GName) → (ν-opens : ℕ) → (δ-opens : GName) → (ν-list : ℕ) → (δ-list : GName) → ent 𝓤 (Con .pre (to table-at words-at source-at tape-at (lent rec-at ν-rec δ-rec) (lent seen-at ν-seen δ-seen) (lent opens-at ν-opens δ-opens) (lent list-at ν-list δ-list))) (C #checker·visit vs (Con .post (to table-at words-at source-at tape-at (lent rec-at ν-rec δ-rec) (lent seen-at ν-seen δ-seen) (lent opens-at ν-opens δ-opens) (lent list-at ν-list δ-list)))))) where
+    module _ (W : Given 𝓤 H A) (C : Calls 𝓤 H) (fm : FmC 𝓤 H (W .laws) C) (count₀-is : count₀ < 2 ^ 64) (i₀-is : i₀ < 2 ^ 64) (to₀-is : to₀ < 2 ^ 64) (depth₀-is : depth₀ < 2 ^ 64) (m₀-is : Is MarkerInfo-T.the-row m₀ (LL.val MarkerInfo-T.the-type MarkerInfo-L.the-laws m₀ ∷ [])) (around₀-is : Is Around-T.the-row around₀ (LL.val Around-T.the-type Around-L.the-laws around₀ ∷ [])) (numbers₀-is : Is Attached-T.the-row numbers₀ (EL.val Attached-T.the-type Attached-L.the-laws numbers₀ ∷ [])) (req : (Ready table₀ words₀ count₀ source₀ tape₀ depth₀ i₀ to₀ seen₀ opens₀ rec₀) × (Visitable source₀ tape₀ i₀ to₀ numbers₀ rec₀) × (m₀ .«name_start» + m₀ .«name_len» ≤ length table₀) × Room (countsOf rec₀) (visitFindings table₀ source₀ tape₀ (aroundOf around₀) (entryOfInfo m₀) i₀ to₀ seen₀ opens₀ rec₀)) (met : ((ν-rec : ℕ) → (δ-rec : GName) → (ν-seen : ℕ) → (δ-seen : GName) → (ν-opens : ℕ) → (δ-opens : GName) → (ν-list : ℕ) → (δ-list : GName) → ent 𝓤 (Con .pre (to table-at words-at source-at tape-at (relent rec-at ν-rec δ-rec) (relent seen-at ν-seen δ-seen) (relent opens-at ν-opens δ-opens) (relent list-at ν-list δ-list))) (C #checker·visit vs (Con .post (to table-at words-at source-at tape-at (relent rec-at ν-rec δ-rec) (relent seen-at ν-seen δ-seen) (relent opens-at ν-opens δ-opens) (relent list-at ν-list δ-list)))))) where
       pub called : ent 𝓤 (⋆ 𝓤 H A (‵ (HasShr u8 table-at table₀) ∷ ‵ (HasShr u64 words-at words₀) ∷ ‵ (HasShr u8 source-at source₀) ∷ ‵ (HasShr u8 tape-at tape₀) ∷ ‵ (HasRef Record-T.the-row rec-at rec₀) ∷ ‵ (HasMut u32 seen-at seen₀) ∷ ‵ (HasMut OpenStart-T.the-row opens-at opens₀) ∷ ‵ (HasMut u64 list-at list₀) ∷ [])) (H .⇛ (C #checker·visit vs (λ v. mean 𝓤 H A (After v))))
       called =
           qed W (‵ (HasShr u8 table-at table₀) ∷ ‵ (HasShr u64 words-at words₀) ∷ ‵ (HasShr u8 source-at source₀) ∷ ‵ (HasShr u8 tape-at tape₀) ∷ ‵ (HasRef Record-T.the-row rec-at rec₀) ∷ ‵ (HasMut u32 seen-at seen₀) ∷ ‵ (HasMut OpenStart-T.the-row opens-at opens₀) ∷ ‵ (HasMut u64 list-at list₀) ∷ []) ∵ updating ! $
@@ -120,13 +121,13 @@ module _ {M : Type 1} (𝓤 : URA M) (H : Heap 𝓤) (A : Atoms 𝓤) (at-mem : 
           move ! (6 ∷ []) $
           use1 W (‵ (HasShr u8 tape-at tape₀) ⊛ ‵ (KeptShr u8 tape-at tape₀)) (lend-shr u8 𝓤 H A W tape-at tape₀) $ split ! $
           move ! (8 ∷ []) $
-          use1 W (later (some (λ (ν : ℕ). some (λ (δ : GName). ‵ (HasRef Record-T.the-row (lent rec-at ν δ) rec₀) ⊛ ‵ (KeptRef Record-T.the-row rec-at ν δ rec₀))))) (lend-ref Record-T.the-row 𝓤 H A W rec-at rec₀) $ await ! tt $ pick ! (λ ν-rec. pick ! (λ δ-rec. split ! $
+          use1 W (later (some (λ (ν : ℕ). some (λ (δ : GName). ‵ (HasRef Record-T.the-row (relent rec-at ν δ) rec₀) ⊛ ‵ (KeptRef Record-T.the-row rec-at ν δ rec₀))))) (lend-ref Record-T.the-row 𝓤 H A W rec-at rec₀) $ await ! tt $ pick ! (λ ν-rec. pick ! (λ δ-rec. split ! $
           move ! (10 ∷ []) $
-          use1 W (later (some (λ (ν : ℕ). some (λ (δ : GName). ‵ (HasMut u32 (lent seen-at ν δ) seen₀) ⊛ ‵ (KeptMut u32 seen-at ν δ seen₀))))) (lend-mut u32 𝓤 H A W seen-at seen₀) $ await ! tt $ pick ! (λ ν-seen. pick ! (λ δ-seen. split ! $
+          use1 W (later (some (λ (ν : ℕ). some (λ (δ : GName). ‵ (HasMut u32 (relent seen-at ν δ) seen₀) ⊛ ‵ (KeptMut u32 seen-at ν δ seen₀))))) (lend-mut u32 𝓤 H A W seen-at seen₀) $ await ! tt $ pick ! (λ ν-seen. pick ! (λ δ-seen. split ! $
           move ! (12 ∷ []) $
-          use1 W (later (some (λ (ν : ℕ). some (λ (δ : GName). ‵ (HasMut OpenStart-T.the-row (lent opens-at ν δ) opens₀) ⊛ ‵ (KeptMut OpenStart-T.the-row opens-at ν δ opens₀))))) (lend-mut OpenStart-T.the-row 𝓤 H A W opens-at opens₀) $ await ! tt $ pick ! (λ ν-opens. pick ! (λ δ-opens. split ! $
+          use1 W (later (some (λ (ν : ℕ). some (λ (δ : GName). ‵ (HasMut OpenStart-T.the-row (relent opens-at ν δ) opens₀) ⊛ ‵ (KeptMut OpenStart-T.the-row opens-at ν δ opens₀))))) (lend-mut OpenStart-T.the-row 𝓤 H A W opens-at opens₀) $ await ! tt $ pick ! (λ ν-opens. pick ! (λ δ-opens. split ! $
           move ! (14 ∷ []) $
-          use1 W (later (some (λ (ν : ℕ). some (λ (δ : GName). ‵ (HasMut u64 (lent list-at ν δ) list₀) ⊛ ‵ (KeptMut u64 list-at ν δ list₀))))) (lend-mut u64 𝓤 H A W list-at list₀) $ await ! tt $ pick ! (λ ν-list. pick ! (λ δ-list. split ! $
+          use1 W (later (some (λ (ν : ℕ). some (λ (δ : GName). ‵ (HasMut u64 (relent list-at ν δ) list₀) ⊛ ‵ (KeptMut u64 list-at ν δ list₀))))) (lend-mut u64 𝓤 H A W list-at list₀) $ await ! tt $ pick ! (λ ν-list. pick ! (λ δ-list. split ! $
           move ! (14 ∷ []) $
           fsplit ! $
           move ! (14 ∷ []) $
@@ -189,14 +190,14 @@ module _ {M : Type 1} (𝓤 : URA M) (H : Heap 𝓤) (A : Atoms 𝓤) (at-mem : 
           use0 W (raw (fact 𝓤 ((Ready table₀ words₀ count₀ source₀ tape₀ depth₀ i₀ to₀ seen₀ opens₀ rec₀) × (Visitable source₀ tape₀ i₀ to₀ numbers₀ rec₀) × (m₀ .«name_start» + m₀ .«name_len» ≤ length table₀) × Room (countsOf rec₀) (visitFindings table₀ source₀ tape₀ (aroundOf around₀) (entryOfInfo m₀) i₀ to₀ seen₀ opens₀ rec₀)))) (factI 𝓤 ((Ready table₀ words₀ count₀ source₀ tape₀ depth₀ i₀ to₀ seen₀ opens₀ rec₀) × (Visitable source₀ tape₀ i₀ to₀ numbers₀ rec₀) × (m₀ .«name_start» + m₀ .«name_len» ≤ length table₀) × Room (countsOf rec₀) (visitFindings table₀ source₀ tape₀ (aroundOf around₀) (entryOfInfo m₀) i₀ to₀ seen₀ opens₀ rec₀)) (emp 𝓤) req) $
           move ! (1 ∷ 0 ∷ []) $
           join ! $
-          use1 W (raw (C #checker·visit vs (Con .post (to table-at words-at source-at tape-at (lent rec-at ν-rec δ-rec) (lent seen-at ν-seen δ-seen) (lent opens-at ν-opens δ-opens) (lent list-at ν-list δ-list))))) (met ν-rec δ-rec ν-seen δ-seen ν-opens δ-opens ν-list δ-list) $
+          use1 W (raw (C #checker·visit vs (Con .post (to table-at words-at source-at tape-at (relent rec-at ν-rec δ-rec) (relent seen-at ν-seen δ-seen) (relent opens-at ν-opens δ-opens) (relent list-at ν-list δ-list))))) (met ν-rec δ-rec ν-seen δ-seen ν-opens δ-opens ν-list δ-list) $
           nothing ! $
           at-once ! $ keep ! (1 ∷ 9 ∷ 8 ∷ 7 ∷ 6 ∷ 5 ∷ 4 ∷ 3 ∷ 2 ∷ 0 ∷ []) $
-          by ! (fm #checker·visit vs (Con .post (to table-at words-at source-at tape-at (lent rec-at ν-rec δ-rec) (lent seen-at ν-seen δ-seen) (lent opens-at ν-opens δ-opens) (lent list-at ν-list δ-list))) (λ v. mean 𝓤 H A (After v)) (⋆ 𝓤 H A (‵ (KeptShr u8 table-at table₀) ∷ ‵ (KeptShr u64 words-at words₀) ∷ ‵ (KeptShr u8 source-at source₀) ∷ ‵ (KeptShr u8 tape-at tape₀) ∷ ‵ (KeptRef Record-T.the-row rec-at ν-rec δ-rec rec₀) ∷ ‵ (KeptMut u32 seen-at ν-seen δ-seen seen₀) ∷ ‵ (KeptMut OpenStart-T.the-row opens-at ν-opens δ-opens opens₀) ∷ ‵ (KeptMut u64 list-at ν-list δ-list list₀) ∷ ‵ ftrue ∷ [])) (λ v.
-          qed W (raw (Con .post (to table-at words-at source-at tape-at (lent rec-at ν-rec δ-rec) (lent seen-at ν-seen δ-seen) (lent opens-at ν-opens δ-opens) (lent list-at ν-list δ-list)) v) ∷ ‵ (KeptShr u8 table-at table₀) ∷ ‵ (KeptShr u64 words-at words₀) ∷ ‵ (KeptShr u8 source-at source₀) ∷ ‵ (KeptShr u8 tape-at tape₀) ∷ ‵ (KeptRef Record-T.the-row rec-at ν-rec δ-rec rec₀) ∷ ‵ (KeptMut u32 seen-at ν-seen δ-seen seen₀) ∷ ‵ (KeptMut OpenStart-T.the-row opens-at ν-opens δ-opens opens₀) ∷ ‵ (KeptMut u64 list-at ν-list δ-list list₀) ∷ ‵ ftrue ∷ []) ∵ updating ! $
-          use1 W (later (some (λ (r : Unit {0}). ((‵ (flft (table-at .κ) (table-at .q)) ⊛ (‵ (flft (words-at .κ) (words-at .q)) ⊛ (‵ (flft (source-at .κ) (source-at .q)) ⊛ (‵ (flft (tape-at .κ) (tape-at .q)) ⊛ (‵ (flft ((lent rec-at ν-rec δ-rec) .κ) ((lent rec-at ν-rec δ-rec) .q)) ⊛ (‵ (flft ((lent seen-at ν-seen δ-seen) .κ) ((lent seen-at ν-seen δ-seen) .q)) ⊛ (‵ (flft ((lent opens-at ν-opens δ-opens) .κ) ((lent opens-at ν-opens δ-opens) .q)) ⊛ (‵ (flft ((lent list-at ν-list δ-list) .κ) ((lent list-at ν-list δ-list) .q)) ⊛ ‵ ftrue)))))))) ⊛ ‵ (unit .own r (v ∷ []))) ⊛ raw (ensured 𝓤 H A visit-F.ended (visit-F.clauses 𝓤 H A at-mem run) (table-at .κ, (words-at .κ, (source-at .κ, (tape-at .κ, ((lent rec-at ν-rec δ-rec) .κ, ((lent seen-at ν-seen δ-seen) .κ, ((lent opens-at ν-opens δ-opens) .κ, ((lent list-at ν-list δ-list) .κ, tt)))))))) (ref table-at table₀, (ref words-at words₀, (count₀, (ref source-at source₀, (ref tape-at tape₀, (i₀, (to₀, (depth₀, (m₀, (around₀, (numbers₀, (ref (lent rec-at ν-rec δ-rec) rec₀, (ref (lent seen-at ν-seen δ-seen) seen₀, (ref (lent opens-at ν-opens δ-opens) opens₀, (ref (lent list-at ν-list δ-list) list₀, tt))))))))))))))) tt r)))) (id⊢ 𝓤 _) $ await ! tt $ pick ! (λ r. split ! $
+          by ! (fm #checker·visit vs (Con .post (to table-at words-at source-at tape-at (relent rec-at ν-rec δ-rec) (relent seen-at ν-seen δ-seen) (relent opens-at ν-opens δ-opens) (relent list-at ν-list δ-list))) (λ v. mean 𝓤 H A (After v)) (⋆ 𝓤 H A (‵ (KeptShr u8 table-at table₀) ∷ ‵ (KeptShr u64 words-at words₀) ∷ ‵ (KeptShr u8 source-at source₀) ∷ ‵ (KeptShr u8 tape-at tape₀) ∷ ‵ (KeptRef Record-T.the-row rec-at ν-rec δ-rec rec₀) ∷ ‵ (KeptMut u32 seen-at ν-seen δ-seen seen₀) ∷ ‵ (KeptMut OpenStart-T.the-row opens-at ν-opens δ-opens opens₀) ∷ ‵ (KeptMut u64 list-at ν-list δ-list list₀) ∷ ‵ ftrue ∷ [])) (λ v.
+          qed W (raw (Con .post (to table-at words-at source-at tape-at (relent rec-at ν-rec δ-rec) (relent seen-at ν-seen δ-seen) (relent opens-at ν-opens δ-opens) (relent list-at ν-list δ-list)) v) ∷ ‵ (KeptShr u8 table-at table₀) ∷ ‵ (KeptShr u64 words-at words₀) ∷ ‵ (KeptShr u8 source-at source₀) ∷ ‵ (KeptShr u8 tape-at tape₀) ∷ ‵ (KeptRef Record-T.the-row rec-at ν-rec δ-rec rec₀) ∷ ‵ (KeptMut u32 seen-at ν-seen δ-seen seen₀) ∷ ‵ (KeptMut OpenStart-T.the-row opens-at ν-opens δ-opens opens₀) ∷ ‵ (KeptMut u64 list-at ν-list δ-list list₀) ∷ ‵ ftrue ∷ []) ∵ updating ! $
+          use1 W (later (some (λ (r : Unit {0}). ((‵ (flft (table-at .κ) (table-at .q)) ⊛ (‵ (flft (words-at .κ) (words-at .q)) ⊛ (‵ (flft (source-at .κ) (source-at .q)) ⊛ (‵ (flft (tape-at .κ) (tape-at .q)) ⊛ (‵ (flft ((relent rec-at ν-rec δ-rec) .κ) ((relent rec-at ν-rec δ-rec) .q)) ⊛ (‵ (flft ((relent seen-at ν-seen δ-seen) .κ) ((relent seen-at ν-seen δ-seen) .q)) ⊛ (‵ (flft ((relent opens-at ν-opens δ-opens) .κ) ((relent opens-at ν-opens δ-opens) .q)) ⊛ (‵ (flft ((relent list-at ν-list δ-list) .κ) ((relent list-at ν-list δ-list) .q)) ⊛ ‵ ftrue)))))))) ⊛ ‵ (unit .own r (v ∷ []))) ⊛ raw (ensured 𝓤 H A visit-F.ended (visit-F.clauses 𝓤 H A at-mem run) (table-at .κ, (words-at .κ, (source-at .κ, (tape-at .κ, ((relent rec-at ν-rec δ-rec) .κ, ((relent seen-at ν-seen δ-seen) .κ, ((relent opens-at ν-opens δ-opens) .κ, ((relent list-at ν-list δ-list) .κ, tt)))))))) (ref table-at table₀, (ref words-at words₀, (count₀, (ref source-at source₀, (ref tape-at tape₀, (i₀, (to₀, (depth₀, (m₀, (around₀, (numbers₀, (ref (relent rec-at ν-rec δ-rec) rec₀, (ref (relent seen-at ν-seen δ-seen) seen₀, (ref (relent opens-at ν-opens δ-opens) opens₀, (ref (relent list-at ν-list δ-list) list₀, tt))))))))))))))) tt r)))) (id⊢ 𝓤 _) $ await ! tt $ pick ! (λ r. split ! $
           move ! (1 ∷ []) $
-          use1 W (some (λ (ws : (Unit {0}) × ((Unit {0}) × ((Unit {0}) × ((Unit {0}) × ((Unit {0}) × ((Unit {0}) × ((Unit {0}) × ((Unit {0}) × ((Unit {0}) × ((Unit {0}) × ((Unit {0}) × (Record × ((List ℕ) × ((List OpenStart) × ((List ℕ) × Unit {0}))))))))))))))). ‵ (lasts visit-F.ended (table-at .κ, (words-at .κ, (source-at .κ, (tape-at .κ, ((lent rec-at ν-rec δ-rec) .κ, ((lent seen-at ν-seen δ-seen) .κ, ((lent opens-at ν-opens δ-opens) .κ, ((lent list-at ν-list δ-list) .κ, tt)))))))) (ref table-at table₀, (ref words-at words₀, (count₀, (ref source-at source₀, (ref tape-at tape₀, (i₀, (to₀, (depth₀, (m₀, (around₀, (numbers₀, (ref (lent rec-at ν-rec δ-rec) rec₀, (ref (lent seen-at ν-seen δ-seen) seen₀, (ref (lent opens-at ν-opens δ-opens) opens₀, (ref (lent list-at ν-list δ-list) list₀, tt))))))))))))))) ws) ⊛ raw (fact 𝓤 (Visited table₀ source₀ tape₀ (aroundOf around₀) (entryOfInfo m₀) i₀ to₀ seen₀ opens₀ list₀ rec₀ (ws .1 .1 .1 .1 .1 .1 .1 .1 .1 .1 .1 .1 .0) (ws .1 .1 .1 .1 .1 .1 .1 .1 .1 .1 .1 .1 .1 .0) (ws .1 .1 .1 .1 .1 .1 .1 .1 .1 .1 .1 .1 .1 .1 .0) (ws .1 .1 .1 .1 .1 .1 .1 .1 .1 .1 .1 .0))))) (id⊢ 𝓤 _) $ pick ! (λ ws. split ! $
+          use1 W (some (λ (ws : (Unit {0}) × ((Unit {0}) × ((Unit {0}) × ((Unit {0}) × ((Unit {0}) × ((Unit {0}) × ((Unit {0}) × ((Unit {0}) × ((Unit {0}) × ((Unit {0}) × ((Unit {0}) × (Record × ((List ℕ) × ((List OpenStart) × ((List ℕ) × Unit {0}))))))))))))))). ‵ (lasts visit-F.ended (table-at .κ, (words-at .κ, (source-at .κ, (tape-at .κ, ((relent rec-at ν-rec δ-rec) .κ, ((relent seen-at ν-seen δ-seen) .κ, ((relent opens-at ν-opens δ-opens) .κ, ((relent list-at ν-list δ-list) .κ, tt)))))))) (ref table-at table₀, (ref words-at words₀, (count₀, (ref source-at source₀, (ref tape-at tape₀, (i₀, (to₀, (depth₀, (m₀, (around₀, (numbers₀, (ref (relent rec-at ν-rec δ-rec) rec₀, (ref (relent seen-at ν-seen δ-seen) seen₀, (ref (relent opens-at ν-opens δ-opens) opens₀, (ref (relent list-at ν-list δ-list) list₀, tt))))))))))))))) ws) ⊛ raw (fact 𝓤 (Visited table₀ source₀ tape₀ (aroundOf around₀) (entryOfInfo m₀) i₀ to₀ seen₀ opens₀ list₀ rec₀ (ws .1 .1 .1 .1 .1 .1 .1 .1 .1 .1 .1 .1 .0) (ws .1 .1 .1 .1 .1 .1 .1 .1 .1 .1 .1 .1 .1 .0) (ws .1 .1 .1 .1 .1 .1 .1 .1 .1 .1 .1 .1 .1 .1 .0) (ws .1 .1 .1 .1 .1 .1 .1 .1 .1 .1 .1 .0))))) (id⊢ 𝓤 _) $ pick ! (λ ws. split ! $
           move ! (1 ∷ []) $
           heard ! (Visited table₀ source₀ tape₀ (aroundOf around₀) (entryOfInfo m₀) i₀ to₀ seen₀ opens₀ list₀ rec₀ (ws .1 .1 .1 .1 .1 .1 .1 .1 .1 .1 .1 .1 .0) (ws .1 .1 .1 .1 .1 .1 .1 .1 .1 .1 .1 .1 .1 .0) (ws .1 .1 .1 .1 .1 .1 .1 .1 .1 .1 .1 .1 .1 .1 .0) (ws .1 .1 .1 .1 .1 .1 .1 .1 .1 .1 .1 .0)) (λ e.
           fsplit ! $
@@ -276,13 +277,13 @@ module _ {M : Type 1} (𝓤 : URA M) (H : Heap 𝓤) (A : Atoms 𝓤) (at-mem : 
           keep ! (7 ∷ 6 ∷ 5 ∷ 4 ∷ 3 ∷ 2 ∷ 1 ∷ 0 ∷ []) $ join ! $ join ! $ join ! $ join ! $ join ! $ join ! $ join ! $ done !)))))))))))))))))
 
 module _ {M : Type 1} {𝓤 : URA M} {H : Heap 𝓤} {A : Atoms 𝓤} {K : Type 0} {W : Given 𝓤 H A} {Γ : List (Item 𝓤)} {E : Env 𝓤 H} {C : Calls 𝓤 H} {Λ : Loops 𝓤 H} {q : PostOf 𝓤 H} {dst : Place} {xs : List Operand} where
-  pub calls-visit : K → (at-mem : Memory → SProp 𝓤) (run : Routine → Fun 𝓤) → FmC 𝓤 H (W .laws) C → {rest : Body} (table-at : At) (table₀ : List ℕ) (words-at : At) (words₀ : List ℕ) (count₀ : ℕ) (source-at : At) (source₀ : List ℕ) (tape-at : At) (tape₀ : List ℕ) (i₀ : ℕ) (to₀ : ℕ) (depth₀ : ℕ) (m₀ : MarkerInfo) (around₀ : Around) (numbers₀ : Attached) (rec-at : At) (rec₀ : Record) (seen-at : At) (seen₀ : List ℕ) (opens-at : At) (opens₀ : List OpenStart) (list-at : At) (list₀ : List ℕ) (count₀-is : count₀ < 2 ^ 64) (i₀-is : i₀ < 2 ^ 64) (to₀-is : to₀ < 2 ^ 64) (depth₀-is : depth₀ < 2 ^ 64) (m₀-is : Is MarkerInfo-T.the-row m₀ (LL.val MarkerInfo-T.the-type MarkerInfo-L.the-laws m₀ ∷ [])) (around₀-is : Is Around-T.the-row around₀ (LL.val Around-T.the-type Around-L.the-laws around₀ ∷ [])) (numbers₀-is : Is Attached-T.the-row numbers₀ (EL.val Attached-T.the-type Attached-L.the-laws numbers₀ ∷ [])) (req : (Ready table₀ words₀ count₀ source₀ tape₀ depth₀ i₀ to₀ seen₀ opens₀ rec₀) × (Visitable source₀ tape₀ i₀ to₀ numbers₀ rec₀) × (m₀ .«name_start» + m₀ .«name_len» ≤ length table₀) × Room (countsOf rec₀) (visitFindings table₀ source₀ tape₀ (aroundOf around₀) (entryOfInfo m₀) i₀ to₀ seen₀ opens₀ rec₀)) → ((ν-rec : ℕ) → (δ-rec : GName) → (ν-seen : ℕ) → (δ-seen : GName) → (ν-opens : ℕ) → (δ-opens : GName) → (ν-list : ℕ) → (δ-list : GName) → ent 𝓤 (Con 𝓤 H A at-mem run .pre (to 𝓤 H A at-mem run table-at table₀ words-at words₀ count₀ source-at source₀ tape-at tape₀ i₀ to₀ depth₀ m₀ around₀ numbers₀ rec-at rec₀ seen-at seen₀ opens-at opens₀ list-at list₀ table-at words-at source-at tape-at (lent rec-at ν-rec δ-rec) (lent seen-at ν-seen δ-seen) (lent opens-at ν-opens δ-opens) (lent list-at ν-list δ-list))) (C #checker·visit (vs 𝓤 H A at-mem run table-at table₀ words-at words₀ count₀ source-at source₀ tape-at tape₀ i₀ to₀ depth₀ m₀ around₀ numbers₀ rec-at rec₀ seen-at seen₀ opens-at opens₀ list-at list₀) (Con 𝓤 H A at-mem run .post (to 𝓤 H A at-mem run table-at table₀ words-at words₀ count₀ source-at source₀ tape-at tape₀ i₀ to₀ depth₀ m₀ around₀ numbers₀ rec-at rec₀ seen-at seen₀ opens-at opens₀ list-at list₀ table-at words-at source-at tape-at (lent rec-at ν-rec δ-rec) (lent seen-at ν-seen δ-seen) (lent opens-at ν-opens δ-opens) (lent list-at ν-list δ-list))))) → Opds K W (raw (C #checker·visit (vs 𝓤 H A at-mem run table-at table₀ words-at words₀ count₀ source-at source₀ tape-at tape₀ i₀ to₀ depth₀ m₀ around₀ numbers₀ rec-at rec₀ seen-at seen₀ opens-at opens₀ list-at list₀) (λ v. mean 𝓤 H A (After 𝓤 H A at-mem run table-at table₀ words-at words₀ count₀ source-at source₀ tape-at tape₀ i₀ to₀ depth₀ m₀ around₀ numbers₀ rec-at rec₀ seen-at seen₀ opens-at opens₀ list-at list₀ v))) ∷ Γ) E xs (vs 𝓤 H A at-mem run table-at table₀ words-at words₀ count₀ source-at source₀ tape-at tape₀ i₀ to₀ depth₀ m₀ around₀ numbers₀ rec-at rec₀ seen-at seen₀ opens-at opens₀ list-at list₀)
+  pub calls-visit : K → (at-mem : Memory → SProp 𝓤) (run : Routine → Fun 𝓤) → FmC 𝓤 H (W .laws) C → {rest : Body} (table-at : At) (table₀ : List ℕ) (words-at : At) (words₀ : List ℕ) (count₀ : ℕ) (source-at : At) (source₀ : List ℕ) (tape-at : At) (tape₀ : List ℕ) (i₀ : ℕ) (to₀ : ℕ) (depth₀ : ℕ) (m₀ : MarkerInfo) (around₀ : Around) (numbers₀ : Attached) (rec-at : At) (rec₀ : Record) (seen-at : At) (seen₀ : List ℕ) (opens-at : At) (opens₀ : List OpenStart) (list-at : At) (list₀ : List ℕ) (count₀-is : count₀ < 2 ^ 64) (i₀-is : i₀ < 2 ^ 64) (to₀-is : to₀ < 2 ^ 64) (depth₀-is : depth₀ < 2 ^ 64) (m₀-is : Is MarkerInfo-T.the-row m₀ (LL.val MarkerInfo-T.the-type MarkerInfo-L.the-laws m₀ ∷ [])) (around₀-is : Is Around-T.the-row around₀ (LL.val Around-T.the-type Around-L.the-laws around₀ ∷ [])) (numbers₀-is : Is Attached-T.the-row numbers₀ (EL.val Attached-T.the-type Attached-L.the-laws numbers₀ ∷ [])) (req : (Ready table₀ words₀ count₀ source₀ tape₀ depth₀ i₀ to₀ seen₀ opens₀ rec₀) × (Visitable source₀ tape₀ i₀ to₀ numbers₀ rec₀) × (m₀ .«name_start» + m₀ .«name_len» ≤ length table₀) × Room (countsOf rec₀) (visitFindings table₀ source₀ tape₀ (aroundOf around₀) (entryOfInfo m₀) i₀ to₀ seen₀ opens₀ rec₀)) → ((ν-rec : ℕ) → (δ-rec : GName) → (ν-seen : ℕ) → (δ-seen : GName) → (ν-opens : ℕ) → (δ-opens : GName) → (ν-list : ℕ) → (δ-list : GName) → ent 𝓤 (Con 𝓤 H A at-mem run .pre (to 𝓤 H A at-mem run table-at table₀ words-at words₀ count₀ source-at source₀ tape-at tape₀ i₀ to₀ depth₀ m₀ around₀ numbers₀ rec-at rec₀ seen-at seen₀ opens-at opens₀ list-at list₀ table-at words-at source-at tape-at (relent rec-at ν-rec δ-rec) (relent seen-at ν-seen δ-seen) (relent opens-at ν-opens δ-opens) (relent list-at ν-list δ-list))) (C #checker·visit (vs 𝓤 H A at-mem run table-at table₀ words-at words₀ count₀ source-at source₀ tape-at tape₀ i₀ to₀ depth₀ m₀ around₀ numbers₀ rec-at rec₀ seen-at seen₀ opens-at opens₀ list-at list₀) (Con 𝓤 H A at-mem run .post (to 𝓤 H A at-mem run table-at table₀ words-at words₀ count₀ source-at source₀ tape-at tape₀ i₀ to₀ depth₀ m₀ around₀ numbers₀ rec-at rec₀ seen-at seen₀ opens-at opens₀ list-at list₀ table-at words-at source-at tape-at (relent rec-at ν-rec δ-rec) (relent seen-at ν-seen δ-seen) (relent opens-at ν-opens δ-opens) (relent list-at ν-list δ-list))))) → Opds K W (raw (C #checker·visit (vs 𝓤 H A at-mem run table-at table₀ words-at words₀ count₀ source-at source₀ tape-at tape₀ i₀ to₀ depth₀ m₀ around₀ numbers₀ rec-at rec₀ seen-at seen₀ opens-at opens₀ list-at list₀) (λ v. mean 𝓤 H A (After 𝓤 H A at-mem run table-at table₀ words-at words₀ count₀ source-at source₀ tape-at tape₀ i₀ to₀ depth₀ m₀ around₀ numbers₀ rec-at rec₀ seen-at seen₀ opens-at opens₀ list-at list₀ v))) ∷ Γ) E xs (vs 𝓤 H A at-mem run table-at table₀ words-at words₀ count₀ source-at source₀ tape-at tape₀ i₀ to₀ depth₀ m₀ around₀ numbers₀ rec-at rec₀ seen-at seen₀ opens-at opens₀ list-at list₀)
       → ((z : Z 𝓤 H A at-mem run table-at table₀ words-at words₀ count₀ source-at source₀ tape-at tape₀ i₀ to₀ depth₀ m₀ around₀ numbers₀ rec-at rec₀ seen-at seen₀ opens-at opens₀ list-at list₀) → Says 𝓤 H A at-mem run table-at table₀ words-at words₀ count₀ source-at source₀ tape-at tape₀ i₀ to₀ depth₀ m₀ around₀ numbers₀ rec-at rec₀ seen-at seen₀ opens-at opens₀ list-at list₀ (vunit ∷ []) z → Seq K W (‵ (HasShr u8 table-at table₀) ∷ ‵ (HasShr u64 words-at words₀) ∷ ‵ (HasShr u8 source-at source₀) ∷ ‵ (HasShr u8 tape-at tape₀) ∷ ‵ (HasRef Record-T.the-row rec-at (z .1 .0)) ∷ ‵ (HasMut u32 seen-at (z .1 .1 .0)) ∷ ‵ (HasMut OpenStart-T.the-row opens-at (z .1 .1 .1 .0)) ∷ ‵ (HasMut u64 list-at (z .1 .1 .1 .1 .0)) ∷ Γ) (lands C Λ E dst vunit rest q)) → Seq K W (‵ (HasShr u8 table-at table₀) ∷ ‵ (HasShr u64 words-at words₀) ∷ ‵ (HasShr u8 source-at source₀) ∷ ‵ (HasShr u8 tape-at tape₀) ∷ ‵ (HasRef Record-T.the-row rec-at rec₀) ∷ ‵ (HasMut u32 seen-at seen₀) ∷ ‵ (HasMut OpenStart-T.the-row opens-at opens₀) ∷ ‵ (HasMut u64 list-at list₀) ∷ Γ) (runs C Λ E (seq (call #checker·visit xs dst) rest) q)
   calls-visit t at-mem run fm {rest} table-at table₀ words-at words₀ count₀ source-at source₀ tape-at tape₀ i₀ to₀ depth₀ m₀ around₀ numbers₀ rec-at rec₀ seen-at seen₀ opens-at opens₀ list-at list₀ count₀-is i₀-is to₀-is depth₀-is m₀-is around₀-is numbers₀-is req met os k =
       cut (‵ (HasShr u8 table-at table₀) ∷ ‵ (HasShr u64 words-at words₀) ∷ ‵ (HasShr u8 source-at source₀) ∷ ‵ (HasShr u8 tape-at tape₀) ∷ ‵ (HasRef Record-T.the-row rec-at rec₀) ∷ ‵ (HasMut u32 seen-at seen₀) ∷ ‵ (HasMut OpenStart-T.the-row opens-at opens₀) ∷ ‵ (HasMut u64 list-at list₀) ∷ []) (later (raw (C #checker·visit (vs 𝓤 H A at-mem run table-at table₀ words-at words₀ count₀ source-at source₀ tape-at tape₀ i₀ to₀ depth₀ m₀ around₀ numbers₀ rec-at rec₀ seen-at seen₀ opens-at opens₀ list-at list₀) (λ v. mean 𝓤 H A (After 𝓤 H A at-mem run table-at table₀ words-at words₀ count₀ source-at source₀ tape-at tape₀ i₀ to₀ depth₀ m₀ around₀ numbers₀ rec-at rec₀ seen-at seen₀ opens-at opens₀ list-at list₀ v)))) ∷ []) Γ (called 𝓤 H A at-mem run table-at table₀ words-at words₀ count₀ source-at source₀ tape-at tape₀ i₀ to₀ depth₀ m₀ around₀ numbers₀ rec-at rec₀ seen-at seen₀ opens-at opens₀ list-at list₀ W C fm count₀-is i₀-is to₀-is depth₀-is m₀-is around₀-is numbers₀-is req met) $ await t tt $ calls t fm (After 𝓤 H A at-mem run table-at table₀ words-at words₀ count₀ source-at source₀ tape-at tape₀ i₀ to₀ depth₀ m₀ around₀ numbers₀ rec-at rec₀ seen-at seen₀ opens-at opens₀ list-at list₀) os (λ v. await t tt $ pick t (λ z. learn t (λ s. split t $ split t $ split t $ split t $ split t $ split t $ split t $ subst (λ (u : Val). Seq K W (‵ (HasShr u8 table-at table₀) ∷ ‵ (HasShr u64 words-at words₀) ∷ ‵ (HasShr u8 source-at source₀) ∷ ‵ (HasShr u8 tape-at tape₀) ∷ ‵ (HasRef Record-T.the-row rec-at (z .1 .0)) ∷ ‵ (HasMut u32 seen-at (z .1 .1 .0)) ∷ ‵ (HasMut OpenStart-T.the-row opens-at (z .1 .1 .1 .0)) ∷ ‵ (HasMut u64 list-at (z .1 .1 .1 .1 .0)) ∷ Γ) (lands C Λ E dst u rest q)) (sym (ap only (nothing-tells (z .0) (v ∷ []) (s .0)))) (k z (subst (Is unit (z .0)) (nothing-tells (z .0) (v ∷ []) (s .0)) (s .0), (s .1 .0, (s .1 .1 .0, (s .1 .1 .1 .0, s .1 .1 .1 .1))))))))
 
 module _ {M : Type 1} {𝓤 : URA M} {H : Heap 𝓤} {A : Atoms 𝓤} {K : Type 0} {W : Given 𝓤 H A} {Γ : List (Item 𝓤)} {E : Env 𝓤 H} {C : Calls 𝓤 H} {Λ : Loops 𝓤 H} {q : PostOf 𝓤 H} {dst : Place} {xs : List Operand} where
-  pub calls-visit-last : K → (at-mem : Memory → SProp 𝓤) (run : Routine → Fun 𝓤) → FmC 𝓤 H (W .laws) C → (table-at : At) (table₀ : List ℕ) (words-at : At) (words₀ : List ℕ) (count₀ : ℕ) (source-at : At) (source₀ : List ℕ) (tape-at : At) (tape₀ : List ℕ) (i₀ : ℕ) (to₀ : ℕ) (depth₀ : ℕ) (m₀ : MarkerInfo) (around₀ : Around) (numbers₀ : Attached) (rec-at : At) (rec₀ : Record) (seen-at : At) (seen₀ : List ℕ) (opens-at : At) (opens₀ : List OpenStart) (list-at : At) (list₀ : List ℕ) (count₀-is : count₀ < 2 ^ 64) (i₀-is : i₀ < 2 ^ 64) (to₀-is : to₀ < 2 ^ 64) (depth₀-is : depth₀ < 2 ^ 64) (m₀-is : Is MarkerInfo-T.the-row m₀ (LL.val MarkerInfo-T.the-type MarkerInfo-L.the-laws m₀ ∷ [])) (around₀-is : Is Around-T.the-row around₀ (LL.val Around-T.the-type Around-L.the-laws around₀ ∷ [])) (numbers₀-is : Is Attached-T.the-row numbers₀ (EL.val Attached-T.the-type Attached-L.the-laws numbers₀ ∷ [])) (req : (Ready table₀ words₀ count₀ source₀ tape₀ depth₀ i₀ to₀ seen₀ opens₀ rec₀) × (Visitable source₀ tape₀ i₀ to₀ numbers₀ rec₀) × (m₀ .«name_start» + m₀ .«name_len» ≤ length table₀) × Room (countsOf rec₀) (visitFindings table₀ source₀ tape₀ (aroundOf around₀) (entryOfInfo m₀) i₀ to₀ seen₀ opens₀ rec₀)) → ((ν-rec : ℕ) → (δ-rec : GName) → (ν-seen : ℕ) → (δ-seen : GName) → (ν-opens : ℕ) → (δ-opens : GName) → (ν-list : ℕ) → (δ-list : GName) → ent 𝓤 (Con 𝓤 H A at-mem run .pre (to 𝓤 H A at-mem run table-at table₀ words-at words₀ count₀ source-at source₀ tape-at tape₀ i₀ to₀ depth₀ m₀ around₀ numbers₀ rec-at rec₀ seen-at seen₀ opens-at opens₀ list-at list₀ table-at words-at source-at tape-at (lent rec-at ν-rec δ-rec) (lent seen-at ν-seen δ-seen) (lent opens-at ν-opens δ-opens) (lent list-at ν-list δ-list))) (C #checker·visit (vs 𝓤 H A at-mem run table-at table₀ words-at words₀ count₀ source-at source₀ tape-at tape₀ i₀ to₀ depth₀ m₀ around₀ numbers₀ rec-at rec₀ seen-at seen₀ opens-at opens₀ list-at list₀) (Con 𝓤 H A at-mem run .post (to 𝓤 H A at-mem run table-at table₀ words-at words₀ count₀ source-at source₀ tape-at tape₀ i₀ to₀ depth₀ m₀ around₀ numbers₀ rec-at rec₀ seen-at seen₀ opens-at opens₀ list-at list₀ table-at words-at source-at tape-at (lent rec-at ν-rec δ-rec) (lent seen-at ν-seen δ-seen) (lent opens-at ν-opens δ-opens) (lent list-at ν-list δ-list))))) → Opds K W (raw (C #checker·visit (vs 𝓤 H A at-mem run table-at table₀ words-at words₀ count₀ source-at source₀ tape-at tape₀ i₀ to₀ depth₀ m₀ around₀ numbers₀ rec-at rec₀ seen-at seen₀ opens-at opens₀ list-at list₀) (λ v. mean 𝓤 H A (After 𝓤 H A at-mem run table-at table₀ words-at words₀ count₀ source-at source₀ tape-at tape₀ i₀ to₀ depth₀ m₀ around₀ numbers₀ rec-at rec₀ seen-at seen₀ opens-at opens₀ list-at list₀ v))) ∷ Γ) E xs (vs 𝓤 H A at-mem run table-at table₀ words-at words₀ count₀ source-at source₀ tape-at tape₀ i₀ to₀ depth₀ m₀ around₀ numbers₀ rec-at rec₀ seen-at seen₀ opens-at opens₀ list-at list₀)
+  pub calls-visit-last : K → (at-mem : Memory → SProp 𝓤) (run : Routine → Fun 𝓤) → FmC 𝓤 H (W .laws) C → (table-at : At) (table₀ : List ℕ) (words-at : At) (words₀ : List ℕ) (count₀ : ℕ) (source-at : At) (source₀ : List ℕ) (tape-at : At) (tape₀ : List ℕ) (i₀ : ℕ) (to₀ : ℕ) (depth₀ : ℕ) (m₀ : MarkerInfo) (around₀ : Around) (numbers₀ : Attached) (rec-at : At) (rec₀ : Record) (seen-at : At) (seen₀ : List ℕ) (opens-at : At) (opens₀ : List OpenStart) (list-at : At) (list₀ : List ℕ) (count₀-is : count₀ < 2 ^ 64) (i₀-is : i₀ < 2 ^ 64) (to₀-is : to₀ < 2 ^ 64) (depth₀-is : depth₀ < 2 ^ 64) (m₀-is : Is MarkerInfo-T.the-row m₀ (LL.val MarkerInfo-T.the-type MarkerInfo-L.the-laws m₀ ∷ [])) (around₀-is : Is Around-T.the-row around₀ (LL.val Around-T.the-type Around-L.the-laws around₀ ∷ [])) (numbers₀-is : Is Attached-T.the-row numbers₀ (EL.val Attached-T.the-type Attached-L.the-laws numbers₀ ∷ [])) (req : (Ready table₀ words₀ count₀ source₀ tape₀ depth₀ i₀ to₀ seen₀ opens₀ rec₀) × (Visitable source₀ tape₀ i₀ to₀ numbers₀ rec₀) × (m₀ .«name_start» + m₀ .«name_len» ≤ length table₀) × Room (countsOf rec₀) (visitFindings table₀ source₀ tape₀ (aroundOf around₀) (entryOfInfo m₀) i₀ to₀ seen₀ opens₀ rec₀)) → ((ν-rec : ℕ) → (δ-rec : GName) → (ν-seen : ℕ) → (δ-seen : GName) → (ν-opens : ℕ) → (δ-opens : GName) → (ν-list : ℕ) → (δ-list : GName) → ent 𝓤 (Con 𝓤 H A at-mem run .pre (to 𝓤 H A at-mem run table-at table₀ words-at words₀ count₀ source-at source₀ tape-at tape₀ i₀ to₀ depth₀ m₀ around₀ numbers₀ rec-at rec₀ seen-at seen₀ opens-at opens₀ list-at list₀ table-at words-at source-at tape-at (relent rec-at ν-rec δ-rec) (relent seen-at ν-seen δ-seen) (relent opens-at ν-opens δ-opens) (relent list-at ν-list δ-list))) (C #checker·visit (vs 𝓤 H A at-mem run table-at table₀ words-at words₀ count₀ source-at source₀ tape-at tape₀ i₀ to₀ depth₀ m₀ around₀ numbers₀ rec-at rec₀ seen-at seen₀ opens-at opens₀ list-at list₀) (Con 𝓤 H A at-mem run .post (to 𝓤 H A at-mem run table-at table₀ words-at words₀ count₀ source-at source₀ tape-at tape₀ i₀ to₀ depth₀ m₀ around₀ numbers₀ rec-at rec₀ seen-at seen₀ opens-at opens₀ list-at list₀ table-at words-at source-at tape-at (relent rec-at ν-rec δ-rec) (relent seen-at ν-seen δ-seen) (relent opens-at ν-opens δ-opens) (relent list-at ν-list δ-list))))) → Opds K W (raw (C #checker·visit (vs 𝓤 H A at-mem run table-at table₀ words-at words₀ count₀ source-at source₀ tape-at tape₀ i₀ to₀ depth₀ m₀ around₀ numbers₀ rec-at rec₀ seen-at seen₀ opens-at opens₀ list-at list₀) (λ v. mean 𝓤 H A (After 𝓤 H A at-mem run table-at table₀ words-at words₀ count₀ source-at source₀ tape-at tape₀ i₀ to₀ depth₀ m₀ around₀ numbers₀ rec-at rec₀ seen-at seen₀ opens-at opens₀ list-at list₀ v))) ∷ Γ) E xs (vs 𝓤 H A at-mem run table-at table₀ words-at words₀ count₀ source-at source₀ tape-at tape₀ i₀ to₀ depth₀ m₀ around₀ numbers₀ rec-at rec₀ seen-at seen₀ opens-at opens₀ list-at list₀)
       → ((z : Z 𝓤 H A at-mem run table-at table₀ words-at words₀ count₀ source-at source₀ tape-at tape₀ i₀ to₀ depth₀ m₀ around₀ numbers₀ rec-at rec₀ seen-at seen₀ opens-at opens₀ list-at list₀) → Says 𝓤 H A at-mem run table-at table₀ words-at words₀ count₀ source-at source₀ tape-at tape₀ i₀ to₀ depth₀ m₀ around₀ numbers₀ rec-at rec₀ seen-at seen₀ opens-at opens₀ list-at list₀ (vunit ∷ []) z → Seq K W (‵ (HasShr u8 table-at table₀) ∷ ‵ (HasShr u64 words-at words₀) ∷ ‵ (HasShr u8 source-at source₀) ∷ ‵ (HasShr u8 tape-at tape₀) ∷ ‵ (HasRef Record-T.the-row rec-at (z .1 .0)) ∷ ‵ (HasMut u32 seen-at (z .1 .1 .0)) ∷ ‵ (HasMut OpenStart-T.the-row opens-at (z .1 .1 .1 .0)) ∷ ‵ (HasMut u64 list-at (z .1 .1 .1 .1 .0)) ∷ Γ) (settles E dst vunit q)) → Seq K W (‵ (HasShr u8 table-at table₀) ∷ ‵ (HasShr u64 words-at words₀) ∷ ‵ (HasShr u8 source-at source₀) ∷ ‵ (HasShr u8 tape-at tape₀) ∷ ‵ (HasRef Record-T.the-row rec-at rec₀) ∷ ‵ (HasMut u32 seen-at seen₀) ∷ ‵ (HasMut OpenStart-T.the-row opens-at opens₀) ∷ ‵ (HasMut u64 list-at list₀) ∷ Γ) (runs C Λ E (call #checker·visit xs dst) q)
   calls-visit-last t at-mem run fm table-at table₀ words-at words₀ count₀ source-at source₀ tape-at tape₀ i₀ to₀ depth₀ m₀ around₀ numbers₀ rec-at rec₀ seen-at seen₀ opens-at opens₀ list-at list₀ count₀-is i₀-is to₀-is depth₀-is m₀-is around₀-is numbers₀-is req met os k =
       cut (‵ (HasShr u8 table-at table₀) ∷ ‵ (HasShr u64 words-at words₀) ∷ ‵ (HasShr u8 source-at source₀) ∷ ‵ (HasShr u8 tape-at tape₀) ∷ ‵ (HasRef Record-T.the-row rec-at rec₀) ∷ ‵ (HasMut u32 seen-at seen₀) ∷ ‵ (HasMut OpenStart-T.the-row opens-at opens₀) ∷ ‵ (HasMut u64 list-at list₀) ∷ []) (later (raw (C #checker·visit (vs 𝓤 H A at-mem run table-at table₀ words-at words₀ count₀ source-at source₀ tape-at tape₀ i₀ to₀ depth₀ m₀ around₀ numbers₀ rec-at rec₀ seen-at seen₀ opens-at opens₀ list-at list₀) (λ v. mean 𝓤 H A (After 𝓤 H A at-mem run table-at table₀ words-at words₀ count₀ source-at source₀ tape-at tape₀ i₀ to₀ depth₀ m₀ around₀ numbers₀ rec-at rec₀ seen-at seen₀ opens-at opens₀ list-at list₀ v)))) ∷ []) Γ (called 𝓤 H A at-mem run table-at table₀ words-at words₀ count₀ source-at source₀ tape-at tape₀ i₀ to₀ depth₀ m₀ around₀ numbers₀ rec-at rec₀ seen-at seen₀ opens-at opens₀ list-at list₀ W C fm count₀-is i₀-is to₀-is depth₀-is m₀-is around₀-is numbers₀-is req met) $ await t tt $ calls-last t fm (After 𝓤 H A at-mem run table-at table₀ words-at words₀ count₀ source-at source₀ tape-at tape₀ i₀ to₀ depth₀ m₀ around₀ numbers₀ rec-at rec₀ seen-at seen₀ opens-at opens₀ list-at list₀) os (λ v. await t tt $ pick t (λ z. learn t (λ s. split t $ split t $ split t $ split t $ split t $ split t $ split t $ subst (λ (u : Val). Seq K W (‵ (HasShr u8 table-at table₀) ∷ ‵ (HasShr u64 words-at words₀) ∷ ‵ (HasShr u8 source-at source₀) ∷ ‵ (HasShr u8 tape-at tape₀) ∷ ‵ (HasRef Record-T.the-row rec-at (z .1 .0)) ∷ ‵ (HasMut u32 seen-at (z .1 .1 .0)) ∷ ‵ (HasMut OpenStart-T.the-row opens-at (z .1 .1 .1 .0)) ∷ ‵ (HasMut u64 list-at (z .1 .1 .1 .1 .0)) ∷ Γ) (settles E dst u q)) (sym (ap only (nothing-tells (z .0) (v ∷ []) (s .0)))) (k z (subst (Is unit (z .0)) (nothing-tells (z .0) (v ∷ []) (s .0)) (s .0), (s .1 .0, (s .1 .1 .0, (s .1 .1 .1 .0, s .1 .1 .1 .1))))))))

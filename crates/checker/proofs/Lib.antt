@@ -18,3 +18,4 @@ pub mod CallLeaf
 pub mod CallNumbersAfter
 pub mod CallPastNode
 pub mod CallVisitLeaf
+pub mod CallIsCalm

@@ -7,7 +7,8 @@ use mathlib.Core.Bool.{Bool, true, false, false≢true}
 use mathlib.Core.List.{List, []}
 use mathlib.Core.Option.{Option, some, none}
 use lib.Dec.{eqb}
-use borrow.Author.Tests.{eq-eqb, ne-eqb}
+use borrow.Author.Tests.{eq-eqb, ne-eqb, eqb-true}
+use Rattle.text.proofs.Rows.{both-left, both-right}
 use Rattle.tape.specs.Nodes.{Node, nodeAt, kindAt}
 use Rattle.tape.specs.Forest.{Forest, end, leaf, node, forest}
 use Rattle.tape.proofs.OneNumber.{either-false}
@@ -25,6 +26,7 @@ use Rattle.validate.specs.Walk as Walk
 use Rattle.validate.specs.declared.OpenStart.{OpenStart}
 use Rattle.running.specs.Running.{stateOf, countsOf}
 use Rattle.running.specs.declared.Record.{Record}
+use Rattle.opens.specs.Calm.{onlyTexts}
 use Rattle.checker.specs.Walking.{nowhere, walkAt, Ready, Walked, quiet}
 
 -- the test, a node at a time
@@ -49,6 +51,15 @@ module _ (s t : List ℕ) (i to : ℕ) (run : Run s t i to) (more : i < to) wher
 pub quiet-end : true ≡ quiet end
 unfolding quiet
 quiet-end = refl
+
+-- Texts are none of these
+pub texts-quiet : (f : Forest) → onlyTexts f ≡ true → quiet f ≡ true
+unfolding onlyTexts quiet
+texts-quiet end h = refl
+texts-quiet (leaf x r) h =
+    let k = eqb-true (x .kind) 5 (both-left (eqb (x .kind) 5) (onlyTexts r) h) in
+    rw (ne-eqb (x .kind) 3 (λ z. omega arith), ne-eqb (x .kind) 4 (λ z. omega arith)) (texts-quiet r (both-right (eqb (x .kind) 5) (onlyTexts r) h))
+texts-quiet (node x c r) h = absurd (false≢true h)
 
 -- without an anchor the walk of such a run leaves the record as it is
 abbrev still : State → Walk.Walked

@@ -3,12 +3,13 @@
 use Prim.Native.Nat.{ℕ, zero, suc, _+_, _-_, _*_, _%_, _^_, _<_, _≤_}
 use native.Mathlib.Omega.{arith}
 use mathlib.Core.Path.{_≡_, refl, sym, ap, ap₂, subst, _∙_}
-use mathlib.Core.Bool.{Bool, true, not}
+use mathlib.Core.Bool.{Bool, true, false, not}
 use lib.Dec.{eqb}
 use borrow.Author.Tests.{ltb-false}
 use mathlib.Core.List.{List, [], _∷_, _++_}
 use mathlib.Core.Option.{Option, some, none}
 use lib.ListN.{length}
+use Rattle.text.specs.Pick.{cut}
 use Rattle.tape.specs.Nodes.{Node, count, nodeAt, kindAt, linkAt, isOpen}
 use Rattle.tape.specs.Forest.{Forest, end, forest, Nested, Accepted}
 use Rattle.tape.proofs.Nest.{nested-le, nested-open}
@@ -35,7 +36,10 @@ use Rattle.running.specs.declared.Record.{Record}
 use Rattle.opens.specs.Own.{isId, childrenAt, ownAt, Marked}
 use Rattle.milestones.specs.Steps.{Stepped, Milestoned, Steppable}
 use Rattle.checker.specs.Walking.{Anchored, nowhere, walkAt, Ready, Went, Walked, toldAt, below, visitFindings, visitState, Visited, Visitable, quiet}
-use Rattle.checker.proofs.Quiet.{quiet-walked}
+use Rattle.opens.specs.Calm.{calmAt}
+use Rattle.opens.proofs.Calm.{calm-texts, calm-category, calm-marked}
+use Rattle.milestones.proofs.Whole.{other as no-milestone}
+use Rattle.checker.proofs.Quiet.{texts-quiet, quiet-walked}
 
 -- an accepted tape has at most 65,535 nodes
 pub count-low : (s t : List ℕ) → Accepted s t → count t ≤ 65535
@@ -249,6 +253,14 @@ module _ {table words : List ℕ} {entries : ℕ} {s t : List ℕ} {depth : ℕ}
         more = milestone-more v l₁ r₁ marked;
         room = milestone-room v l₁ r₁ marked;
       }
+
+  -- of a calm marker nothing is said, and nothing changes
+  pub visited-calm : (v : Visit table words entries s t depth o i to e numbers seen opens l r) (b : Bool) → b ≡ calmAt table s t o e i (r .«has_chapter») → b ≡ true → Visited table s t o e i to seen opens l r seen opens l r
+  visited-calm v b b-is h =
+      let k : calmAt table s t o e i (r .«has_chapter») ≡ true = sym b-is ∙ h in
+      let q : eqb (e .category) 6 ≡ false = calm-category (cut (e .name) table) e o (r .«has_chapter») (childrenAt s t i) k in
+      let m = calm-marked table s t o (anchorOf s t (r .anchor) i) e i to r k l in
+      visited-quiet v l r m l opens r refl (no-milestone e s t i opens l r (v .ready .starts) (rw q)) (texts-quiet (childrenAt s t i) (calm-texts (cut (e .name) table) e o (r .«has_chapter») (childrenAt s t i) k))
 
   pub enters : (v : Visit table words entries s t depth o i to e numbers seen opens l r) (l₁ : List ℕ) (r₁ : Record) → Marked table s t o (anchorOf s t (r .anchor) i) e i to l r l₁ r₁ → (l₂ : List ℕ) (opens₂ : List OpenStart) (r₂ : Record) → length opens₂ ≡ length opens → Milestoned e s t i opens l₁ r₁ opens₂ l₂ r₂ → Entered table words entries s t depth o i to e numbers seen opens l r l₂ opens₂ r₂
   enters v l₁ r₁ marked l₂ opens₂ r₂ long done = record { visit = v; l₁ = l₁; r₁ = r₁; marked = marked; long = long; done = done }

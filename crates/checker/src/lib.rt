@@ -208,6 +208,9 @@ fn visit(
     ensures { λ _. ⌜ Visited (now (table .entry)) (now (source .entry)) (now (tape .entry)) (aroundOf around) (entryOfInfo m) i to (now (seen .entry)) (now (opens .entry)) (now (list .entry)) (now (rec .entry)) (now (seen .exit)) (now (opens .exit)) (now (list .exit)) (now (rec .exit)) ⌝ }
 {
     let before = *rec;
+    if opens::is_calm(table, m, source, tape, i, around, before) {
+        return;
+    }
     let marked = opens::visit_marker(table, m, source, tape, i, to, around, numbers, before, list);
     let paired = milestones::milestone(m, source, tape, i, opens, marked, list);
     let from = i + 1;

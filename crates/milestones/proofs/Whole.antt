@@ -94,7 +94,7 @@ module _ (e : Entry) (s t : List ℕ) (i : ℕ) (opens : List OpenStart) (l : Li
       }
 
   -- no milestone
-  other : isMilestone e x ≡ false → Milestoned e s t i opens l r opens l r
+  pub other : isMilestone e x ≡ false → Milestoned e s t i opens l r opens l r
   other h = let z : false ≡ alone = rw h in quiet z (stepped opens (r .«open») (rw h) o (omega arith))
 
   -- a start

@@ -2,3 +2,4 @@ pub mod Flags
 pub mod Children
 pub mod Codes
 pub mod Whole
+pub mod Calm

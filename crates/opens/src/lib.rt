@@ -22,8 +22,8 @@ ghost use mathlib.Core.List.{[]};
 ghost use Prim.Native.Nat.{_+_, _-_, _<_, _≤_};
 ghost use lib.Dec.{eqb};
 ghost use lib.ListN.{length};
-ghost use Rattle.text.specs.Pick.{both, pickNat, within};
-ghost use Rattle.tape.specs.Nodes.{count, nodeAt, kindAt, startAt, isOpen};
+ghost use Rattle.text.specs.Pick.{both, either, pickNat, within};
+ghost use Rattle.tape.specs.Nodes.{count, nodeAt, kindAt, startAt, linkAt, isOpen};
 ghost use Rattle.tape.specs.Forest.{forest};
 ghost use Rattle.table.specs.Bytes.{equal, oneOf};
 ghost use Rattle.table.specs.Names.{noteOnly};
@@ -38,6 +38,7 @@ ghost use Rattle.rows.specs.Row.{rowFindings};
 ghost use Rattle.validate.specs.Checks;
 ghost use Rattle.validate.specs.Checks.{given, idChecks, placeChecks, contentChecks, bookCode, isBook, upper, frontBy, lineContent, hasText, hasAttribute, hasMarkers, fourNames, bName, figName, wName, rbName, trName, isBody};
 ghost use Rattle.running.specs.Running.{aroundOf, anchorOf, startsFor, stateOf, countsOf};
+ghost use Rattle.opens.specs.Calm.{onlyTexts, askedFor, placed, calmAt};
 ghost use Rattle.opens.specs.Own.{ownAt, Marked, childrenAt};
 ghost use Rattle.opens.specs.Inner.{isText, hasContent, withId};
 
@@ -484,4 +485,79 @@ pub fn visit_marker(
     c = row_findings(name, source, tape, from, link, list, c);
     c = attributes::validate_attributes(source, tape, from, link, i, list, c);
     running::with_counts(next, c)
+}
+
+// Whether a run has Texts alone.
+fn has_only_texts(source: &[u8], tape: &[u8], from: usize, to: usize) -> bool
+    requires { ⌜ Run (now source) (now tape) from to ⌝ }
+    ensures { λ r. ⌜ r ≡ onlyTexts (forest (now (source .entry)) (now (tape .entry)) from to) ⌝ }
+{
+    let mut i = from;
+    while i < to {
+        if tape::kind_at(tape, i) != 5 {
+            return false;
+        }
+        i = cursor::past_node(tape, i);
+    }
+    true
+}
+
+fn is_either(name: &[u8], a: &[u8], b: &[u8]) -> bool
+    ensures { λ r. ⌜ r ≡ either (equal (now (name .entry)) (now (a .entry))) (equal (now (name .entry)) (now (b .entry))) ⌝ }
+{
+    if table::same(name, a) {
+        return true;
+    }
+    table::same(name, b)
+}
+
+// Whether a check asks for markers of this name.
+fn is_asked_for(name: &[u8]) -> bool
+    ensures { λ r. ⌜ r ≡ askedFor (now (name .entry)) ⌝ }
+{
+    if is_either(name, b"b", b"w") {
+        return true;
+    }
+    if is_either(name, b"id", b"rb") {
+        return true;
+    }
+    if is_either(name, b"tr", b"fig") {
+        return true;
+    }
+    is_one_of_four(name)
+}
+
+fn is_placed(m: MarkerInfo, around: Around, rec: Record) -> bool
+    ensures { λ r. ⌜ r ≡ placed (entryOfInfo m) (aroundOf around) (rec .«has_chapter») ⌝ }
+{
+    if running::is_of(m, 3) {
+        return rec.has_chapter;
+    }
+    if running::is_of(m, 4) {
+        return around.note;
+    }
+    false
+}
+
+// Whether a marker is one of which nothing is said and whose children change nothing, so that its visit is spared.
+pub fn is_calm(
+    table: &[u8],
+    m: MarkerInfo,
+    source: &[u8],
+    tape: &[u8],
+    i: usize,
+    around: Around,
+    rec: Record,
+) -> bool
+    requires { ⌜ (m .«name_start» + m .«name_len» ≤ length (now table)) × (i < count (now tape)) × (Run (now source) (now tape) (i + 1) (linkAt (now tape) i)) ⌝ }
+    ensures { λ r. ⌜ r ≡ calmAt (now (table .entry)) (now (source .entry)) (now (tape .entry)) (aroundOf around) (entryOfInfo m) i (rec .«has_chapter») ⌝ }
+{
+    if !is_placed(m, around, rec) {
+        return false;
+    }
+    let link = tape::link_at(tape, i) as usize;
+    if !has_only_texts(source, tape, i + 1, link) {
+        return false;
+    }
+    !is_asked_for(table::name(table, m))
 }

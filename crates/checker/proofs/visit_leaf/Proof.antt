@@ -45,10 +45,10 @@ use denote.Triple.Entry.{onEntry}
 use denote.Triple.Spec.{Meets, tripleOf}
 use denote.Triple.Table.{entered, cited}
 use denote.Triple.Cycle.{measured, at-on, mutual-elim, AllBelow}
-use denote.Triple.Walked.{says, needs, Stays, stay-none, stay-none-slice, stay-ref, stay-slice, walkOf, goes-none, goes-none-slice, goes-ref, goes-slice, Walks, ends-at, walked, walk-meets, walked-at, walk-meets-at}
+use denote.Triple.Walked.{says, needs, Stays, stay-none, stay-none-slice, stay-ref, stay-slice, walkOf, goes-none, goes-none-slice, goes-ref, goes-slice, Walks, ends-at as exit-at, walked, walk-meets, walked-at, walk-meets-at}
 use denote.Exit.{yes}
 use Rattle.references.proofs.Flow.{if-then, skip-then, exit-then, switch-then, assoc-then, loop-then, meets-at, frees-any}
-use Rattle.references.proofs.Hand.{At, lent, ptrVal, fatVal, ref, HasRef, HasMut, HasShr, KeptRef, KeptMut, KeptShr, OpenRef, OpenAt, lend-ref, back-ref, lend-mut, back-mut, lend-shr, back-shr, open-ref, shut-ref, open-at, shut-at, back-at}
+use Rattle.references.proofs.Hand.{At, lent as relent, ptrVal, fatVal, ref, HasRef, HasMut, HasShr, KeptRef, KeptMut, KeptShr, OpenRef, OpenAt, lend-ref, back-ref, lend-mut, back-mut, lend-shr, back-shr, open-ref, shut-ref, open-at, shut-at, back-at}
 use Rattle.attachment.specs.declared.Attached.{Attached}
 use Rattle.attachment.proofs.Attached as Attached-T
 use Rattle.attachment.proofs.Attached.Laws as Attached-L
@@ -100,11 +100,12 @@ use Rattle.validate.specs.Checks.{leafTold}
 use Rattle.validate.specs.Walk as Walk
 use Rattle.running.specs.Running.{stateOf, aroundOf, anchorOf, startsFor, countsOf, withAnchor, Sane}
 use Rattle.opens.specs.Own.{ownAt, Marked}
+use Rattle.opens.specs.Calm.{calmAt}
 use Rattle.milestones.specs.Steps.{Milestoned, Steppable}
 use Rattle.checker.specs.Walking.{Ready, Walked, Visited, Visitable, Anchored, walkAt, visitFindings, Passable, PassedBy, LeafPassed, Leaved, Unchanged, numbersAfter, onlyOpen, quiet}
 use Rattle.references.proofs.Sizes.{scaled, less-fits, more-fits, nearer, wide}
 use Rattle.checker.proofs.Going.{Going, going-start, going-end, going-below, passable, going-past, visit-asks, going-visited, going-nearer}
-use Rattle.checker.proofs.Visiting.{visit-with, visit-run, visit-below, own-room, visit-deep, steppable, enters, Entered, inner-run, visited-still, Inner, inner-asks, inner-less, visited-whole, next-fits, same-depth}
+use Rattle.checker.proofs.Visiting.{visit-with, visit-run, visit-below, visit-children, visited-calm, own-room, visit-deep, steppable, enters, Entered, inner-run, visited-still, Inner, inner-asks, inner-less, visited-whole, next-fits, same-depth}
 use Rattle.checker.proofs.Steps.{leafy-asks, was-number, was-other}
 use Rattle.checker.proofs.visit_leaf.Statement as stated
 use Rattle.checker.proofs.visit_leaf.Key.{name as #checker·visit-leaf}
@@ -192,7 +193,7 @@ module _ {M : Type 1} (𝓤 : URA M) (H : Heap 𝓤) (A : Atoms 𝓤) (W : Given
 
   exits : (r : Attached) (rec₁ : Record) (seen₁ : List ℕ) (list₁ : List ℕ) (r-is : Is Attached-T.the-row r (EL.val Attached-T.the-type Attached-L.the-laws r ∷ [])) (len-seen : length seen₁ ≡ length seen₀) (len-list : length list₁ ≡ length list₀) (e : PassedBy table₀ source₀ tape₀ (aroundOf around₀) i₀ next₀ to₀ numbers₀ seen₀ list₀ rec₀ seen₁ list₁ rec₁ r) → ent 𝓤 (⋆ 𝓤 H A (‵ (HasShr u8 table-at table₀) ∷ ‵ (HasShr u64 words-at words₀) ∷ ‵ (HasShr u8 source-at source₀) ∷ ‵ (HasShr u8 tape-at tape₀) ∷ ‵ (HasRef Record-T.the-row rec-at rec₁) ∷ ‵ (HasMut u32 seen-at seen₁) ∷ ‵ (HasMut u64 list-at list₁) ∷ [])) (Post (EL.val Attached-T.the-type Attached-L.the-laws r))
   exits r rec₁ seen₁ list₁ r-is len-seen len-list e =
-      qed W (‵ (HasShr u8 table-at table₀) ∷ ‵ (HasShr u64 words-at words₀) ∷ ‵ (HasShr u8 source-at source₀) ∷ ‵ (HasShr u8 tape-at tape₀) ∷ ‵ (HasRef Record-T.the-row rec-at rec₁) ∷ ‵ (HasMut u32 seen-at seen₁) ∷ ‵ (HasMut u64 list-at list₁) ∷ []) ∵ suffices ! _ (ends-at 𝓤 H A visit-leaf-F.ended stayed (visit-leaf-F.clauses 𝓤 H A at-mem run) W Y (EL.val Attached-T.the-type Attached-L.the-laws r) r (tt, (tt, (tt, (tt, (tt, (tt, (tt, (tt, (tt, (tt, (rec₁, (seen₁, (list₁, tt))))))))))))) (tt, (tt, (tt, (tt, (tt, (tt, (tt, (tt, (tt, (tt, (tt, (len-seen, (len-list, tt)))))))))))))) $ says ! e $ fsplit ! $ move ! (2 ∷ []) $ fsplit ! $ move ! (4 ∷ []) $ fsplit ! $ move ! (6 ∷ []) $ fsplit ! $ move ! (8 ∷ []) $ fsplit ! $ move ! (10 ∷ []) $ fsplit ! $ move ! (12 ∷ []) $ fsplit ! $ nothing ! $ move ! (2 ∷ 0 ∷ []) $ join ! $ move ! (3 ∷ 0 ∷ []) $ join ! $ move ! (4 ∷ 0 ∷ []) $ join ! $ move ! (5 ∷ 0 ∷ []) $ join ! $ move ! (6 ∷ 0 ∷ []) $ join ! $ move ! (7 ∷ 0 ∷ []) $ join ! $ move ! (8 ∷ 0 ∷ []) $ join ! $ frame ! $ nothing ! $ move ! (1 ∷ 0 ∷ []) $ fjoin ! $ move ! (1 ∷ 0 ∷ []) $ fjoin ! $ move ! (1 ∷ 0 ∷ []) $ fjoin ! $ owned ! Attached-T.the-row (Is Attached-T.the-row) (EL.makes Attached-T.the-type Attached-L.the-plain 𝓤 H A) numbers₀ _ numbers₀-is $ fjoin ! $ owned ! Around-T.the-row (Is Around-T.the-row) (LL.makes Around-T.the-type Around-L.the-plain 𝓤 H A) around₀ _ around₀-is $ fjoin ! $ owned ! usize (Is usize) (uint-makes 𝓤 H A W w64) to₀ _ (refl, to₀-is) $ fjoin ! $ owned ! usize (Is usize) (uint-makes 𝓤 H A W w64) next₀ _ (refl, next₀-is) $ fjoin ! $ owned ! usize (Is usize) (uint-makes 𝓤 H A W w64) i₀ _ (refl, i₀-is) $ fjoin ! $ move ! (1 ∷ 0 ∷ []) $ fjoin ! $ move ! (1 ∷ 0 ∷ []) $ fjoin ! $ owned ! usize (Is usize) (uint-makes 𝓤 H A W w64) count₀ _ (refl, count₀-is) $ fjoin ! $ move ! (1 ∷ 0 ∷ []) $ fjoin ! $ move ! (1 ∷ 0 ∷ []) $ fjoin ! $ owned ! Attached-T.the-row (Is Attached-T.the-row) (EL.makes Attached-T.the-type Attached-L.the-plain 𝓤 H A) r _ r-is $ move ! (1 ∷ 0 ∷ []) $ done !
+      qed W (‵ (HasShr u8 table-at table₀) ∷ ‵ (HasShr u64 words-at words₀) ∷ ‵ (HasShr u8 source-at source₀) ∷ ‵ (HasShr u8 tape-at tape₀) ∷ ‵ (HasRef Record-T.the-row rec-at rec₁) ∷ ‵ (HasMut u32 seen-at seen₁) ∷ ‵ (HasMut u64 list-at list₁) ∷ []) ∵ suffices ! _ (exit-at 𝓤 H A visit-leaf-F.ended stayed (visit-leaf-F.clauses 𝓤 H A at-mem run) W Y (EL.val Attached-T.the-type Attached-L.the-laws r) r (tt, (tt, (tt, (tt, (tt, (tt, (tt, (tt, (tt, (tt, (rec₁, (seen₁, (list₁, tt))))))))))))) (tt, (tt, (tt, (tt, (tt, (tt, (tt, (tt, (tt, (tt, (tt, (len-seen, (len-list, tt)))))))))))))) $ says ! e $ fsplit ! $ move ! (2 ∷ []) $ fsplit ! $ move ! (4 ∷ []) $ fsplit ! $ move ! (6 ∷ []) $ fsplit ! $ move ! (8 ∷ []) $ fsplit ! $ move ! (10 ∷ []) $ fsplit ! $ move ! (12 ∷ []) $ fsplit ! $ nothing ! $ move ! (2 ∷ 0 ∷ []) $ join ! $ move ! (3 ∷ 0 ∷ []) $ join ! $ move ! (4 ∷ 0 ∷ []) $ join ! $ move ! (5 ∷ 0 ∷ []) $ join ! $ move ! (6 ∷ 0 ∷ []) $ join ! $ move ! (7 ∷ 0 ∷ []) $ join ! $ move ! (8 ∷ 0 ∷ []) $ join ! $ frame ! $ nothing ! $ move ! (1 ∷ 0 ∷ []) $ fjoin ! $ move ! (1 ∷ 0 ∷ []) $ fjoin ! $ move ! (1 ∷ 0 ∷ []) $ fjoin ! $ owned ! Attached-T.the-row (Is Attached-T.the-row) (EL.makes Attached-T.the-type Attached-L.the-plain 𝓤 H A) numbers₀ _ numbers₀-is $ fjoin ! $ owned ! Around-T.the-row (Is Around-T.the-row) (LL.makes Around-T.the-type Around-L.the-plain 𝓤 H A) around₀ _ around₀-is $ fjoin ! $ owned ! usize (Is usize) (uint-makes 𝓤 H A W w64) to₀ _ (refl, to₀-is) $ fjoin ! $ owned ! usize (Is usize) (uint-makes 𝓤 H A W w64) next₀ _ (refl, next₀-is) $ fjoin ! $ owned ! usize (Is usize) (uint-makes 𝓤 H A W w64) i₀ _ (refl, i₀-is) $ fjoin ! $ move ! (1 ∷ 0 ∷ []) $ fjoin ! $ move ! (1 ∷ 0 ∷ []) $ fjoin ! $ owned ! usize (Is usize) (uint-makes 𝓤 H A W w64) count₀ _ (refl, count₀-is) $ fjoin ! $ move ! (1 ∷ 0 ∷ []) $ fjoin ! $ move ! (1 ∷ 0 ∷ []) $ fjoin ! $ owned ! Attached-T.the-row (Is Attached-T.the-row) (EL.makes Attached-T.the-type Attached-L.the-plain 𝓤 H A) r _ r-is $ move ! (1 ∷ 0 ∷ []) $ done !
 
   entry : ent 𝓤 (onEntry 𝓤 H A visit-leaf-F.signature (table-at .κ, (words-at .κ, (source-at .κ, (tape-at .κ, (rec-at .κ, (seen-at .κ, (list-at .κ, tt))))))) (table-at .q, (words-at .q, (source-at .q, (tape-at .q, (rec-at .q, (seen-at .q, (list-at .q, tt))))))) (ref table-at table₀, (ref words-at words₀, (count₀, (ref source-at source₀, (ref tape-at tape₀, (i₀, (next₀, (to₀, (around₀, (numbers₀, (ref rec-at rec₀, (ref seen-at seen₀, (ref list-at list₀, tt))))))))))))) (fatVal table-at ∷ [], (fatVal words-at ∷ [], (vint w64 count₀ ∷ [], (fatVal source-at ∷ [], (fatVal tape-at ∷ [], (vint w64 i₀ ∷ [], (vint w64 next₀ ∷ [], (vint w64 to₀ ∷ [], (LL.val Around-T.the-type Around-L.the-laws around₀ ∷ [], (EL.val Attached-T.the-type Attached-L.the-laws numbers₀ ∷ [], (ptrVal rec-at ∷ [], (fatVal seen-at ∷ [], (fatVal list-at ∷ [], tt)))))))))))))) (⋆ 𝓤 H A (‵ (HasShr u8 table-at table₀) ∷ ‵ (HasShr u64 words-at words₀) ∷ ‵ (HasShr u8 source-at source₀) ∷ ‵ (HasShr u8 tape-at tape₀) ∷ ‵ (HasRef Record-T.the-row rec-at rec₀) ∷ ‵ (HasMut u32 seen-at seen₀) ∷ ‵ (HasMut u64 list-at list₀) ∷ []))
   entry =
@@ -229,7 +230,7 @@ module _ {M : Type 1} (𝓤 : URA M) (H : Heap 𝓤) (A : Atoms 𝓤) (W : Given
         assoc-then 𝓣 ! $ assigns ! (addr ! (from ! (fld ! refl (hop ! (look-in ! 16 (sub ! 0 refl (whole !))) (stop !))))) (from ! (stop !)) (init ! 22 refl (tt, tt)) $
         assoc-then 𝓣 ! $ assigns ! (agg ! (and-then ! (load ! (from ! (stop !)) (look ! 22 refl)) (and-then ! (load ! (from ! (fld ! refl (stop !))) (look-in ! 16 (sub ! 1 refl (whole !)))) (no-more !)))) (from ! (stop !)) (init ! 23 refl (tt, (tt, (record { fits = (list-room .0) }, tt)))) $
         assoc-then 𝓣 ! $ move ! (24 ∷ 25 ∷ 26 ∷ 1 ∷ 27 ∷ 28 ∷ []) $ let req-leaf : (Indexed table₀ words₀ count₀) × (Spanned source₀ tape₀ i₀) × Sane rec₀ × (rec₀ .seen < length seen₀) × (rec₀ .verses < 4611686018427387904) × Room (countsOf rec₀) (leafTold table₀ (aroundOf around₀) (stateOf source₀ tape₀ seen₀ [] rec₀) (nodeAt source₀ tape₀ i₀) .findings) = leafy-asks (req .leafy (sym says-is-number ∙ test-0)) in
-        leaf-C.calls-leaf ! at-mem run fm table-at table₀ words-at words₀ count₀ source-at source₀ tape-at tape₀ i₀ around₀ rec₀ seen-at seen₀ list-at list₀ count₀-is i₀-is around₀-is open-1 req-leaf (λ ν-seen δ-seen ν-list δ-list. known-leaf (leaf-C.to 𝓤 H A at-mem run table-at table₀ words-at words₀ count₀ source-at source₀ tape-at tape₀ i₀ around₀ rec₀ seen-at seen₀ list-at list₀ table-at words-at source-at tape-at (lent seen-at ν-seen δ-seen) (lent list-at ν-list δ-list)))
+        leaf-C.calls-leaf ! at-mem run fm table-at table₀ words-at words₀ count₀ source-at source₀ tape-at tape₀ i₀ around₀ rec₀ seen-at seen₀ list-at list₀ count₀-is i₀-is around₀-is open-1 req-leaf (λ ν-seen δ-seen ν-list δ-list. known-leaf (leaf-C.to 𝓤 H A at-mem run table-at table₀ words-at words₀ count₀ source-at source₀ tape-at tape₀ i₀ around₀ rec₀ seen-at seen₀ list-at list₀ table-at words-at source-at tape-at (relent seen-at ν-seen δ-seen) (relent list-at ν-list δ-list)))
         (and-then ! (load ! (from ! (stop !)) (look ! 4 refl)) (and-then ! (load ! (from ! (stop !)) (look ! 5 refl)) (and-then ! (load ! (from ! (stop !)) (look ! 6 refl)) (and-then ! (load ! (from ! (stop !)) (look ! 7 refl)) (and-then ! (load ! (from ! (stop !)) (look ! 8 refl)) (and-then ! (load ! (from ! (stop !)) (look ! 9 refl)) (and-then ! (load ! (from ! (stop !)) (look ! 12 refl)) (and-then ! (load ! (from ! (stop !)) (look ! 17 refl)) (and-then ! (load ! (from ! (stop !)) (look ! 21 refl)) (and-then ! (load ! (from ! (stop !)) (look ! 23 refl)) (no-more !))))))))))) (λ z-leaf s-leaf.
         let len-leaf-seen : length (z-leaf .1 .0) ≡ length seen₀ = s-leaf .1 .0 in
         let len-leaf-list : length (z-leaf .1 .1 .0) ≡ length list₀ = s-leaf .1 .1 .0 in

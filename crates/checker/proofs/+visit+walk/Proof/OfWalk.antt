@@ -45,10 +45,10 @@ use denote.Triple.Entry.{onEntry}
 use denote.Triple.Spec.{Meets, tripleOf}
 use denote.Triple.Table.{entered, cited}
 use denote.Triple.Cycle.{measured, at-on, mutual-elim, AllBelow}
-use denote.Triple.Walked.{says, needs, Stays, stay-none, stay-none-slice, stay-ref, stay-slice, walkOf, goes-none, goes-none-slice, goes-ref, goes-slice, Walks, ends-at, walked, walk-meets, walked-at, walk-meets-at}
+use denote.Triple.Walked.{says, needs, Stays, stay-none, stay-none-slice, stay-ref, stay-slice, walkOf, goes-none, goes-none-slice, goes-ref, goes-slice, Walks, ends-at as exit-at, walked, walk-meets, walked-at, walk-meets-at}
 use denote.Exit.{yes}
 use Rattle.references.proofs.Flow.{if-then, skip-then, exit-then, switch-then, assoc-then, loop-then, meets-at, frees-any}
-use Rattle.references.proofs.Hand.{At, lent, ptrVal, fatVal, ref, HasRef, HasMut, HasShr, KeptRef, KeptMut, KeptShr, OpenRef, OpenAt, lend-ref, back-ref, lend-mut, back-mut, lend-shr, back-shr, open-ref, shut-ref, open-at, shut-at, back-at}
+use Rattle.references.proofs.Hand.{At, lent as relent, ptrVal, fatVal, ref, HasRef, HasMut, HasShr, KeptRef, KeptMut, KeptShr, OpenRef, OpenAt, lend-ref, back-ref, lend-mut, back-mut, lend-shr, back-shr, open-ref, shut-ref, open-at, shut-at, back-at}
 use Rattle.attachment.specs.declared.Attached.{Attached}
 use Rattle.attachment.proofs.Attached as Attached-T
 use Rattle.attachment.proofs.Attached.Laws as Attached-L
@@ -104,11 +104,12 @@ use Rattle.validate.specs.Checks.{leafTold}
 use Rattle.validate.specs.Walk as Walk
 use Rattle.running.specs.Running.{stateOf, aroundOf, anchorOf, startsFor, countsOf, withAnchor, Sane}
 use Rattle.opens.specs.Own.{ownAt, Marked}
+use Rattle.opens.specs.Calm.{calmAt}
 use Rattle.milestones.specs.Steps.{Milestoned, Steppable}
 use Rattle.checker.specs.Walking.{Ready, Walked, Visited, Visitable, Anchored, walkAt, visitFindings, Passable, PassedBy, LeafPassed, Leaved, Unchanged, numbersAfter, onlyOpen, quiet}
 use Rattle.references.proofs.Sizes.{scaled, less-fits, more-fits, nearer, wide}
 use Rattle.checker.proofs.Going.{Going, going-start, going-end, going-below, passable, going-past, visit-asks, going-visited, going-nearer}
-use Rattle.checker.proofs.Visiting.{visit-with, visit-run, visit-below, own-room, visit-deep, steppable, enters, Entered, inner-run, visited-still, Inner, inner-asks, inner-less, visited-whole, next-fits, same-depth}
+use Rattle.checker.proofs.Visiting.{visit-with, visit-run, visit-below, visit-children, visited-calm, own-room, visit-deep, steppable, enters, Entered, inner-run, visited-still, Inner, inner-asks, inner-less, visited-whole, next-fits, same-depth}
 
 abbrev pub stayed : Stays (walk-F.ended .signature .params) (walk-F.ended .kept)
 stayed = (stay-none-slice (0 ∷ []) tt (plain (λ _. u8)) yes, (stay-none-slice (1 ∷ []) tt (plain (λ _. u64)) yes, (stay-none (λ _. usize) yes, (stay-none-slice (2 ∷ []) tt (plain (λ _. u8)) yes, (stay-none-slice (3 ∷ []) tt (plain (λ _. u8)) yes, (stay-none (λ _. usize) yes, (stay-none (λ _. usize) yes, (stay-none (λ _. usize) yes, (stay-none (λ _. Around-T.the-row) yes, (stay-ref (4 ∷ []) tt (plain (λ _. Record-T.the-row)), (stay-slice (5 ∷ []) tt (plain (λ _. u32)), (stay-slice (6 ∷ []) tt (plain (λ _. OpenStart-T.the-row)), (stay-slice (7 ∷ []) tt (plain (λ _. u64)), tt)))))))))))))
@@ -229,7 +230,7 @@ module _ {M : Type 1} (𝓤 : URA M) (H : Heap 𝓤) (A : Atoms 𝓤) (W : Given
 
   exits : (r : Unit {0}) (rec₁ : Record) (seen₁ : List ℕ) (opens₁ : List OpenStart) (list₁ : List ℕ) (len-seen : length seen₁ ≡ length seen₀) (len-opens : length opens₁ ≡ length opens₀) (len-list : length list₁ ≡ length list₀) (e : Walked source₀ tape₀ (walkAt table₀ source₀ tape₀ (aroundOf around₀) from₀ to₀ seen₀ opens₀ rec₀) depth₀ from₀ to₀ list₀ rec₀ seen₁ opens₁ list₁ rec₁) → ent 𝓤 (⋆ 𝓤 H A (‵ (HasShr u8 table-at table₀) ∷ ‵ (HasShr u64 words-at words₀) ∷ ‵ (HasShr u8 source-at source₀) ∷ ‵ (HasShr u8 tape-at tape₀) ∷ ‵ (HasRef Record-T.the-row rec-at rec₁) ∷ ‵ (HasMut u32 seen-at seen₁) ∷ ‵ (HasMut OpenStart-T.the-row opens-at opens₁) ∷ ‵ (HasMut u64 list-at list₁) ∷ [])) (Post (vunit))
   exits r rec₁ seen₁ opens₁ list₁ len-seen len-opens len-list e =
-      qed W (‵ (HasShr u8 table-at table₀) ∷ ‵ (HasShr u64 words-at words₀) ∷ ‵ (HasShr u8 source-at source₀) ∷ ‵ (HasShr u8 tape-at tape₀) ∷ ‵ (HasRef Record-T.the-row rec-at rec₁) ∷ ‵ (HasMut u32 seen-at seen₁) ∷ ‵ (HasMut OpenStart-T.the-row opens-at opens₁) ∷ ‵ (HasMut u64 list-at list₁) ∷ []) ∵ suffices ! _ (ends-at 𝓤 H A walk-F.ended stayed (walk-F.clauses 𝓤 H A at-mem run) W Y (vunit) r (tt, (tt, (tt, (tt, (tt, (tt, (tt, (tt, (tt, (rec₁, (seen₁, (opens₁, (list₁, tt))))))))))))) (tt, (tt, (tt, (tt, (tt, (tt, (tt, (tt, (tt, (tt, (len-seen, (len-opens, (len-list, tt)))))))))))))) $ says ! e $ fsplit ! $ move ! (2 ∷ []) $ fsplit ! $ move ! (4 ∷ []) $ fsplit ! $ move ! (6 ∷ []) $ fsplit ! $ move ! (8 ∷ []) $ fsplit ! $ move ! (10 ∷ []) $ fsplit ! $ move ! (12 ∷ []) $ fsplit ! $ move ! (14 ∷ []) $ fsplit ! $ nothing ! $ move ! (2 ∷ 0 ∷ []) $ join ! $ move ! (3 ∷ 0 ∷ []) $ join ! $ move ! (4 ∷ 0 ∷ []) $ join ! $ move ! (5 ∷ 0 ∷ []) $ join ! $ move ! (6 ∷ 0 ∷ []) $ join ! $ move ! (7 ∷ 0 ∷ []) $ join ! $ move ! (8 ∷ 0 ∷ []) $ join ! $ move ! (9 ∷ 0 ∷ []) $ join ! $ frame ! $ nothing ! $ move ! (1 ∷ 0 ∷ []) $ fjoin ! $ move ! (1 ∷ 0 ∷ []) $ fjoin ! $ move ! (1 ∷ 0 ∷ []) $ fjoin ! $ move ! (1 ∷ 0 ∷ []) $ fjoin ! $ owned ! Around-T.the-row (Is Around-T.the-row) (LL.makes Around-T.the-type Around-L.the-plain 𝓤 H A) around₀ _ around₀-is $ fjoin ! $ owned ! usize (Is usize) (uint-makes 𝓤 H A W w64) depth₀ _ (refl, depth₀-is) $ fjoin ! $ owned ! usize (Is usize) (uint-makes 𝓤 H A W w64) to₀ _ (refl, to₀-is) $ fjoin ! $ owned ! usize (Is usize) (uint-makes 𝓤 H A W w64) from₀ _ (refl, from₀-is) $ fjoin ! $ move ! (1 ∷ 0 ∷ []) $ fjoin ! $ move ! (1 ∷ 0 ∷ []) $ fjoin ! $ owned ! usize (Is usize) (uint-makes 𝓤 H A W w64) count₀ _ (refl, count₀-is) $ fjoin ! $ move ! (1 ∷ 0 ∷ []) $ fjoin ! $ move ! (1 ∷ 0 ∷ []) $ fjoin ! $ owned ! unit (Is unit) (nothing-makes 𝓤 H A W) r _ refl $ move ! (1 ∷ 0 ∷ []) $ done !
+      qed W (‵ (HasShr u8 table-at table₀) ∷ ‵ (HasShr u64 words-at words₀) ∷ ‵ (HasShr u8 source-at source₀) ∷ ‵ (HasShr u8 tape-at tape₀) ∷ ‵ (HasRef Record-T.the-row rec-at rec₁) ∷ ‵ (HasMut u32 seen-at seen₁) ∷ ‵ (HasMut OpenStart-T.the-row opens-at opens₁) ∷ ‵ (HasMut u64 list-at list₁) ∷ []) ∵ suffices ! _ (exit-at 𝓤 H A walk-F.ended stayed (walk-F.clauses 𝓤 H A at-mem run) W Y (vunit) r (tt, (tt, (tt, (tt, (tt, (tt, (tt, (tt, (tt, (rec₁, (seen₁, (opens₁, (list₁, tt))))))))))))) (tt, (tt, (tt, (tt, (tt, (tt, (tt, (tt, (tt, (tt, (len-seen, (len-opens, (len-list, tt)))))))))))))) $ says ! e $ fsplit ! $ move ! (2 ∷ []) $ fsplit ! $ move ! (4 ∷ []) $ fsplit ! $ move ! (6 ∷ []) $ fsplit ! $ move ! (8 ∷ []) $ fsplit ! $ move ! (10 ∷ []) $ fsplit ! $ move ! (12 ∷ []) $ fsplit ! $ move ! (14 ∷ []) $ fsplit ! $ nothing ! $ move ! (2 ∷ 0 ∷ []) $ join ! $ move ! (3 ∷ 0 ∷ []) $ join ! $ move ! (4 ∷ 0 ∷ []) $ join ! $ move ! (5 ∷ 0 ∷ []) $ join ! $ move ! (6 ∷ 0 ∷ []) $ join ! $ move ! (7 ∷ 0 ∷ []) $ join ! $ move ! (8 ∷ 0 ∷ []) $ join ! $ move ! (9 ∷ 0 ∷ []) $ join ! $ frame ! $ nothing ! $ move ! (1 ∷ 0 ∷ []) $ fjoin ! $ move ! (1 ∷ 0 ∷ []) $ fjoin ! $ move ! (1 ∷ 0 ∷ []) $ fjoin ! $ move ! (1 ∷ 0 ∷ []) $ fjoin ! $ owned ! Around-T.the-row (Is Around-T.the-row) (LL.makes Around-T.the-type Around-L.the-plain 𝓤 H A) around₀ _ around₀-is $ fjoin ! $ owned ! usize (Is usize) (uint-makes 𝓤 H A W w64) depth₀ _ (refl, depth₀-is) $ fjoin ! $ owned ! usize (Is usize) (uint-makes 𝓤 H A W w64) to₀ _ (refl, to₀-is) $ fjoin ! $ owned ! usize (Is usize) (uint-makes 𝓤 H A W w64) from₀ _ (refl, from₀-is) $ fjoin ! $ move ! (1 ∷ 0 ∷ []) $ fjoin ! $ move ! (1 ∷ 0 ∷ []) $ fjoin ! $ owned ! usize (Is usize) (uint-makes 𝓤 H A W w64) count₀ _ (refl, count₀-is) $ fjoin ! $ move ! (1 ∷ 0 ∷ []) $ fjoin ! $ move ! (1 ∷ 0 ∷ []) $ fjoin ! $ owned ! unit (Is unit) (nothing-makes 𝓤 H A W) r _ refl $ move ! (1 ∷ 0 ∷ []) $ done !
 
   entry : ent 𝓤 (onEntry 𝓤 H A walk-F.signature (table-at .κ, (words-at .κ, (source-at .κ, (tape-at .κ, (rec-at .κ, (seen-at .κ, (opens-at .κ, (list-at .κ, tt)))))))) (table-at .q, (words-at .q, (source-at .q, (tape-at .q, (rec-at .q, (seen-at .q, (opens-at .q, (list-at .q, tt)))))))) (ref table-at table₀, (ref words-at words₀, (count₀, (ref source-at source₀, (ref tape-at tape₀, (from₀, (to₀, (depth₀, (around₀, (ref rec-at rec₀, (ref seen-at seen₀, (ref opens-at opens₀, (ref list-at list₀, tt))))))))))))) (fatVal table-at ∷ [], (fatVal words-at ∷ [], (vint w64 count₀ ∷ [], (fatVal source-at ∷ [], (fatVal tape-at ∷ [], (vint w64 from₀ ∷ [], (vint w64 to₀ ∷ [], (vint w64 depth₀ ∷ [], (LL.val Around-T.the-type Around-L.the-laws around₀ ∷ [], (ptrVal rec-at ∷ [], (fatVal seen-at ∷ [], (fatVal opens-at ∷ [], (fatVal list-at ∷ [], tt)))))))))))))) (⋆ 𝓤 H A (‵ (HasShr u8 table-at table₀) ∷ ‵ (HasShr u64 words-at words₀) ∷ ‵ (HasShr u8 source-at source₀) ∷ ‵ (HasShr u8 tape-at tape₀) ∷ ‵ (HasRef Record-T.the-row rec-at rec₀) ∷ ‵ (HasMut u32 seen-at seen₀) ∷ ‵ (HasMut OpenStart-T.the-row opens-at opens₀) ∷ ‵ (HasMut u64 list-at list₀) ∷ []))
   entry =
@@ -279,7 +280,7 @@ module _ {M : Type 1} (𝓤 : URA M) (H : Heap 𝓤) (A : Atoms 𝓤) (W : Given
         assigns ! (addr ! (from ! (fld ! refl (hop ! (look-in ! 15 (sub ! 0 refl (whole !))) (stop !))))) (from ! (stop !)) (init ! 25 refl (tt, tt)) $
         assigns ! (agg ! (and-then ! (load ! (from ! (stop !)) (look ! 25 refl)) (and-then ! (load ! (from ! (fld ! refl (stop !))) (look-in ! 15 (sub ! 1 refl (whole !)))) (no-more !)))) (from ! (stop !)) (init ! 26 refl (tt, (tt, (record { fits = (list-room .0) }, tt)))) $
         move ! (36 ∷ 37 ∷ 38 ∷ 0 ∷ 39 ∷ 40 ∷ 42 ∷ []) $ let req-visit-leaf : Passable table₀ words₀ count₀ source₀ tape₀ (aroundOf around₀) (y100 .0) (z-past-node .0) to₀ (y100 .1 .1 .1 .0) (y100 .1 .1 .0) = passable inv-100 test-0 _ says-past-node in
-        visit-leaf-C.calls-visit-leaf ! at-mem run fm table-at table₀ words-at words₀ count₀ source-at source₀ tape-at tape₀ (y100 .0) (z-past-node .0) to₀ around₀ (y100 .1 .0) rec-at (y100 .1 .1 .0) seen-at (y100 .1 .1 .1 .0) list-at (y100 .1 .1 .1 .1 .1 .0) count₀-is is-i-100 ((s-past-node .0) .1) to₀-is around₀-is is-n-100 req-visit-leaf (λ ν-rec δ-rec ν-seen δ-seen ν-list δ-list. known-visit-leaf (visit-leaf-C.to 𝓤 H A at-mem run table-at table₀ words-at words₀ count₀ source-at source₀ tape-at tape₀ (y100 .0) (z-past-node .0) to₀ around₀ (y100 .1 .0) rec-at (y100 .1 .1 .0) seen-at (y100 .1 .1 .1 .0) list-at (y100 .1 .1 .1 .1 .1 .0) table-at words-at source-at tape-at (lent rec-at ν-rec δ-rec) (lent seen-at ν-seen δ-seen) (lent list-at ν-list δ-list)))
+        visit-leaf-C.calls-visit-leaf ! at-mem run fm table-at table₀ words-at words₀ count₀ source-at source₀ tape-at tape₀ (y100 .0) (z-past-node .0) to₀ around₀ (y100 .1 .0) rec-at (y100 .1 .1 .0) seen-at (y100 .1 .1 .1 .0) list-at (y100 .1 .1 .1 .1 .1 .0) count₀-is is-i-100 ((s-past-node .0) .1) to₀-is around₀-is is-n-100 req-visit-leaf (λ ν-rec δ-rec ν-seen δ-seen ν-list δ-list. known-visit-leaf (visit-leaf-C.to 𝓤 H A at-mem run table-at table₀ words-at words₀ count₀ source-at source₀ tape-at tape₀ (y100 .0) (z-past-node .0) to₀ around₀ (y100 .1 .0) rec-at (y100 .1 .1 .0) seen-at (y100 .1 .1 .1 .0) list-at (y100 .1 .1 .1 .1 .1 .0) table-at words-at source-at tape-at (relent rec-at ν-rec δ-rec) (relent seen-at ν-seen δ-seen) (relent list-at ν-list δ-list)))
         (and-then ! (load ! (from ! (stop !)) (look ! 3 refl)) (and-then ! (load ! (from ! (stop !)) (look ! 4 refl)) (and-then ! (load ! (from ! (stop !)) (look ! 5 refl)) (and-then ! (load ! (from ! (stop !)) (look ! 6 refl)) (and-then ! (load ! (from ! (stop !)) (look ! 7 refl)) (and-then ! (load ! (from ! (stop !)) (look ! 18 refl)) (and-then ! (load ! (from ! (stop !)) (look ! 17 refl)) (and-then ! (load ! (from ! (stop !)) (look ! 9 refl)) (and-then ! (load ! (from ! (stop !)) (look ! 11 refl)) (and-then ! (load ! (from ! (stop !)) (look ! 16 refl)) (and-then ! (load ! (from ! (stop !)) (look ! 22 refl)) (and-then ! (load ! (from ! (stop !)) (look ! 24 refl)) (and-then ! (load ! (from ! (stop !)) (look ! 26 refl)) (no-more !)))))))))))))) (λ z-visit-leaf s-visit-leaf.
         let len-visit-leaf-seen : length (z-visit-leaf .1 .1 .0) ≡ length (y100 .1 .1 .1 .0) = s-visit-leaf .1 .0 in
         let len-visit-leaf-list : length (z-visit-leaf .1 .1 .1 .0) ≡ length (y100 .1 .1 .1 .1 .1 .0) = s-visit-leaf .1 .1 .0 in
@@ -305,7 +306,7 @@ module _ {M : Type 1} (𝓤 : URA M) (H : Heap 𝓤) (A : Atoms 𝓤) (W : Given
               assigns ! (agg ! (and-then ! (load ! (from ! (stop !)) (look ! 40 refl)) (and-then ! (load ! (from ! (fld ! refl (stop !))) (look-in ! 21 (sub ! 1 refl (whole !)))) (no-more !)))) (from ! (stop !)) (init ! 41 refl (tt, (tt, (record { fits = (list-room .0) }, tt)))) $
               move ! (0 ∷ 1 ∷ 3 ∷ 2 ∷ 4 ∷ 5 ∷ 42 ∷ 6 ∷ []) $ let req-visit : (Ready table₀ words₀ count₀ source₀ tape₀ depth₀ (y100 .0) to₀ (z-visit-leaf .1 .1 .0) (y100 .1 .1 .1 .1 .0) (z-visit-leaf .1 .0)) × (Visitable source₀ tape₀ (y100 .0) to₀ (z-visit-leaf .0) (z-visit-leaf .1 .0)) × ((y1 .0) .«name_start» + (y1 .0) .«name_len» ≤ length table₀) × Room (countsOf (z-visit-leaf .1 .0)) (visitFindings table₀ source₀ tape₀ (aroundOf around₀) (entryOfInfo (y1 .0)) (y100 .0) to₀ (z-visit-leaf .1 .1 .0) (y100 .1 .1 .1 .1 .0) (z-visit-leaf .1 .0)) = visit-asks inv-100 test-0 _ says-past-node _ _ _ _ len-visit-leaf-seen says-visit-leaf _ says-marker _ told-1 in
               let less-visit : 2 * depth₀ < 2 * depth₀ + 1 = same-depth _ in
-              visit-C.calls-visit-last ! at-mem run fm table-at table₀ words-at words₀ count₀ source-at source₀ tape-at tape₀ (y100 .0) to₀ depth₀ (y1 .0) around₀ (z-visit-leaf .0) rec-at (z-visit-leaf .1 .0) seen-at (z-visit-leaf .1 .1 .0) opens-at (y100 .1 .1 .1 .1 .0) list-at (z-visit-leaf .1 .1 .1 .0) count₀-is is-i-100 to₀-is depth₀-is (EL.owed Info-T.the-type Info-L.the-laws (Info-V.Known (y1 .0)) _ is-1-0 .0) around₀-is (s-visit-leaf .0) req-visit (λ ν-rec δ-rec ν-seen δ-seen ν-opens δ-opens ν-list δ-list. self-visit (visit-C.to 𝓤 H A at-mem run table-at table₀ words-at words₀ count₀ source-at source₀ tape-at tape₀ (y100 .0) to₀ depth₀ (y1 .0) around₀ (z-visit-leaf .0) rec-at (z-visit-leaf .1 .0) seen-at (z-visit-leaf .1 .1 .0) opens-at (y100 .1 .1 .1 .1 .0) list-at (z-visit-leaf .1 .1 .1 .0) table-at words-at source-at tape-at (lent rec-at ν-rec δ-rec) (lent seen-at ν-seen δ-seen) (lent opens-at ν-opens δ-opens) (lent list-at ν-list δ-list)) less-visit)
+              visit-C.calls-visit-last ! at-mem run fm table-at table₀ words-at words₀ count₀ source-at source₀ tape-at tape₀ (y100 .0) to₀ depth₀ (y1 .0) around₀ (z-visit-leaf .0) rec-at (z-visit-leaf .1 .0) seen-at (z-visit-leaf .1 .1 .0) opens-at (y100 .1 .1 .1 .1 .0) list-at (z-visit-leaf .1 .1 .1 .0) count₀-is is-i-100 to₀-is depth₀-is (EL.owed Info-T.the-type Info-L.the-laws (Info-V.Known (y1 .0)) _ is-1-0 .0) around₀-is (s-visit-leaf .0) req-visit (λ ν-rec δ-rec ν-seen δ-seen ν-opens δ-opens ν-list δ-list. self-visit (visit-C.to 𝓤 H A at-mem run table-at table₀ words-at words₀ count₀ source-at source₀ tape-at tape₀ (y100 .0) to₀ depth₀ (y1 .0) around₀ (z-visit-leaf .0) rec-at (z-visit-leaf .1 .0) seen-at (z-visit-leaf .1 .1 .0) opens-at (y100 .1 .1 .1 .1 .0) list-at (z-visit-leaf .1 .1 .1 .0) table-at words-at source-at tape-at (relent rec-at ν-rec δ-rec) (relent seen-at ν-seen δ-seen) (relent opens-at ν-opens δ-opens) (relent list-at ν-list δ-list)) less-visit)
               (and-then ! (load ! (from ! (stop !)) (look ! 3 refl)) (and-then ! (load ! (from ! (stop !)) (look ! 4 refl)) (and-then ! (load ! (from ! (stop !)) (look ! 5 refl)) (and-then ! (load ! (from ! (stop !)) (look ! 6 refl)) (and-then ! (load ! (from ! (stop !)) (look ! 7 refl)) (and-then ! (load ! (from ! (stop !)) (look ! 18 refl)) (and-then ! (load ! (from ! (stop !)) (look ! 9 refl)) (and-then ! (load ! (from ! (stop !)) (look ! 10 refl)) (and-then ! (load ! (from ! (stop !)) (look ! 19 refl)) (and-then ! (load ! (from ! (stop !)) (look ! 11 refl)) (and-then ! (load ! (from ! (stop !)) (look ! 16 refl)) (and-then ! (load ! (from ! (stop !)) (look ! 29 refl)) (and-then ! (load ! (from ! (stop !)) (look ! 31 refl)) (and-then ! (load ! (from ! (stop !)) (look ! 33 refl)) (and-then ! (load ! (from ! (stop !)) (look ! 35 refl)) (no-more !)))))))))))))))) (λ z-visit s-visit.
               let len-visit-seen : length (z-visit .1 .1 .0) ≡ length (z-visit-leaf .1 .1 .0) = s-visit .1 .0 in
               let len-visit-opens : length (z-visit .1 .1 .1 .0) ≡ length (y100 .1 .1 .1 .1 .0) = s-visit .1 .1 .0 in
