@@ -13,7 +13,7 @@ use lib.ListN.{length, getD, take, drop, length-drop}
 use lib.Seq.{take-length, length-take-le, drop-drop}
 use borrow.Author.Tests.{eq-eqb, ne-eqb, ltb-true, ltb-false, eqb-true, eqb-false}
 use Rattle.text.specs.Pick.{both, pickNat}
-use Rattle.text.specs.Scans.{eightBytes}
+use Rattle.text.specs.Scans.{fourBytes, eightBytes}
 use Rattle.text.proofs.Rows.{both-false, both-true, both-left, both-right, place}
 use Rattle.table.specs.Bytes.{equal, all, starting}
 use Rattle.table.specs.Inner.{headOf}
@@ -37,6 +37,10 @@ eight-is : (s : List ℕ) (at : ℕ) → eightBytes s at ≡ number s at 8
 unfolding number
 eight-is s at = simp add-assoc (omega arith)
 
+four-is : (s : List ℕ) (at : ℕ) → fourBytes s at ≡ number s at 4
+unfolding number
+four-is s at = simp add-assoc (omega arith)
+
 -- the list is one of bytes, as it is known of a slice
 abbrev pub Small : List ℕ → Type 0
 Small s = (k : ℕ) → Fits w8 (getD s k 0)
@@ -51,6 +55,9 @@ module _ (a b : List ℕ) (p : Small a) (q : Small b) where
 
   pub same-eight : (i j : ℕ) → i + 8 ≤ length a → j + 8 ≤ length b → eqb (eightBytes a i) (eightBytes b j) ≡ equal (take 8 (drop i a)) (take 8 (drop j b))
   same-eight i j h k = rw (eight-is a i, eight-is b j) (same-number 8 i j h k)
+
+  pub same-four : (i j : ℕ) → i + 4 ≤ length a → j + 4 ≤ length b → eqb (fourBytes a i) (fourBytes b j) ≡ equal (take 4 (drop i a)) (take 4 (drop j b))
+  same-four i j h k = rw (four-is a i, four-is b j) (same-number 4 i j h k)
 
 -- a word stands at the head exactly if its first n bytes do, and the others behind them
 pub parts : (n : ℕ) (w l : List ℕ) → starting w l ≡ both (starting (take n w) l) (starting (drop n w) (drop n l))
@@ -89,6 +96,19 @@ module _ (a b : List ℕ) (n : ℕ) (e : length a ≡ length b) where
   ends-same i h k f =
       let m : n + (i - n) ≡ i = omega arith in
       both-right (equal (take (i - n) (drop n a)) (take (i - n) (drop n b))) _ (sym (rw m at (block a b n (i - n) e (omega arith))) ∙ f)
+
+-- and their first n bytes
+module _ (a b : List ℕ) (n : ℕ) (e : length a ≡ length b) (h : n ≤ length a) where
+  front : equal a b ≡ both (equal (take n a) (take n b)) (equal (drop n a) (drop n b))
+  front =
+      let z : 0 + n ≡ n = omega arith in
+      rw z at (block a b 0 n e (omega arith))
+
+  pub fronts-apart : equal (take n a) (take n b) ≡ false → equal a b ≡ false
+  fronts-apart f = front ∙ rw f
+
+  pub fronts-same : equal (take n a) (take n b) ≡ true → equal a b ≡ equal (drop n a) (drop n b)
+  fronts-same f = front ∙ rw f
 
 -- eight bytes that a number other than 0 stands for
 abbrev pub eight : List ℕ → Bool

@@ -128,6 +128,14 @@ fn same_8(a: &[u8], b: &[u8], at: usize) -> bool
     text::eight_bytes(a, at) == text::eight_bytes(b, at)
 }
 
+// The same of four bytes.
+fn same_4(a: &[u8], b: &[u8], at: usize) -> bool
+    requires { ⌜ (at + 4 ≤ length (now a)) × (at + 4 ≤ length (now b)) ⌝ }
+    ensures { λ r. ⌜ r ≡ equal (take 4 (drop at (now (a .entry)))) (take 4 (drop at (now (b .entry)))) ⌝ }
+{
+    text::four_bytes(a, at) == text::four_bytes(b, at)
+}
+
 // Whether two long lists of one length are equal. Their ends are compared first, so that the blocks need no rest.
 fn same_long(a: &[u8], b: &[u8]) -> bool
     requires { ⌜ (length (now a) ≡ length (now b)) × (8 ≤ length (now a)) ⌝ }
@@ -147,12 +155,12 @@ fn same_long(a: &[u8], b: &[u8]) -> bool
     true
 }
 
-// Whether two lists of one length are equal, byte by byte.
-fn same_short(a: &[u8], b: &[u8]) -> bool
+// Whether two lists of one length are equal from a place on, byte by byte.
+fn same_from(a: &[u8], b: &[u8], from: usize) -> bool
     requires { ⌜ length (now a) ≡ length (now b) ⌝ }
-    ensures { λ r. ⌜ r ≡ equal (now (a .entry)) (now (b .entry)) ⌝ }
+    ensures { λ r. ⌜ r ≡ equal (drop from (now (a .entry))) (drop from (now (b .entry))) ⌝ }
 {
-    let mut i: usize = 0;
+    let mut i = from;
     while i < a.len() {
         if a[i] != b[i] {
             return false;
@@ -160,6 +168,27 @@ fn same_short(a: &[u8], b: &[u8]) -> bool
         i += 1;
     }
     true
+}
+
+// Whether two short lists of one length are equal. Where one is a constant, a block is one comparison with a number, if no two
+// blocks overlap.
+fn same_short(a: &[u8], b: &[u8]) -> bool
+    requires { ⌜ length (now a) ≡ length (now b) ⌝ }
+    ensures { λ r. ⌜ r ≡ equal (now (a .entry)) (now (b .entry)) ⌝ }
+{
+    if 8 <= a.len() {
+        if !same_8(a, b, 0) {
+            return false;
+        }
+        return same_from(a, b, 8);
+    }
+    if 4 <= a.len() {
+        if !same_4(a, b, 0) {
+            return false;
+        }
+        return same_from(a, b, 4);
+    }
+    same_from(a, b, 0)
 }
 
 // Whether two lists of bytes are equal.
@@ -182,7 +211,7 @@ pub fn starts_with(s: &[u8], key: &[u8]) -> bool
     if s.len() < n {
         return false;
     }
-    same(key, &s[..n])
+    same_short(key, &s[..n])
 }
 
 fn is_known(v: Value) -> bool

@@ -1,60 +1,63 @@
--- `table::same_short` meets its contract. The invariant: what is left of the two lists is equal exactly if the lists are.
+-- `table::same_short` meets its contract.
 -- Assumes nothing.
 use borrow.Author.Needs.{needs}
-use Prim.Native.Nat.{_-_}
-use lib.ListN.{length, drop}
-use mathlib.Core.Path.{_≡_, refl, sym, _∙_}
+use borrow.Author.Tests.{not-true, not-false}
+use denote.Ref.{now}
+use mathlib.Core.Path.{sym, _∙_}
 use native.Mathlib.Omega.{arith}
-use Rattle.table.specs.Bytes.{equal}
-use Rattle.table.proofs.Words.{equal-past, equal-stops, equal-ends}
+use Rattle.table.proofs.Blocks.{fronts-apart, fronts-same}
 use Rattle.table.proofs.same_short.Statement.{statement}
 use Rattle.table.proofs.same_short.Tie as tie
 
-abbrev Inv-loop : tie.InvT-loop
-Inv-loop a b i₀ i = (length a ≡ length b) × (equal a b ≡ equal (drop i a) (drop i b))
+same-8-requires : tie.Need-same-8-requires
+same-8-requires c κs = search needs
 
-abbrev μ-loop : tie.MeasureT-loop
-μ-loop a b i₀ i = length a - i
-
-loop-holds : tie.Need-loop-holds Inv-loop μ-loop
-loop-holds c = (omega arith, refl)
-
-shared-slice-read-if1 : tie.Need-shared-slice-read-if1 Inv-loop μ-loop
-shared-slice-read-if1 c = search needs
-
-shared-slice-read-if1-2 : tie.Need-shared-slice-read-if1-2 Inv-loop μ-loop
-shared-slice-read-if1-2 c = search needs
-
-returns : tie.Need-returns Inv-loop μ-loop
+returns : tie.Need-returns
 returns c =
-    let l = c .before .before .before .before .loop in
-    sym (l .inv .1 ∙ equal-stops _ _ (l .i) (omega arith) (omega arith) (c .if1 .taken))
+    let s = c .before .before .before .before .before in
+    sym (fronts-apart (now (s .args .a)) (now (s .args .b)) 8 (s .pre) (c .before .before .if1 .taken) (sym (c .before .same-8 .ensures) ∙ not-true _ (c .if2 .taken)))
 
-add-i : tie.Need-add-i Inv-loop μ-loop
-add-i c = search needs
+same-from-requires : tie.Need-same-from-requires
+same-from-requires c κs = search needs
 
-loop-less : tie.Need-loop-less Inv-loop μ-loop
-loop-less c = search needs
+returns-2 : tie.Need-returns-2
+returns-2 c =
+    let s = c .before .before .before .before .before .before in
+    c .same-from .ensures ∙ sym (fronts-same (now (s .args .a)) (now (s .args .b)) 8 (s .pre) (c .before .before .before .if1 .taken) (sym (c .before .before .same-8 .ensures) ∙ not-false _ (c .before .if2 .left)))
 
-loop-again : tie.Need-loop-again Inv-loop μ-loop
-loop-again c =
-    let l = c .before .before .before .before .loop in
-    (omega arith, l .inv .1 ∙ equal-past _ _ (l .i) (omega arith) (omega arith) (c .if1 .left))
+same-4-requires : tie.Need-same-4-requires
+same-4-requires c κs = search needs
 
-returns-2 : tie.Need-returns-2 Inv-loop μ-loop
-returns-2 c = let l = c .before .loop in sym (l .inv .1 ∙ equal-ends _ _ (l .i) (omega arith) (omega arith))
+returns-3 : tie.Need-returns-3
+returns-3 c =
+    let s = c .before .before .before .before .before .before in
+    sym (fronts-apart (now (s .args .a)) (now (s .args .b)) 4 (s .pre) (c .before .before .if3 .taken) (sym (c .before .same-4 .ensures) ∙ not-true _ (c .if4 .taken)))
+
+same-from-requires-2 : tie.Need-same-from-requires-2
+same-from-requires-2 c κs = search needs
+
+returns-4 : tie.Need-returns-4
+returns-4 c =
+    let s = c .before .before .before .before .before .before .before in
+    c .same-from2 .ensures ∙ sym (fronts-same (now (s .args .a)) (now (s .args .b)) 4 (s .pre) (c .before .before .before .if3 .taken) (sym (c .before .before .same-4 .ensures) ∙ not-false _ (c .before .if4 .left)))
+
+same-from-requires-3 : tie.Need-same-from-requires-3
+same-from-requires-3 c κs = search needs
+
+returns-5 : tie.Need-returns-5
+returns-5 c = search needs
 
 pub same-short-spec : {M : Type 1} → statement M
 same-short-spec =
     tie.close
     (tie.spec
-    Inv-loop
-    μ-loop
-    loop-holds
-    shared-slice-read-if1
-    shared-slice-read-if1-2
+    same-8-requires
     returns
-    add-i
-    loop-less
-    loop-again
-    returns-2)
+    same-from-requires
+    returns-2
+    same-4-requires
+    returns-3
+    same-from-requires-2
+    returns-4
+    same-from-requires-3
+    returns-5)

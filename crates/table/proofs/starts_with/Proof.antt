@@ -9,14 +9,14 @@ use Rattle.table.proofs.starts_with.Tie as tie
 returns : tie.Need-returns
 returns c = starts-short _ _ (c .if1 .taken)
 
-slice-aggregate-same : tie.Need-slice-aggregate-same
-slice-aggregate-same c = sym (length-take-le _ _ (c .before .if1 .left))
+slice-aggregate-same-short : tie.Need-slice-aggregate-same-short
+slice-aggregate-same-short c = sym (length-take-le _ _ (c .before .if1 .left))
 
-same-requires : tie.Need-same-requires
-same-requires c κs = search needs
+same-short-requires : tie.Need-same-short-requires
+same-short-requires c κs = sym (length-take-le _ _ (c .before .if1 .left))
 
 returns-2 : tie.Need-returns-2
 returns-2 c = search needs
 
 pub starts-with-spec : {M : Type 1} → statement M
-starts-with-spec = tie.close (tie.spec returns slice-aggregate-same same-requires returns-2)
+starts-with-spec = tie.close (tie.spec returns slice-aggregate-same-short same-short-requires returns-2)
