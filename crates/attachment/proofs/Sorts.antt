@@ -1,12 +1,12 @@
 -- Names of numbers, the places that they claim, and the start offsets found so far.
 -- Assumes nothing.
-use Prim.Native.Nat.{ℕ, _<_}
+use Prim.Native.Nat.{ℕ, zero, suc, _<_}
 use mathlib.Core.Path.{_≡_, refl, sym, _∙_}
 use mathlib.Core.Bool.{Bool, true, false, not}
 use mathlib.Core.List.{List, [], _∷_, _++_}
 use native.Mathlib.Omega.{arith}
 use lib.Dec.{eqb}
-use lib.ListN.{length, getD}
+use lib.ListN.{length, getD, take}
 use borrow.Author.Tests.{eq-eqb, ne-eqb}
 use Rattle.text.specs.Pick.{both, either, cut}
 use Rattle.text.specs.Words.{blankText}
@@ -17,7 +17,6 @@ use Rattle.cursor.specs.Names.{nameOf}
 use Rattle.attachment.specs.Attached.{letter, isAlternate, isPublished, claims, isBlank, among, startsOf}
 use Rattle.attachment.specs.Inner.{claimsAt, takenAlternate, takenPublished}
 use Rattle.attachment.specs.declared.Attached.{Attached}
-use Rattle.attachment.specs.declared.Attached.the-variants as attached
 
 pub letter-chapter : (kind : ℕ) → kind ≡ 3 → 0x63 ≡ letter kind
 letter-chapter kind e = rw (eq-eqb kind 3 e)
@@ -84,36 +83,39 @@ module _ (s t : List ℕ) (i kind : ℕ) (taken x : Bool) (name : List ℕ) (is-
   published-then e = e ∙ rw (is-free, named)
 
 -- one more start offset
-pub added-first : (a : Attached) (n : ℕ) → a ≡ attached.Nothing → startsOf (attached.One n) ≡ startsOf a ++ (n ∷ [])
+pub added-first : (a : Attached) (n : ℕ) → a .count ≡ 0 → n ∷ [] ≡ startsOf a ++ (n ∷ [])
 added-first a n e = rw e
 
-pub added-second : (a : Attached) (x n : ℕ) → a ≡ attached.One x → startsOf (attached.Two x n) ≡ startsOf a ++ (n ∷ [])
-added-second a x n e = rw e
+lone : (k x y : ℕ) → (k ≡ 0 → ⊥) → length (take k (x ∷ y ∷ [])) < 2 → k ≡ 1
+lone zero x y n h = absurd (n refl)
+lone (suc zero) x y n h = refl
+lone (suc (suc k)) x y n h = absurd (omega arith)
 
-pub added-never : (a : Attached) (x y n : ℕ) → a ≡ attached.Two x y → length (startsOf a) < 2 → startsOf (attached.Two x y) ≡ startsOf a ++ (n ∷ [])
-added-never a x y n e h = absurd (no (rw e at h))
-  where
-    no : length (startsOf (attached.Two x y)) < 2 → ⊥
-    no h = omega arith
+pub added-second : (a : Attached) (n : ℕ) → (a .count ≡ 0 → ⊥) → length (startsOf a) < 2 → a .first ∷ n ∷ [] ≡ startsOf a ++ (n ∷ [])
+added-second a n e h = rw (lone (a .count) (a .first) (a .second) e h)
 
 -- whether an offset is among those found
 either-none : (v : Bool) → v ≡ either v false
 either-none true = refl
 either-none false = refl
 
-module _ (a : Attached) (at : ℕ) where
-  pub among-none : a ≡ attached.Nothing → false ≡ among at (startsOf a)
+module _ (at x y : ℕ) where
+  pub among-none : (k : ℕ) → k ≡ 0 → false ≡ among at (take k (x ∷ y ∷ []))
   unfolding among
-  among-none e = rw e
+  among-none k e = rw e
 
-  pub among-one : (x : ℕ) → a ≡ attached.One x → eqb x at ≡ among at (startsOf a)
+  pub among-first : (k : ℕ) → (k ≡ 0 → ⊥) → x ≡ at → true ≡ among at (take k (x ∷ y ∷ []))
   unfolding among
-  among-one x e = rw e (either-none (eqb x at))
+  among-first zero n e = absurd (n refl)
+  among-first (suc k) n e = rw (eq-eqb x at e)
 
-  pub among-first : (x y : ℕ) → a ≡ attached.Two x y → x ≡ at → true ≡ among at (startsOf a)
+  pub among-one : (k : ℕ) → (x ≡ at → ⊥) → k ≡ 1 → false ≡ among at (take k (x ∷ y ∷ []))
   unfolding among
-  among-first x y e h = rw (e, eq-eqb x at h)
+  among-one k n e = rw (e, ne-eqb x at n)
 
-  pub among-second : (x y : ℕ) → a ≡ attached.Two x y → (x ≡ at → ⊥) → eqb y at ≡ among at (startsOf a)
+  pub among-second : (k : ℕ) → (k ≡ 0 → ⊥) → (x ≡ at → ⊥) → (k ≡ 1 → ⊥) → eqb y at ≡ among at (take k (x ∷ y ∷ []))
   unfolding among
-  among-second x y e n = rw (e, ne-eqb x at n) (either-none (eqb y at))
+  among-second zero n f m = absurd (n refl)
+  among-second (suc zero) n f m = absurd (m refl)
+  among-second (suc (suc zero)) n f m = rw (ne-eqb x at f) (either-none (eqb y at))
+  among-second (suc (suc (suc k))) n f m = rw (ne-eqb x at f) (either-none (eqb y at))

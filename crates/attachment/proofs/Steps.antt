@@ -19,7 +19,6 @@ use Rattle.cursor.proofs.Runs.{run-next, run-children, forest-at-leaf, forest-a
 use Rattle.attachment.specs.Attached.{isAlternate, isPublished, claims, isBlank, plain, onlyIf, runOf, attachedNumbers, starts, startsOf}
 use Rattle.attachment.specs.Inner.{claimsAt, takenAlternate, takenPublished}
 use Rattle.attachment.specs.declared.Attached.{Attached}
-use Rattle.attachment.specs.declared.Attached.the-variants as attached
 
 -- plainness
 module _ (s t : List ℕ) (a b : ℕ) (run : Run s t a b) (more : a < b) where
@@ -48,7 +47,7 @@ pub record Going (s t : List ℕ) (kind from to : ℕ) (found : Attached) (alt p
   pub left : startsOf found ++ starts (runOf kind alt pubn (forest s t i to)) ≡ starts (attachedNumbers kind (forest s t from to))
   pub few : length (startsOf found) ≤ bit alt + bit pubn
 
-pub going-start : (s t : List ℕ) (kind from to : ℕ) → Run s t from to → Going s t kind from to attached.Nothing false false from
+pub going-start : (s t : List ℕ) (kind from to : ℕ) → Run s t from to → Going s t kind from to (record { count = 0; first = 0; second = 0 }) false false from
 going-start s t kind from to h = record { run = h; left = refl; few = omega arith }
 
 append-none : (xs : List ℕ) → xs ++ [] ≡ xs

@@ -4,6 +4,7 @@ use mathlib.Core.Bool.{Bool, true, false, not}
 use mathlib.Core.List.{List, [], _∷_, _++_}
 use mathlib.Core.Path.{_≡_}
 use lib.Dec.{eqb}
+use lib.ListN.{take}
 use Rattle.text.specs.Pick.{both, either, pickNat}
 use Rattle.text.specs.Words.{blankText}
 use Rattle.tape.specs.Nodes.{Node}
@@ -11,7 +12,6 @@ use Rattle.tape.specs.Forest.{Forest, end, leaf, node}
 use Rattle.table.specs.Bytes.{equal}
 use Rattle.cursor.specs.Names.{nameOf}
 use Rattle.attachment.specs.declared.Attached.{Attached}
-use Rattle.attachment.specs.declared.Attached.the-variants as attached
 
 -- `c` of a Chapter, `v` of a Verse: the letter with which the names of its numbers begin
 abbrev pub letter : ℕ → ℕ
@@ -69,9 +69,7 @@ isAttached kind f at = among at (starts (attachedNumbers kind f))
 
 -- what the answer says: the start offsets of the attached numbers, in order
 abbrev pub startsOf : Attached → List ℕ
-startsOf attached.Nothing = []
-startsOf (attached.One a) = a ∷ []
-startsOf (attached.Two a b) = a ∷ b ∷ []
+startsOf a = take (a .count) (a .first ∷ a .second ∷ [])
 
 -- one list is another with more at its end
 pub record Longer (xs ys : List Node) : Type 0 where

@@ -13,10 +13,11 @@ ghost use Rattle.attachment.specs.Attached.{isAlternate, isPublished, is
 ghost use Rattle.attachment.specs.Inner.{claimsAt, takenAlternate, takenPublished};
 
 // The start offsets of the numbers that are attached to one chapter or verse, at most one of each sort.
-pub enum Attached {
-    Nothing,
-    One(u32),
-    Two(u32, u32),
+// How many they are, and the first and the second; fields are handed on in registers, where an enum would be copied.
+pub struct Attached {
+    pub count: u32,
+    pub first: u32,
+    pub second: u32,
 }
 
 fn letter(kind: u8) -> u8
@@ -127,10 +128,17 @@ fn added(a: Attached, start: u32) -> Attached
     requires { ⌜ length (startsOf a) < 2 ⌝ }
     ensures { λ r. ⌜ startsOf r ≡ startsOf a ++ (start ∷ []) ⌝ }
 {
-    match a {
-        Attached::Nothing => Attached::One(start),
-        Attached::One(x) => Attached::Two(x, start),
-        Attached::Two(x, y) => Attached::Two(x, y),
+    if a.count == 0 {
+        return Attached {
+            count: 1,
+            first: start,
+            second: 0,
+        };
+    }
+    Attached {
+        count: 2,
+        first: a.first,
+        second: start,
     }
 }
 
@@ -139,7 +147,11 @@ pub fn attached_numbers(source: &[u8], tape: &[u8], kind: u8, from: usize, to: u
     requires { ⌜ Run (now source) (now tape) from to ⌝ }
     ensures { λ r. ⌜ startsOf r ≡ starts (attachedNumbers kind (forest (now (source .entry)) (now (tape .entry)) from to)) ⌝ }
 {
-    let mut found = Attached::Nothing;
+    let mut found = Attached {
+        count: 0,
+        first: 0,
+        second: 0,
+    };
     let mut alt = false;
     let mut pubn = false;
     let mut i = from;
@@ -166,9 +178,14 @@ pub fn attached_numbers(source: &[u8], tape: &[u8], kind: u8, from: usize, to: u
 pub fn is_attached(numbers: Attached, at: u32) -> bool
     ensures { λ r. ⌜ r ≡ among at (startsOf numbers) ⌝ }
 {
-    match numbers {
-        Attached::Nothing => false,
-        Attached::One(a) => a == at,
-        Attached::Two(a, b) => if a == at { true } else { b == at },
+    if numbers.count == 0 {
+        return false;
     }
+    if numbers.first == at {
+        return true;
+    }
+    if numbers.count == 1 {
+        return false;
+    }
+    numbers.second == at
 }

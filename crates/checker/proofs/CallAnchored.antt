@@ -52,7 +52,6 @@ use Rattle.references.proofs.Hand.{At, lent as relent, ptrVal, fatVal, ref, Has
 use Rattle.attachment.specs.declared.Attached.{Attached}
 use Rattle.attachment.proofs.Attached as Attached-T
 use Rattle.attachment.proofs.Attached.Laws as Attached-L
-use Rattle.attachment.specs.declared.Attached.the-variants as Attached-V
 use Rattle.running.specs.declared.Record.{Record}
 use Rattle.running.proofs.Record as Record-T
 use Rattle.running.proofs.Record.Laws as Record-L
@@ -176,12 +175,12 @@ module _ {M : Type 1} (𝓤 : URA M) (H : Heap 𝓤) (A : Atoms 𝓤) (at-mem : 
 
 module _ {M : Type 1} {𝓤 : URA M} {H : Heap 𝓤} {A : Atoms 𝓤} {K : Type 0} {W : Given 𝓤 H A} {Γ : List (Item 𝓤)} {E : Env 𝓤 H} {C : Calls 𝓤 H} {Λ : Loops 𝓤 H} {q : PostOf 𝓤 H} {dst : Place} {xs : List Operand} where
   pub calls-anchored : K → (at-mem : Memory → SProp 𝓤) (run : Routine → Fun 𝓤) → FmC 𝓤 H (W .laws) C → {rest : Body} (source-at : At) (source₀ : List ℕ) (tape-at : At) (tape₀ : List ℕ) (depth₀ : ℕ) (anchor₀ : ℕ) (from₀ : ℕ) (to₀ : ℕ) (depth₀-is : depth₀ < 2 ^ 64) (anchor₀-is : anchor₀ < 2 ^ 64) (from₀-is : from₀ < 2 ^ 64) (to₀-is : to₀ < 2 ^ 64) (req : (Accepted source₀ tape₀) × (Nested tape₀ depth₀ from₀ to₀) × (to₀ ≤ nodes tape₀) × (Anchored tape₀ depth₀ anchor₀ from₀)) → (ent 𝓤 (Con 𝓤 H A at-mem run .pre (to 𝓤 H A at-mem run source-at source₀ tape-at tape₀ depth₀ anchor₀ from₀ to₀ source-at tape-at)) (C #checker·anchored (vs 𝓤 H A at-mem run source-at source₀ tape-at tape₀ depth₀ anchor₀ from₀ to₀) (Con 𝓤 H A at-mem run .post (to 𝓤 H A at-mem run source-at source₀ tape-at tape₀ depth₀ anchor₀ from₀ to₀ source-at tape-at)))) → Opds K W (raw (C #checker·anchored (vs 𝓤 H A at-mem run source-at source₀ tape-at tape₀ depth₀ anchor₀ from₀ to₀) (λ v. mean 𝓤 H A (After 𝓤 H A at-mem run source-at source₀ tape-at tape₀ depth₀ anchor₀ from₀ to₀ v))) ∷ Γ) E xs (vs 𝓤 H A at-mem run source-at source₀ tape-at tape₀ depth₀ anchor₀ from₀ to₀)
-      → ((z : Z 𝓤 H A at-mem run source-at source₀ tape-at tape₀ depth₀ anchor₀ from₀ to₀) → Says 𝓤 H A at-mem run source-at source₀ tape-at tape₀ depth₀ anchor₀ from₀ to₀ (EL.val Attached-T.the-type Attached-L.the-laws (z .0) ∷ []) z → Seq K W (‵ (HasShr u8 source-at source₀) ∷ ‵ (HasShr u8 tape-at tape₀) ∷ Γ) (lands C Λ E dst (EL.val Attached-T.the-type Attached-L.the-laws (z .0)) rest q)) → Seq K W (‵ (HasShr u8 source-at source₀) ∷ ‵ (HasShr u8 tape-at tape₀) ∷ Γ) (runs C Λ E (seq (call #checker·anchored xs dst) rest) q)
+      → ((z : Z 𝓤 H A at-mem run source-at source₀ tape-at tape₀ depth₀ anchor₀ from₀ to₀) → Says 𝓤 H A at-mem run source-at source₀ tape-at tape₀ depth₀ anchor₀ from₀ to₀ (LL.val Attached-T.the-type Attached-L.the-laws (z .0) ∷ []) z → Seq K W (‵ (HasShr u8 source-at source₀) ∷ ‵ (HasShr u8 tape-at tape₀) ∷ Γ) (lands C Λ E dst (LL.val Attached-T.the-type Attached-L.the-laws (z .0)) rest q)) → Seq K W (‵ (HasShr u8 source-at source₀) ∷ ‵ (HasShr u8 tape-at tape₀) ∷ Γ) (runs C Λ E (seq (call #checker·anchored xs dst) rest) q)
   calls-anchored t at-mem run fm {rest} source-at source₀ tape-at tape₀ depth₀ anchor₀ from₀ to₀ depth₀-is anchor₀-is from₀-is to₀-is req met os k =
-      cut (‵ (HasShr u8 source-at source₀) ∷ ‵ (HasShr u8 tape-at tape₀) ∷ []) (later (raw (C #checker·anchored (vs 𝓤 H A at-mem run source-at source₀ tape-at tape₀ depth₀ anchor₀ from₀ to₀) (λ v. mean 𝓤 H A (After 𝓤 H A at-mem run source-at source₀ tape-at tape₀ depth₀ anchor₀ from₀ to₀ v)))) ∷ []) Γ (called 𝓤 H A at-mem run source-at source₀ tape-at tape₀ depth₀ anchor₀ from₀ to₀ W C fm depth₀-is anchor₀-is from₀-is to₀-is req met) $ await t tt $ calls t fm (After 𝓤 H A at-mem run source-at source₀ tape-at tape₀ depth₀ anchor₀ from₀ to₀) os (λ v. await t tt $ pick t (λ z. learn t (λ s. split t $ subst (λ (u : Val). Seq K W (‵ (HasShr u8 source-at source₀) ∷ ‵ (HasShr u8 tape-at tape₀) ∷ Γ) (lands C Λ E dst u rest q)) (sym (ap only ((EL.tells Attached-T.the-type Attached-L.the-laws) (z .0) (v ∷ []) (s .0)))) (k z (subst (Is Attached-T.the-row (z .0)) ((EL.tells Attached-T.the-type Attached-L.the-laws) (z .0) (v ∷ []) (s .0)) (s .0), s .1)))))
+      cut (‵ (HasShr u8 source-at source₀) ∷ ‵ (HasShr u8 tape-at tape₀) ∷ []) (later (raw (C #checker·anchored (vs 𝓤 H A at-mem run source-at source₀ tape-at tape₀ depth₀ anchor₀ from₀ to₀) (λ v. mean 𝓤 H A (After 𝓤 H A at-mem run source-at source₀ tape-at tape₀ depth₀ anchor₀ from₀ to₀ v)))) ∷ []) Γ (called 𝓤 H A at-mem run source-at source₀ tape-at tape₀ depth₀ anchor₀ from₀ to₀ W C fm depth₀-is anchor₀-is from₀-is to₀-is req met) $ await t tt $ calls t fm (After 𝓤 H A at-mem run source-at source₀ tape-at tape₀ depth₀ anchor₀ from₀ to₀) os (λ v. await t tt $ pick t (λ z. learn t (λ s. split t $ subst (λ (u : Val). Seq K W (‵ (HasShr u8 source-at source₀) ∷ ‵ (HasShr u8 tape-at tape₀) ∷ Γ) (lands C Λ E dst u rest q)) (sym (ap only ((LL.tells Attached-T.the-type Attached-L.the-laws) (z .0) (v ∷ []) (s .0)))) (k z (subst (Is Attached-T.the-row (z .0)) ((LL.tells Attached-T.the-type Attached-L.the-laws) (z .0) (v ∷ []) (s .0)) (s .0), s .1)))))
 
 module _ {M : Type 1} {𝓤 : URA M} {H : Heap 𝓤} {A : Atoms 𝓤} {K : Type 0} {W : Given 𝓤 H A} {Γ : List (Item 𝓤)} {E : Env 𝓤 H} {C : Calls 𝓤 H} {Λ : Loops 𝓤 H} {q : PostOf 𝓤 H} {dst : Place} {xs : List Operand} where
   pub calls-anchored-last : K → (at-mem : Memory → SProp 𝓤) (run : Routine → Fun 𝓤) → FmC 𝓤 H (W .laws) C → (source-at : At) (source₀ : List ℕ) (tape-at : At) (tape₀ : List ℕ) (depth₀ : ℕ) (anchor₀ : ℕ) (from₀ : ℕ) (to₀ : ℕ) (depth₀-is : depth₀ < 2 ^ 64) (anchor₀-is : anchor₀ < 2 ^ 64) (from₀-is : from₀ < 2 ^ 64) (to₀-is : to₀ < 2 ^ 64) (req : (Accepted source₀ tape₀) × (Nested tape₀ depth₀ from₀ to₀) × (to₀ ≤ nodes tape₀) × (Anchored tape₀ depth₀ anchor₀ from₀)) → (ent 𝓤 (Con 𝓤 H A at-mem run .pre (to 𝓤 H A at-mem run source-at source₀ tape-at tape₀ depth₀ anchor₀ from₀ to₀ source-at tape-at)) (C #checker·anchored (vs 𝓤 H A at-mem run source-at source₀ tape-at tape₀ depth₀ anchor₀ from₀ to₀) (Con 𝓤 H A at-mem run .post (to 𝓤 H A at-mem run source-at source₀ tape-at tape₀ depth₀ anchor₀ from₀ to₀ source-at tape-at)))) → Opds K W (raw (C #checker·anchored (vs 𝓤 H A at-mem run source-at source₀ tape-at tape₀ depth₀ anchor₀ from₀ to₀) (λ v. mean 𝓤 H A (After 𝓤 H A at-mem run source-at source₀ tape-at tape₀ depth₀ anchor₀ from₀ to₀ v))) ∷ Γ) E xs (vs 𝓤 H A at-mem run source-at source₀ tape-at tape₀ depth₀ anchor₀ from₀ to₀)
-      → ((z : Z 𝓤 H A at-mem run source-at source₀ tape-at tape₀ depth₀ anchor₀ from₀ to₀) → Says 𝓤 H A at-mem run source-at source₀ tape-at tape₀ depth₀ anchor₀ from₀ to₀ (EL.val Attached-T.the-type Attached-L.the-laws (z .0) ∷ []) z → Seq K W (‵ (HasShr u8 source-at source₀) ∷ ‵ (HasShr u8 tape-at tape₀) ∷ Γ) (settles E dst (EL.val Attached-T.the-type Attached-L.the-laws (z .0)) q)) → Seq K W (‵ (HasShr u8 source-at source₀) ∷ ‵ (HasShr u8 tape-at tape₀) ∷ Γ) (runs C Λ E (call #checker·anchored xs dst) q)
+      → ((z : Z 𝓤 H A at-mem run source-at source₀ tape-at tape₀ depth₀ anchor₀ from₀ to₀) → Says 𝓤 H A at-mem run source-at source₀ tape-at tape₀ depth₀ anchor₀ from₀ to₀ (LL.val Attached-T.the-type Attached-L.the-laws (z .0) ∷ []) z → Seq K W (‵ (HasShr u8 source-at source₀) ∷ ‵ (HasShr u8 tape-at tape₀) ∷ Γ) (settles E dst (LL.val Attached-T.the-type Attached-L.the-laws (z .0)) q)) → Seq K W (‵ (HasShr u8 source-at source₀) ∷ ‵ (HasShr u8 tape-at tape₀) ∷ Γ) (runs C Λ E (call #checker·anchored xs dst) q)
   calls-anchored-last t at-mem run fm source-at source₀ tape-at tape₀ depth₀ anchor₀ from₀ to₀ depth₀-is anchor₀-is from₀-is to₀-is req met os k =
-      cut (‵ (HasShr u8 source-at source₀) ∷ ‵ (HasShr u8 tape-at tape₀) ∷ []) (later (raw (C #checker·anchored (vs 𝓤 H A at-mem run source-at source₀ tape-at tape₀ depth₀ anchor₀ from₀ to₀) (λ v. mean 𝓤 H A (After 𝓤 H A at-mem run source-at source₀ tape-at tape₀ depth₀ anchor₀ from₀ to₀ v)))) ∷ []) Γ (called 𝓤 H A at-mem run source-at source₀ tape-at tape₀ depth₀ anchor₀ from₀ to₀ W C fm depth₀-is anchor₀-is from₀-is to₀-is req met) $ await t tt $ calls-last t fm (After 𝓤 H A at-mem run source-at source₀ tape-at tape₀ depth₀ anchor₀ from₀ to₀) os (λ v. await t tt $ pick t (λ z. learn t (λ s. split t $ subst (λ (u : Val). Seq K W (‵ (HasShr u8 source-at source₀) ∷ ‵ (HasShr u8 tape-at tape₀) ∷ Γ) (settles E dst u q)) (sym (ap only ((EL.tells Attached-T.the-type Attached-L.the-laws) (z .0) (v ∷ []) (s .0)))) (k z (subst (Is Attached-T.the-row (z .0)) ((EL.tells Attached-T.the-type Attached-L.the-laws) (z .0) (v ∷ []) (s .0)) (s .0), s .1)))))
+      cut (‵ (HasShr u8 source-at source₀) ∷ ‵ (HasShr u8 tape-at tape₀) ∷ []) (later (raw (C #checker·anchored (vs 𝓤 H A at-mem run source-at source₀ tape-at tape₀ depth₀ anchor₀ from₀ to₀) (λ v. mean 𝓤 H A (After 𝓤 H A at-mem run source-at source₀ tape-at tape₀ depth₀ anchor₀ from₀ to₀ v)))) ∷ []) Γ (called 𝓤 H A at-mem run source-at source₀ tape-at tape₀ depth₀ anchor₀ from₀ to₀ W C fm depth₀-is anchor₀-is from₀-is to₀-is req met) $ await t tt $ calls-last t fm (After 𝓤 H A at-mem run source-at source₀ tape-at tape₀ depth₀ anchor₀ from₀ to₀) os (λ v. await t tt $ pick t (λ z. learn t (λ s. split t $ subst (λ (u : Val). Seq K W (‵ (HasShr u8 source-at source₀) ∷ ‵ (HasShr u8 tape-at tape₀) ∷ Γ) (settles E dst u q)) (sym (ap only ((LL.tells Attached-T.the-type Attached-L.the-laws) (z .0) (v ∷ []) (s .0)))) (k z (subst (Is Attached-T.the-row (z .0)) ((LL.tells Attached-T.the-type Attached-L.the-laws) (z .0) (v ∷ []) (s .0)) (s .0), s .1)))))

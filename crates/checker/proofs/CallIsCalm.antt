@@ -52,7 +52,6 @@ use Rattle.references.proofs.Hand.{At, lent as relent, ptrVal, fatVal, ref, Has
 use Rattle.attachment.specs.declared.Attached.{Attached}
 use Rattle.attachment.proofs.Attached as Attached-T
 use Rattle.attachment.proofs.Attached.Laws as Attached-L
-use Rattle.attachment.specs.declared.Attached.the-variants as Attached-V
 use Rattle.running.specs.declared.Record.{Record}
 use Rattle.running.proofs.Record as Record-T
 use Rattle.running.proofs.Record.Laws as Record-L
@@ -93,23 +92,23 @@ module _ {M : Type 1} (𝓤 : URA M) (H : Heap 𝓤) (A : Atoms 𝓤) (at-mem : 
   abbrev pub Con : Contract 𝓤
   Con = tripleOf 𝓤 H A is-calm-F.signature (is-calm-F.spec 𝓤 H A at-mem run)
 
-  module _ (table-at : At) (table₀ : List ℕ) (m₀ : MarkerInfo) (source-at : At) (source₀ : List ℕ) (tape-at : At) (tape₀ : List ℕ) (i₀ : ℕ) (around₀ : Around) (rec₀ : Record) where
+  module _ (table-at : At) (table₀ : List ℕ) (m₀ : MarkerInfo) (source-at : At) (source₀ : List ℕ) (tape-at : At) (tape₀ : List ℕ) (i₀ : ℕ) (around₀ : Around) (chapter₀ : Bool) where
     abbrev pub vs : List Val
-    vs = fatVal table-at ∷ LL.val MarkerInfo-T.the-type MarkerInfo-L.the-laws m₀ ∷ fatVal source-at ∷ fatVal tape-at ∷ vint w64 i₀ ∷ LL.val Around-T.the-type Around-L.the-laws around₀ ∷ LL.val Record-T.the-type Record-L.the-laws rec₀ ∷ []
+    vs = fatVal table-at ∷ LL.val MarkerInfo-T.the-type MarkerInfo-L.the-laws m₀ ∷ fatVal source-at ∷ fatVal tape-at ∷ vint w64 i₀ ∷ LL.val Around-T.the-type Around-L.the-laws around₀ ∷ vbool chapter₀ ∷ []
 
     abbrev pub Z : Type 0
     Z = Bool × Unit {0}
 
     abbrev pub Says : List Val → Z → Type 0
-    Says v z = (Is bool (z .0) (v)) × (((z .0) ≡ calmAt table₀ source₀ tape₀ (aroundOf around₀) (entryOfInfo m₀) i₀ (rec₀ .«has_chapter»)))
+    Says v z = (Is bool (z .0) (v)) × (((z .0) ≡ calmAt table₀ source₀ tape₀ (aroundOf around₀) (entryOfInfo m₀) i₀ chapter₀))
 
     abbrev pub After : Val → Item 𝓤
     After v = later (some (λ (z : Z). given (Says (v ∷ []) z) ((‵ (HasShr u8 table-at table₀) ⊛ ‵ (HasShr u8 source-at source₀)) ⊛ ‵ (HasShr u8 tape-at tape₀))))
 
     abbrev pub to : At → At → At → Con .Ghost
-    to table-at′ source-at′ tape-at′ = (((table-at′ .κ, (source-at′ .κ, (tape-at′ .κ, tt))), (table-at′ .q, (source-at′ .q, (tape-at′ .q, tt))), tt, (ref table-at′ table₀, (m₀, (ref source-at′ source₀, (ref tape-at′ tape₀, (i₀, (around₀, (rec₀, tt))))))), (fatVal table-at′ ∷ [], (LL.val MarkerInfo-T.the-type MarkerInfo-L.the-laws m₀ ∷ [], (fatVal source-at′ ∷ [], (fatVal tape-at′ ∷ [], (vint w64 i₀ ∷ [], (LL.val Around-T.the-type Around-L.the-laws around₀ ∷ [], (LL.val Record-T.the-type Record-L.the-laws rec₀ ∷ [], tt)))))))), tt)
+    to table-at′ source-at′ tape-at′ = (((table-at′ .κ, (source-at′ .κ, (tape-at′ .κ, tt))), (table-at′ .q, (source-at′ .q, (tape-at′ .q, tt))), tt, (ref table-at′ table₀, (m₀, (ref source-at′ source₀, (ref tape-at′ tape₀, (i₀, (around₀, (chapter₀, tt))))))), (fatVal table-at′ ∷ [], (LL.val MarkerInfo-T.the-type MarkerInfo-L.the-laws m₀ ∷ [], (fatVal source-at′ ∷ [], (fatVal tape-at′ ∷ [], (vint w64 i₀ ∷ [], (LL.val Around-T.the-type Around-L.the-laws around₀ ∷ [], (vbool chapter₀ ∷ [], tt)))))))), tt)
 
-    module _ (W : Given 𝓤 H A) (C : Calls 𝓤 H) (fm : FmC 𝓤 H (W .laws) C) (m₀-is : Is MarkerInfo-T.the-row m₀ (LL.val MarkerInfo-T.the-type MarkerInfo-L.the-laws m₀ ∷ [])) (i₀-is : i₀ < 2 ^ 64) (around₀-is : Is Around-T.the-row around₀ (LL.val Around-T.the-type Around-L.the-laws around₀ ∷ [])) (rec₀-is : Is Record-T.the-row rec₀ (LL.val Record-T.the-type Record-L.the-laws rec₀ ∷ [])) (req : (m₀ .«name_start» + m₀ .«name_len» ≤ length table₀) × (i₀ < count tape₀) × (Run source₀ tape₀ (i₀ + 1) (linkAt tape₀ i₀))) (met : (ent 𝓤 (Con .pre (to table-at source-at tape-at)) (C #opens·is-calm vs (Con .post (to table-at source-at tape-at))))) where
+    module _ (W : Given 𝓤 H A) (C : Calls 𝓤 H) (fm : FmC 𝓤 H (W .laws) C) (m₀-is : Is MarkerInfo-T.the-row m₀ (LL.val MarkerInfo-T.the-type MarkerInfo-L.the-laws m₀ ∷ [])) (i₀-is : i₀ < 2 ^ 64) (around₀-is : Is Around-T.the-row around₀ (LL.val Around-T.the-type Around-L.the-laws around₀ ∷ [])) (req : (m₀ .«name_start» + m₀ .«name_len» ≤ length table₀) × (i₀ < count tape₀) × (Run source₀ tape₀ (i₀ + 1) (linkAt tape₀ i₀))) (met : (ent 𝓤 (Con .pre (to table-at source-at tape-at)) (C #opens·is-calm vs (Con .post (to table-at source-at tape-at))))) where
       pub called : ent 𝓤 (⋆ 𝓤 H A (‵ (HasShr u8 table-at table₀) ∷ ‵ (HasShr u8 source-at source₀) ∷ ‵ (HasShr u8 tape-at tape₀) ∷ [])) (H .⇛ (C #opens·is-calm vs (λ v. mean 𝓤 H A (After v))))
       called =
           qed W (‵ (HasShr u8 table-at table₀) ∷ ‵ (HasShr u8 source-at source₀) ∷ ‵ (HasShr u8 tape-at tape₀) ∷ []) ∵ updating ! $
@@ -132,7 +131,7 @@ module _ {M : Type 1} (𝓤 : URA M) (H : Heap 𝓤) (A : Atoms 𝓤) (at-mem : 
           move ! (4 ∷ 0 ∷ []) $
           join ! $
           nothing ! $
-          owned ! Record-T.the-row (Is Record-T.the-row) (LL.makes Record-T.the-type Record-L.the-plain 𝓤 H A) rec₀ _ rec₀-is $ fjoin ! $
+          owned ! bool (Is bool) (bool-makes 𝓤 H A W) chapter₀ _ refl $ fjoin ! $
           owned ! Around-T.the-row (Is Around-T.the-row) (LL.makes Around-T.the-type Around-L.the-plain 𝓤 H A) around₀ _ around₀-is $ fjoin ! $
           owned ! usize (Is usize) (uint-makes 𝓤 H A W w64) i₀ _ (refl, i₀-is) $ fjoin ! $
           move ! (2 ∷ 0 ∷ []) $
@@ -152,11 +151,11 @@ module _ {M : Type 1} (𝓤 : URA M) (H : Heap 𝓤) (A : Atoms 𝓤) (at-mem : 
           at-once ! $ keep ! (1 ∷ 4 ∷ 3 ∷ 2 ∷ 0 ∷ []) $
           by ! (fm #opens·is-calm vs (Con .post (to table-at source-at tape-at)) (λ v. mean 𝓤 H A (After v)) (⋆ 𝓤 H A (‵ (KeptShr u8 table-at table₀) ∷ ‵ (KeptShr u8 source-at source₀) ∷ ‵ (KeptShr u8 tape-at tape₀) ∷ ‵ ftrue ∷ [])) (λ v.
           qed W (raw (Con .post (to table-at source-at tape-at) v) ∷ ‵ (KeptShr u8 table-at table₀) ∷ ‵ (KeptShr u8 source-at source₀) ∷ ‵ (KeptShr u8 tape-at tape₀) ∷ ‵ ftrue ∷ []) ∵ updating ! $
-          use1 W (later (some (λ (r : Bool). ((‵ (flft (table-at .κ) (table-at .q)) ⊛ (‵ (flft (source-at .κ) (source-at .q)) ⊛ (‵ (flft (tape-at .κ) (tape-at .q)) ⊛ ‵ ftrue))) ⊛ ‵ (bool .own r (v ∷ []))) ⊛ raw (ensured 𝓤 H A is-calm-F.ended (is-calm-F.clauses 𝓤 H A at-mem run) (table-at .κ, (source-at .κ, (tape-at .κ, tt))) (ref table-at table₀, (m₀, (ref source-at source₀, (ref tape-at tape₀, (i₀, (around₀, (rec₀, tt))))))) tt r)))) (id⊢ 𝓤 _) $ await ! tt $ pick ! (λ r. split ! $
+          use1 W (later (some (λ (r : Bool). ((‵ (flft (table-at .κ) (table-at .q)) ⊛ (‵ (flft (source-at .κ) (source-at .q)) ⊛ (‵ (flft (tape-at .κ) (tape-at .q)) ⊛ ‵ ftrue))) ⊛ ‵ (bool .own r (v ∷ []))) ⊛ raw (ensured 𝓤 H A is-calm-F.ended (is-calm-F.clauses 𝓤 H A at-mem run) (table-at .κ, (source-at .κ, (tape-at .κ, tt))) (ref table-at table₀, (m₀, (ref source-at source₀, (ref tape-at tape₀, (i₀, (around₀, (chapter₀, tt))))))) tt r)))) (id⊢ 𝓤 _) $ await ! tt $ pick ! (λ r. split ! $
           move ! (1 ∷ []) $
-          use1 W (some (λ (ws : (Unit {0}) × ((Unit {0}) × ((Unit {0}) × ((Unit {0}) × ((Unit {0}) × ((Unit {0}) × ((Unit {0}) × Unit {0}))))))). ‵ (lasts is-calm-F.ended (table-at .κ, (source-at .κ, (tape-at .κ, tt))) (ref table-at table₀, (m₀, (ref source-at source₀, (ref tape-at tape₀, (i₀, (around₀, (rec₀, tt))))))) ws) ⊛ raw (fact 𝓤 (r ≡ calmAt table₀ source₀ tape₀ (aroundOf around₀) (entryOfInfo m₀) i₀ (rec₀ .«has_chapter»))))) (id⊢ 𝓤 _) $ pick ! (λ ws. split ! $
+          use1 W (some (λ (ws : (Unit {0}) × ((Unit {0}) × ((Unit {0}) × ((Unit {0}) × ((Unit {0}) × ((Unit {0}) × ((Unit {0}) × Unit {0}))))))). ‵ (lasts is-calm-F.ended (table-at .κ, (source-at .κ, (tape-at .κ, tt))) (ref table-at table₀, (m₀, (ref source-at source₀, (ref tape-at tape₀, (i₀, (around₀, (chapter₀, tt))))))) ws) ⊛ raw (fact 𝓤 (r ≡ calmAt table₀ source₀ tape₀ (aroundOf around₀) (entryOfInfo m₀) i₀ chapter₀)))) (id⊢ 𝓤 _) $ pick ! (λ ws. split ! $
           move ! (1 ∷ []) $
-          heard ! (r ≡ calmAt table₀ source₀ tape₀ (aroundOf around₀) (entryOfInfo m₀) i₀ (rec₀ .«has_chapter»)) (λ e.
+          heard ! (r ≡ calmAt table₀ source₀ tape₀ (aroundOf around₀) (entryOfInfo m₀) i₀ chapter₀) (λ e.
           fsplit ! $
           move ! (1 ∷ []) $
           fsplit ! $
@@ -189,13 +188,13 @@ module _ {M : Type 1} (𝓤 : URA M) (H : Heap 𝓤) (A : Atoms 𝓤) (at-mem : 
           keep ! (2 ∷ 1 ∷ 0 ∷ []) $ join ! $ join ! $ done !))))))
 
 module _ {M : Type 1} {𝓤 : URA M} {H : Heap 𝓤} {A : Atoms 𝓤} {K : Type 0} {W : Given 𝓤 H A} {Γ : List (Item 𝓤)} {E : Env 𝓤 H} {C : Calls 𝓤 H} {Λ : Loops 𝓤 H} {q : PostOf 𝓤 H} {dst : Place} {xs : List Operand} where
-  pub calls-is-calm : K → (at-mem : Memory → SProp 𝓤) (run : Routine → Fun 𝓤) → FmC 𝓤 H (W .laws) C → {rest : Body} (table-at : At) (table₀ : List ℕ) (m₀ : MarkerInfo) (source-at : At) (source₀ : List ℕ) (tape-at : At) (tape₀ : List ℕ) (i₀ : ℕ) (around₀ : Around) (rec₀ : Record) (m₀-is : Is MarkerInfo-T.the-row m₀ (LL.val MarkerInfo-T.the-type MarkerInfo-L.the-laws m₀ ∷ [])) (i₀-is : i₀ < 2 ^ 64) (around₀-is : Is Around-T.the-row around₀ (LL.val Around-T.the-type Around-L.the-laws around₀ ∷ [])) (rec₀-is : Is Record-T.the-row rec₀ (LL.val Record-T.the-type Record-L.the-laws rec₀ ∷ [])) (req : (m₀ .«name_start» + m₀ .«name_len» ≤ length table₀) × (i₀ < count tape₀) × (Run source₀ tape₀ (i₀ + 1) (linkAt tape₀ i₀))) → (ent 𝓤 (Con 𝓤 H A at-mem run .pre (to 𝓤 H A at-mem run table-at table₀ m₀ source-at source₀ tape-at tape₀ i₀ around₀ rec₀ table-at source-at tape-at)) (C #opens·is-calm (vs 𝓤 H A at-mem run table-at table₀ m₀ source-at source₀ tape-at tape₀ i₀ around₀ rec₀) (Con 𝓤 H A at-mem run .post (to 𝓤 H A at-mem run table-at table₀ m₀ source-at source₀ tape-at tape₀ i₀ around₀ rec₀ table-at source-at tape-at)))) → Opds K W (raw (C #opens·is-calm (vs 𝓤 H A at-mem run table-at table₀ m₀ source-at source₀ tape-at tape₀ i₀ around₀ rec₀) (λ v. mean 𝓤 H A (After 𝓤 H A at-mem run table-at table₀ m₀ source-at source₀ tape-at tape₀ i₀ around₀ rec₀ v))) ∷ Γ) E xs (vs 𝓤 H A at-mem run table-at table₀ m₀ source-at source₀ tape-at tape₀ i₀ around₀ rec₀)
-      → ((z : Z 𝓤 H A at-mem run table-at table₀ m₀ source-at source₀ tape-at tape₀ i₀ around₀ rec₀) → Says 𝓤 H A at-mem run table-at table₀ m₀ source-at source₀ tape-at tape₀ i₀ around₀ rec₀ (vbool (z .0) ∷ []) z → Seq K W (‵ (HasShr u8 table-at table₀) ∷ ‵ (HasShr u8 source-at source₀) ∷ ‵ (HasShr u8 tape-at tape₀) ∷ Γ) (lands C Λ E dst (vbool (z .0)) rest q)) → Seq K W (‵ (HasShr u8 table-at table₀) ∷ ‵ (HasShr u8 source-at source₀) ∷ ‵ (HasShr u8 tape-at tape₀) ∷ Γ) (runs C Λ E (seq (call #opens·is-calm xs dst) rest) q)
-  calls-is-calm t at-mem run fm {rest} table-at table₀ m₀ source-at source₀ tape-at tape₀ i₀ around₀ rec₀ m₀-is i₀-is around₀-is rec₀-is req met os k =
-      cut (‵ (HasShr u8 table-at table₀) ∷ ‵ (HasShr u8 source-at source₀) ∷ ‵ (HasShr u8 tape-at tape₀) ∷ []) (later (raw (C #opens·is-calm (vs 𝓤 H A at-mem run table-at table₀ m₀ source-at source₀ tape-at tape₀ i₀ around₀ rec₀) (λ v. mean 𝓤 H A (After 𝓤 H A at-mem run table-at table₀ m₀ source-at source₀ tape-at tape₀ i₀ around₀ rec₀ v)))) ∷ []) Γ (called 𝓤 H A at-mem run table-at table₀ m₀ source-at source₀ tape-at tape₀ i₀ around₀ rec₀ W C fm m₀-is i₀-is around₀-is rec₀-is req met) $ await t tt $ calls t fm (After 𝓤 H A at-mem run table-at table₀ m₀ source-at source₀ tape-at tape₀ i₀ around₀ rec₀) os (λ v. await t tt $ pick t (λ z. learn t (λ s. split t $ split t $ subst (λ (u : Val). Seq K W (‵ (HasShr u8 table-at table₀) ∷ ‵ (HasShr u8 source-at source₀) ∷ ‵ (HasShr u8 tape-at tape₀) ∷ Γ) (lands C Λ E dst u rest q)) (sym (ap only (bool-tells (z .0) (v ∷ []) (s .0)))) (k z (subst (Is bool (z .0)) (bool-tells (z .0) (v ∷ []) (s .0)) (s .0), s .1)))))
+  pub calls-is-calm : K → (at-mem : Memory → SProp 𝓤) (run : Routine → Fun 𝓤) → FmC 𝓤 H (W .laws) C → {rest : Body} (table-at : At) (table₀ : List ℕ) (m₀ : MarkerInfo) (source-at : At) (source₀ : List ℕ) (tape-at : At) (tape₀ : List ℕ) (i₀ : ℕ) (around₀ : Around) (chapter₀ : Bool) (m₀-is : Is MarkerInfo-T.the-row m₀ (LL.val MarkerInfo-T.the-type MarkerInfo-L.the-laws m₀ ∷ [])) (i₀-is : i₀ < 2 ^ 64) (around₀-is : Is Around-T.the-row around₀ (LL.val Around-T.the-type Around-L.the-laws around₀ ∷ [])) (req : (m₀ .«name_start» + m₀ .«name_len» ≤ length table₀) × (i₀ < count tape₀) × (Run source₀ tape₀ (i₀ + 1) (linkAt tape₀ i₀))) → (ent 𝓤 (Con 𝓤 H A at-mem run .pre (to 𝓤 H A at-mem run table-at table₀ m₀ source-at source₀ tape-at tape₀ i₀ around₀ chapter₀ table-at source-at tape-at)) (C #opens·is-calm (vs 𝓤 H A at-mem run table-at table₀ m₀ source-at source₀ tape-at tape₀ i₀ around₀ chapter₀) (Con 𝓤 H A at-mem run .post (to 𝓤 H A at-mem run table-at table₀ m₀ source-at source₀ tape-at tape₀ i₀ around₀ chapter₀ table-at source-at tape-at)))) → Opds K W (raw (C #opens·is-calm (vs 𝓤 H A at-mem run table-at table₀ m₀ source-at source₀ tape-at tape₀ i₀ around₀ chapter₀) (λ v. mean 𝓤 H A (After 𝓤 H A at-mem run table-at table₀ m₀ source-at source₀ tape-at tape₀ i₀ around₀ chapter₀ v))) ∷ Γ) E xs (vs 𝓤 H A at-mem run table-at table₀ m₀ source-at source₀ tape-at tape₀ i₀ around₀ chapter₀)
+      → ((z : Z 𝓤 H A at-mem run table-at table₀ m₀ source-at source₀ tape-at tape₀ i₀ around₀ chapter₀) → Says 𝓤 H A at-mem run table-at table₀ m₀ source-at source₀ tape-at tape₀ i₀ around₀ chapter₀ (vbool (z .0) ∷ []) z → Seq K W (‵ (HasShr u8 table-at table₀) ∷ ‵ (HasShr u8 source-at source₀) ∷ ‵ (HasShr u8 tape-at tape₀) ∷ Γ) (lands C Λ E dst (vbool (z .0)) rest q)) → Seq K W (‵ (HasShr u8 table-at table₀) ∷ ‵ (HasShr u8 source-at source₀) ∷ ‵ (HasShr u8 tape-at tape₀) ∷ Γ) (runs C Λ E (seq (call #opens·is-calm xs dst) rest) q)
+  calls-is-calm t at-mem run fm {rest} table-at table₀ m₀ source-at source₀ tape-at tape₀ i₀ around₀ chapter₀ m₀-is i₀-is around₀-is req met os k =
+      cut (‵ (HasShr u8 table-at table₀) ∷ ‵ (HasShr u8 source-at source₀) ∷ ‵ (HasShr u8 tape-at tape₀) ∷ []) (later (raw (C #opens·is-calm (vs 𝓤 H A at-mem run table-at table₀ m₀ source-at source₀ tape-at tape₀ i₀ around₀ chapter₀) (λ v. mean 𝓤 H A (After 𝓤 H A at-mem run table-at table₀ m₀ source-at source₀ tape-at tape₀ i₀ around₀ chapter₀ v)))) ∷ []) Γ (called 𝓤 H A at-mem run table-at table₀ m₀ source-at source₀ tape-at tape₀ i₀ around₀ chapter₀ W C fm m₀-is i₀-is around₀-is req met) $ await t tt $ calls t fm (After 𝓤 H A at-mem run table-at table₀ m₀ source-at source₀ tape-at tape₀ i₀ around₀ chapter₀) os (λ v. await t tt $ pick t (λ z. learn t (λ s. split t $ split t $ subst (λ (u : Val). Seq K W (‵ (HasShr u8 table-at table₀) ∷ ‵ (HasShr u8 source-at source₀) ∷ ‵ (HasShr u8 tape-at tape₀) ∷ Γ) (lands C Λ E dst u rest q)) (sym (ap only (bool-tells (z .0) (v ∷ []) (s .0)))) (k z (subst (Is bool (z .0)) (bool-tells (z .0) (v ∷ []) (s .0)) (s .0), s .1)))))
 
 module _ {M : Type 1} {𝓤 : URA M} {H : Heap 𝓤} {A : Atoms 𝓤} {K : Type 0} {W : Given 𝓤 H A} {Γ : List (Item 𝓤)} {E : Env 𝓤 H} {C : Calls 𝓤 H} {Λ : Loops 𝓤 H} {q : PostOf 𝓤 H} {dst : Place} {xs : List Operand} where
-  pub calls-is-calm-last : K → (at-mem : Memory → SProp 𝓤) (run : Routine → Fun 𝓤) → FmC 𝓤 H (W .laws) C → (table-at : At) (table₀ : List ℕ) (m₀ : MarkerInfo) (source-at : At) (source₀ : List ℕ) (tape-at : At) (tape₀ : List ℕ) (i₀ : ℕ) (around₀ : Around) (rec₀ : Record) (m₀-is : Is MarkerInfo-T.the-row m₀ (LL.val MarkerInfo-T.the-type MarkerInfo-L.the-laws m₀ ∷ [])) (i₀-is : i₀ < 2 ^ 64) (around₀-is : Is Around-T.the-row around₀ (LL.val Around-T.the-type Around-L.the-laws around₀ ∷ [])) (rec₀-is : Is Record-T.the-row rec₀ (LL.val Record-T.the-type Record-L.the-laws rec₀ ∷ [])) (req : (m₀ .«name_start» + m₀ .«name_len» ≤ length table₀) × (i₀ < count tape₀) × (Run source₀ tape₀ (i₀ + 1) (linkAt tape₀ i₀))) → (ent 𝓤 (Con 𝓤 H A at-mem run .pre (to 𝓤 H A at-mem run table-at table₀ m₀ source-at source₀ tape-at tape₀ i₀ around₀ rec₀ table-at source-at tape-at)) (C #opens·is-calm (vs 𝓤 H A at-mem run table-at table₀ m₀ source-at source₀ tape-at tape₀ i₀ around₀ rec₀) (Con 𝓤 H A at-mem run .post (to 𝓤 H A at-mem run table-at table₀ m₀ source-at source₀ tape-at tape₀ i₀ around₀ rec₀ table-at source-at tape-at)))) → Opds K W (raw (C #opens·is-calm (vs 𝓤 H A at-mem run table-at table₀ m₀ source-at source₀ tape-at tape₀ i₀ around₀ rec₀) (λ v. mean 𝓤 H A (After 𝓤 H A at-mem run table-at table₀ m₀ source-at source₀ tape-at tape₀ i₀ around₀ rec₀ v))) ∷ Γ) E xs (vs 𝓤 H A at-mem run table-at table₀ m₀ source-at source₀ tape-at tape₀ i₀ around₀ rec₀)
-      → ((z : Z 𝓤 H A at-mem run table-at table₀ m₀ source-at source₀ tape-at tape₀ i₀ around₀ rec₀) → Says 𝓤 H A at-mem run table-at table₀ m₀ source-at source₀ tape-at tape₀ i₀ around₀ rec₀ (vbool (z .0) ∷ []) z → Seq K W (‵ (HasShr u8 table-at table₀) ∷ ‵ (HasShr u8 source-at source₀) ∷ ‵ (HasShr u8 tape-at tape₀) ∷ Γ) (settles E dst (vbool (z .0)) q)) → Seq K W (‵ (HasShr u8 table-at table₀) ∷ ‵ (HasShr u8 source-at source₀) ∷ ‵ (HasShr u8 tape-at tape₀) ∷ Γ) (runs C Λ E (call #opens·is-calm xs dst) q)
-  calls-is-calm-last t at-mem run fm table-at table₀ m₀ source-at source₀ tape-at tape₀ i₀ around₀ rec₀ m₀-is i₀-is around₀-is rec₀-is req met os k =
-      cut (‵ (HasShr u8 table-at table₀) ∷ ‵ (HasShr u8 source-at source₀) ∷ ‵ (HasShr u8 tape-at tape₀) ∷ []) (later (raw (C #opens·is-calm (vs 𝓤 H A at-mem run table-at table₀ m₀ source-at source₀ tape-at tape₀ i₀ around₀ rec₀) (λ v. mean 𝓤 H A (After 𝓤 H A at-mem run table-at table₀ m₀ source-at source₀ tape-at tape₀ i₀ around₀ rec₀ v)))) ∷ []) Γ (called 𝓤 H A at-mem run table-at table₀ m₀ source-at source₀ tape-at tape₀ i₀ around₀ rec₀ W C fm m₀-is i₀-is around₀-is rec₀-is req met) $ await t tt $ calls-last t fm (After 𝓤 H A at-mem run table-at table₀ m₀ source-at source₀ tape-at tape₀ i₀ around₀ rec₀) os (λ v. await t tt $ pick t (λ z. learn t (λ s. split t $ split t $ subst (λ (u : Val). Seq K W (‵ (HasShr u8 table-at table₀) ∷ ‵ (HasShr u8 source-at source₀) ∷ ‵ (HasShr u8 tape-at tape₀) ∷ Γ) (settles E dst u q)) (sym (ap only (bool-tells (z .0) (v ∷ []) (s .0)))) (k z (subst (Is bool (z .0)) (bool-tells (z .0) (v ∷ []) (s .0)) (s .0), s .1)))))
+  pub calls-is-calm-last : K → (at-mem : Memory → SProp 𝓤) (run : Routine → Fun 𝓤) → FmC 𝓤 H (W .laws) C → (table-at : At) (table₀ : List ℕ) (m₀ : MarkerInfo) (source-at : At) (source₀ : List ℕ) (tape-at : At) (tape₀ : List ℕ) (i₀ : ℕ) (around₀ : Around) (chapter₀ : Bool) (m₀-is : Is MarkerInfo-T.the-row m₀ (LL.val MarkerInfo-T.the-type MarkerInfo-L.the-laws m₀ ∷ [])) (i₀-is : i₀ < 2 ^ 64) (around₀-is : Is Around-T.the-row around₀ (LL.val Around-T.the-type Around-L.the-laws around₀ ∷ [])) (req : (m₀ .«name_start» + m₀ .«name_len» ≤ length table₀) × (i₀ < count tape₀) × (Run source₀ tape₀ (i₀ + 1) (linkAt tape₀ i₀))) → (ent 𝓤 (Con 𝓤 H A at-mem run .pre (to 𝓤 H A at-mem run table-at table₀ m₀ source-at source₀ tape-at tape₀ i₀ around₀ chapter₀ table-at source-at tape-at)) (C #opens·is-calm (vs 𝓤 H A at-mem run table-at table₀ m₀ source-at source₀ tape-at tape₀ i₀ around₀ chapter₀) (Con 𝓤 H A at-mem run .post (to 𝓤 H A at-mem run table-at table₀ m₀ source-at source₀ tape-at tape₀ i₀ around₀ chapter₀ table-at source-at tape-at)))) → Opds K W (raw (C #opens·is-calm (vs 𝓤 H A at-mem run table-at table₀ m₀ source-at source₀ tape-at tape₀ i₀ around₀ chapter₀) (λ v. mean 𝓤 H A (After 𝓤 H A at-mem run table-at table₀ m₀ source-at source₀ tape-at tape₀ i₀ around₀ chapter₀ v))) ∷ Γ) E xs (vs 𝓤 H A at-mem run table-at table₀ m₀ source-at source₀ tape-at tape₀ i₀ around₀ chapter₀)
+      → ((z : Z 𝓤 H A at-mem run table-at table₀ m₀ source-at source₀ tape-at tape₀ i₀ around₀ chapter₀) → Says 𝓤 H A at-mem run table-at table₀ m₀ source-at source₀ tape-at tape₀ i₀ around₀ chapter₀ (vbool (z .0) ∷ []) z → Seq K W (‵ (HasShr u8 table-at table₀) ∷ ‵ (HasShr u8 source-at source₀) ∷ ‵ (HasShr u8 tape-at tape₀) ∷ Γ) (settles E dst (vbool (z .0)) q)) → Seq K W (‵ (HasShr u8 table-at table₀) ∷ ‵ (HasShr u8 source-at source₀) ∷ ‵ (HasShr u8 tape-at tape₀) ∷ Γ) (runs C Λ E (call #opens·is-calm xs dst) q)
+  calls-is-calm-last t at-mem run fm table-at table₀ m₀ source-at source₀ tape-at tape₀ i₀ around₀ chapter₀ m₀-is i₀-is around₀-is req met os k =
+      cut (‵ (HasShr u8 table-at table₀) ∷ ‵ (HasShr u8 source-at source₀) ∷ ‵ (HasShr u8 tape-at tape₀) ∷ []) (later (raw (C #opens·is-calm (vs 𝓤 H A at-mem run table-at table₀ m₀ source-at source₀ tape-at tape₀ i₀ around₀ chapter₀) (λ v. mean 𝓤 H A (After 𝓤 H A at-mem run table-at table₀ m₀ source-at source₀ tape-at tape₀ i₀ around₀ chapter₀ v)))) ∷ []) Γ (called 𝓤 H A at-mem run table-at table₀ m₀ source-at source₀ tape-at tape₀ i₀ around₀ chapter₀ W C fm m₀-is i₀-is around₀-is req met) $ await t tt $ calls-last t fm (After 𝓤 H A at-mem run table-at table₀ m₀ source-at source₀ tape-at tape₀ i₀ around₀ chapter₀) os (λ v. await t tt $ pick t (λ z. learn t (λ s. split t $ split t $ subst (λ (u : Val). Seq K W (‵ (HasShr u8 table-at table₀) ∷ ‵ (HasShr u8 source-at source₀) ∷ ‵ (HasShr u8 tape-at tape₀) ∷ Γ) (settles E dst u q)) (sym (ap only (bool-tells (z .0) (v ∷ []) (s .0)))) (k z (subst (Is bool (z .0)) (bool-tells (z .0) (v ∷ []) (s .0)) (s .0), s .1)))))

@@ -52,7 +52,6 @@ use Rattle.references.proofs.Hand.{At, lent as relent, ptrVal, fatVal, ref, Has
 use Rattle.attachment.specs.declared.Attached.{Attached}
 use Rattle.attachment.proofs.Attached as Attached-T
 use Rattle.attachment.proofs.Attached.Laws as Attached-L
-use Rattle.attachment.specs.declared.Attached.the-variants as Attached-V
 use Rattle.running.specs.declared.Record.{Record}
 use Rattle.running.proofs.Record as Record-T
 use Rattle.running.proofs.Record.Laws as Record-L
@@ -95,7 +94,7 @@ module _ {M : Type 1} (𝓤 : URA M) (H : Heap 𝓤) (A : Atoms 𝓤) (at-mem : 
 
   module _ (source-at : At) (source₀ : List ℕ) (tape-at : At) (tape₀ : List ℕ) (i₀ : ℕ) (next₀ : ℕ) (to₀ : ℕ) (numbers₀ : Attached) where
     abbrev pub vs : List Val
-    vs = fatVal source-at ∷ fatVal tape-at ∷ vint w64 i₀ ∷ vint w64 next₀ ∷ vint w64 to₀ ∷ EL.val Attached-T.the-type Attached-L.the-laws numbers₀ ∷ []
+    vs = fatVal source-at ∷ fatVal tape-at ∷ vint w64 i₀ ∷ vint w64 next₀ ∷ vint w64 to₀ ∷ LL.val Attached-T.the-type Attached-L.the-laws numbers₀ ∷ []
 
     abbrev pub Z : Type 0
     Z = Attached × Unit {0}
@@ -107,9 +106,9 @@ module _ {M : Type 1} (𝓤 : URA M) (H : Heap 𝓤) (A : Atoms 𝓤) (at-mem : 
     After v = later (some (λ (z : Z). given (Says (v ∷ []) z) (‵ (HasShr u8 source-at source₀) ⊛ ‵ (HasShr u8 tape-at tape₀))))
 
     abbrev pub to : At → At → Con .Ghost
-    to source-at′ tape-at′ = (((source-at′ .κ, (tape-at′ .κ, tt)), (source-at′ .q, (tape-at′ .q, tt)), tt, (ref source-at′ source₀, (ref tape-at′ tape₀, (i₀, (next₀, (to₀, (numbers₀, tt)))))), (fatVal source-at′ ∷ [], (fatVal tape-at′ ∷ [], (vint w64 i₀ ∷ [], (vint w64 next₀ ∷ [], (vint w64 to₀ ∷ [], (EL.val Attached-T.the-type Attached-L.the-laws numbers₀ ∷ [], tt))))))), tt)
+    to source-at′ tape-at′ = (((source-at′ .κ, (tape-at′ .κ, tt)), (source-at′ .q, (tape-at′ .q, tt)), tt, (ref source-at′ source₀, (ref tape-at′ tape₀, (i₀, (next₀, (to₀, (numbers₀, tt)))))), (fatVal source-at′ ∷ [], (fatVal tape-at′ ∷ [], (vint w64 i₀ ∷ [], (vint w64 next₀ ∷ [], (vint w64 to₀ ∷ [], (LL.val Attached-T.the-type Attached-L.the-laws numbers₀ ∷ [], tt))))))), tt)
 
-    module _ (W : Given 𝓤 H A) (C : Calls 𝓤 H) (fm : FmC 𝓤 H (W .laws) C) (i₀-is : i₀ < 2 ^ 64) (next₀-is : next₀ < 2 ^ 64) (to₀-is : to₀ < 2 ^ 64) (numbers₀-is : Is Attached-T.the-row numbers₀ (EL.val Attached-T.the-type Attached-L.the-laws numbers₀ ∷ [])) (req : (i₀ < nodes tape₀) × (Run source₀ tape₀ next₀ to₀)) (met : (ent 𝓤 (Con .pre (to source-at tape-at)) (C #checker·numbers-after vs (Con .post (to source-at tape-at))))) where
+    module _ (W : Given 𝓤 H A) (C : Calls 𝓤 H) (fm : FmC 𝓤 H (W .laws) C) (i₀-is : i₀ < 2 ^ 64) (next₀-is : next₀ < 2 ^ 64) (to₀-is : to₀ < 2 ^ 64) (numbers₀-is : Is Attached-T.the-row numbers₀ (LL.val Attached-T.the-type Attached-L.the-laws numbers₀ ∷ [])) (req : (i₀ < nodes tape₀) × (Run source₀ tape₀ next₀ to₀)) (met : (ent 𝓤 (Con .pre (to source-at tape-at)) (C #checker·numbers-after vs (Con .post (to source-at tape-at))))) where
       pub called : ent 𝓤 (⋆ 𝓤 H A (‵ (HasShr u8 source-at source₀) ∷ ‵ (HasShr u8 tape-at tape₀) ∷ [])) (H .⇛ (C #checker·numbers-after vs (λ v. mean 𝓤 H A (After v))))
       called =
           qed W (‵ (HasShr u8 source-at source₀) ∷ ‵ (HasShr u8 tape-at tape₀) ∷ []) ∵ updating ! $
@@ -126,7 +125,7 @@ module _ {M : Type 1} (𝓤 : URA M) (H : Heap 𝓤) (A : Atoms 𝓤) (at-mem : 
           move ! (3 ∷ 0 ∷ []) $
           join ! $
           nothing ! $
-          owned ! Attached-T.the-row (Is Attached-T.the-row) (EL.makes Attached-T.the-type Attached-L.the-plain 𝓤 H A) numbers₀ _ numbers₀-is $ fjoin ! $
+          owned ! Attached-T.the-row (Is Attached-T.the-row) (LL.makes Attached-T.the-type Attached-L.the-plain 𝓤 H A) numbers₀ _ numbers₀-is $ fjoin ! $
           owned ! usize (Is usize) (uint-makes 𝓤 H A W w64) to₀ _ (refl, to₀-is) $ fjoin ! $
           owned ! usize (Is usize) (uint-makes 𝓤 H A W w64) next₀ _ (refl, next₀-is) $ fjoin ! $
           owned ! usize (Is usize) (uint-makes 𝓤 H A W w64) i₀ _ (refl, i₀-is) $ fjoin ! $
@@ -175,13 +174,13 @@ module _ {M : Type 1} (𝓤 : URA M) (H : Heap 𝓤) (A : Atoms 𝓤) (at-mem : 
           keep ! (1 ∷ 0 ∷ []) $ join ! $ done !))))))
 
 module _ {M : Type 1} {𝓤 : URA M} {H : Heap 𝓤} {A : Atoms 𝓤} {K : Type 0} {W : Given 𝓤 H A} {Γ : List (Item 𝓤)} {E : Env 𝓤 H} {C : Calls 𝓤 H} {Λ : Loops 𝓤 H} {q : PostOf 𝓤 H} {dst : Place} {xs : List Operand} where
-  pub calls-numbers-after : K → (at-mem : Memory → SProp 𝓤) (run : Routine → Fun 𝓤) → FmC 𝓤 H (W .laws) C → {rest : Body} (source-at : At) (source₀ : List ℕ) (tape-at : At) (tape₀ : List ℕ) (i₀ : ℕ) (next₀ : ℕ) (to₀ : ℕ) (numbers₀ : Attached) (i₀-is : i₀ < 2 ^ 64) (next₀-is : next₀ < 2 ^ 64) (to₀-is : to₀ < 2 ^ 64) (numbers₀-is : Is Attached-T.the-row numbers₀ (EL.val Attached-T.the-type Attached-L.the-laws numbers₀ ∷ [])) (req : (i₀ < nodes tape₀) × (Run source₀ tape₀ next₀ to₀)) → (ent 𝓤 (Con 𝓤 H A at-mem run .pre (to 𝓤 H A at-mem run source-at source₀ tape-at tape₀ i₀ next₀ to₀ numbers₀ source-at tape-at)) (C #checker·numbers-after (vs 𝓤 H A at-mem run source-at source₀ tape-at tape₀ i₀ next₀ to₀ numbers₀) (Con 𝓤 H A at-mem run .post (to 𝓤 H A at-mem run source-at source₀ tape-at tape₀ i₀ next₀ to₀ numbers₀ source-at tape-at)))) → Opds K W (raw (C #checker·numbers-after (vs 𝓤 H A at-mem run source-at source₀ tape-at tape₀ i₀ next₀ to₀ numbers₀) (λ v. mean 𝓤 H A (After 𝓤 H A at-mem run source-at source₀ tape-at tape₀ i₀ next₀ to₀ numbers₀ v))) ∷ Γ) E xs (vs 𝓤 H A at-mem run source-at source₀ tape-at tape₀ i₀ next₀ to₀ numbers₀)
-      → ((z : Z 𝓤 H A at-mem run source-at source₀ tape-at tape₀ i₀ next₀ to₀ numbers₀) → Says 𝓤 H A at-mem run source-at source₀ tape-at tape₀ i₀ next₀ to₀ numbers₀ (EL.val Attached-T.the-type Attached-L.the-laws (z .0) ∷ []) z → Seq K W (‵ (HasShr u8 source-at source₀) ∷ ‵ (HasShr u8 tape-at tape₀) ∷ Γ) (lands C Λ E dst (EL.val Attached-T.the-type Attached-L.the-laws (z .0)) rest q)) → Seq K W (‵ (HasShr u8 source-at source₀) ∷ ‵ (HasShr u8 tape-at tape₀) ∷ Γ) (runs C Λ E (seq (call #checker·numbers-after xs dst) rest) q)
+  pub calls-numbers-after : K → (at-mem : Memory → SProp 𝓤) (run : Routine → Fun 𝓤) → FmC 𝓤 H (W .laws) C → {rest : Body} (source-at : At) (source₀ : List ℕ) (tape-at : At) (tape₀ : List ℕ) (i₀ : ℕ) (next₀ : ℕ) (to₀ : ℕ) (numbers₀ : Attached) (i₀-is : i₀ < 2 ^ 64) (next₀-is : next₀ < 2 ^ 64) (to₀-is : to₀ < 2 ^ 64) (numbers₀-is : Is Attached-T.the-row numbers₀ (LL.val Attached-T.the-type Attached-L.the-laws numbers₀ ∷ [])) (req : (i₀ < nodes tape₀) × (Run source₀ tape₀ next₀ to₀)) → (ent 𝓤 (Con 𝓤 H A at-mem run .pre (to 𝓤 H A at-mem run source-at source₀ tape-at tape₀ i₀ next₀ to₀ numbers₀ source-at tape-at)) (C #checker·numbers-after (vs 𝓤 H A at-mem run source-at source₀ tape-at tape₀ i₀ next₀ to₀ numbers₀) (Con 𝓤 H A at-mem run .post (to 𝓤 H A at-mem run source-at source₀ tape-at tape₀ i₀ next₀ to₀ numbers₀ source-at tape-at)))) → Opds K W (raw (C #checker·numbers-after (vs 𝓤 H A at-mem run source-at source₀ tape-at tape₀ i₀ next₀ to₀ numbers₀) (λ v. mean 𝓤 H A (After 𝓤 H A at-mem run source-at source₀ tape-at tape₀ i₀ next₀ to₀ numbers₀ v))) ∷ Γ) E xs (vs 𝓤 H A at-mem run source-at source₀ tape-at tape₀ i₀ next₀ to₀ numbers₀)
+      → ((z : Z 𝓤 H A at-mem run source-at source₀ tape-at tape₀ i₀ next₀ to₀ numbers₀) → Says 𝓤 H A at-mem run source-at source₀ tape-at tape₀ i₀ next₀ to₀ numbers₀ (LL.val Attached-T.the-type Attached-L.the-laws (z .0) ∷ []) z → Seq K W (‵ (HasShr u8 source-at source₀) ∷ ‵ (HasShr u8 tape-at tape₀) ∷ Γ) (lands C Λ E dst (LL.val Attached-T.the-type Attached-L.the-laws (z .0)) rest q)) → Seq K W (‵ (HasShr u8 source-at source₀) ∷ ‵ (HasShr u8 tape-at tape₀) ∷ Γ) (runs C Λ E (seq (call #checker·numbers-after xs dst) rest) q)
   calls-numbers-after t at-mem run fm {rest} source-at source₀ tape-at tape₀ i₀ next₀ to₀ numbers₀ i₀-is next₀-is to₀-is numbers₀-is req met os k =
-      cut (‵ (HasShr u8 source-at source₀) ∷ ‵ (HasShr u8 tape-at tape₀) ∷ []) (later (raw (C #checker·numbers-after (vs 𝓤 H A at-mem run source-at source₀ tape-at tape₀ i₀ next₀ to₀ numbers₀) (λ v. mean 𝓤 H A (After 𝓤 H A at-mem run source-at source₀ tape-at tape₀ i₀ next₀ to₀ numbers₀ v)))) ∷ []) Γ (called 𝓤 H A at-mem run source-at source₀ tape-at tape₀ i₀ next₀ to₀ numbers₀ W C fm i₀-is next₀-is to₀-is numbers₀-is req met) $ await t tt $ calls t fm (After 𝓤 H A at-mem run source-at source₀ tape-at tape₀ i₀ next₀ to₀ numbers₀) os (λ v. await t tt $ pick t (λ z. learn t (λ s. split t $ subst (λ (u : Val). Seq K W (‵ (HasShr u8 source-at source₀) ∷ ‵ (HasShr u8 tape-at tape₀) ∷ Γ) (lands C Λ E dst u rest q)) (sym (ap only ((EL.tells Attached-T.the-type Attached-L.the-laws) (z .0) (v ∷ []) (s .0)))) (k z (subst (Is Attached-T.the-row (z .0)) ((EL.tells Attached-T.the-type Attached-L.the-laws) (z .0) (v ∷ []) (s .0)) (s .0), s .1)))))
+      cut (‵ (HasShr u8 source-at source₀) ∷ ‵ (HasShr u8 tape-at tape₀) ∷ []) (later (raw (C #checker·numbers-after (vs 𝓤 H A at-mem run source-at source₀ tape-at tape₀ i₀ next₀ to₀ numbers₀) (λ v. mean 𝓤 H A (After 𝓤 H A at-mem run source-at source₀ tape-at tape₀ i₀ next₀ to₀ numbers₀ v)))) ∷ []) Γ (called 𝓤 H A at-mem run source-at source₀ tape-at tape₀ i₀ next₀ to₀ numbers₀ W C fm i₀-is next₀-is to₀-is numbers₀-is req met) $ await t tt $ calls t fm (After 𝓤 H A at-mem run source-at source₀ tape-at tape₀ i₀ next₀ to₀ numbers₀) os (λ v. await t tt $ pick t (λ z. learn t (λ s. split t $ subst (λ (u : Val). Seq K W (‵ (HasShr u8 source-at source₀) ∷ ‵ (HasShr u8 tape-at tape₀) ∷ Γ) (lands C Λ E dst u rest q)) (sym (ap only ((LL.tells Attached-T.the-type Attached-L.the-laws) (z .0) (v ∷ []) (s .0)))) (k z (subst (Is Attached-T.the-row (z .0)) ((LL.tells Attached-T.the-type Attached-L.the-laws) (z .0) (v ∷ []) (s .0)) (s .0), s .1)))))
 
 module _ {M : Type 1} {𝓤 : URA M} {H : Heap 𝓤} {A : Atoms 𝓤} {K : Type 0} {W : Given 𝓤 H A} {Γ : List (Item 𝓤)} {E : Env 𝓤 H} {C : Calls 𝓤 H} {Λ : Loops 𝓤 H} {q : PostOf 𝓤 H} {dst : Place} {xs : List Operand} where
-  pub calls-numbers-after-last : K → (at-mem : Memory → SProp 𝓤) (run : Routine → Fun 𝓤) → FmC 𝓤 H (W .laws) C → (source-at : At) (source₀ : List ℕ) (tape-at : At) (tape₀ : List ℕ) (i₀ : ℕ) (next₀ : ℕ) (to₀ : ℕ) (numbers₀ : Attached) (i₀-is : i₀ < 2 ^ 64) (next₀-is : next₀ < 2 ^ 64) (to₀-is : to₀ < 2 ^ 64) (numbers₀-is : Is Attached-T.the-row numbers₀ (EL.val Attached-T.the-type Attached-L.the-laws numbers₀ ∷ [])) (req : (i₀ < nodes tape₀) × (Run source₀ tape₀ next₀ to₀)) → (ent 𝓤 (Con 𝓤 H A at-mem run .pre (to 𝓤 H A at-mem run source-at source₀ tape-at tape₀ i₀ next₀ to₀ numbers₀ source-at tape-at)) (C #checker·numbers-after (vs 𝓤 H A at-mem run source-at source₀ tape-at tape₀ i₀ next₀ to₀ numbers₀) (Con 𝓤 H A at-mem run .post (to 𝓤 H A at-mem run source-at source₀ tape-at tape₀ i₀ next₀ to₀ numbers₀ source-at tape-at)))) → Opds K W (raw (C #checker·numbers-after (vs 𝓤 H A at-mem run source-at source₀ tape-at tape₀ i₀ next₀ to₀ numbers₀) (λ v. mean 𝓤 H A (After 𝓤 H A at-mem run source-at source₀ tape-at tape₀ i₀ next₀ to₀ numbers₀ v))) ∷ Γ) E xs (vs 𝓤 H A at-mem run source-at source₀ tape-at tape₀ i₀ next₀ to₀ numbers₀)
-      → ((z : Z 𝓤 H A at-mem run source-at source₀ tape-at tape₀ i₀ next₀ to₀ numbers₀) → Says 𝓤 H A at-mem run source-at source₀ tape-at tape₀ i₀ next₀ to₀ numbers₀ (EL.val Attached-T.the-type Attached-L.the-laws (z .0) ∷ []) z → Seq K W (‵ (HasShr u8 source-at source₀) ∷ ‵ (HasShr u8 tape-at tape₀) ∷ Γ) (settles E dst (EL.val Attached-T.the-type Attached-L.the-laws (z .0)) q)) → Seq K W (‵ (HasShr u8 source-at source₀) ∷ ‵ (HasShr u8 tape-at tape₀) ∷ Γ) (runs C Λ E (call #checker·numbers-after xs dst) q)
+  pub calls-numbers-after-last : K → (at-mem : Memory → SProp 𝓤) (run : Routine → Fun 𝓤) → FmC 𝓤 H (W .laws) C → (source-at : At) (source₀ : List ℕ) (tape-at : At) (tape₀ : List ℕ) (i₀ : ℕ) (next₀ : ℕ) (to₀ : ℕ) (numbers₀ : Attached) (i₀-is : i₀ < 2 ^ 64) (next₀-is : next₀ < 2 ^ 64) (to₀-is : to₀ < 2 ^ 64) (numbers₀-is : Is Attached-T.the-row numbers₀ (LL.val Attached-T.the-type Attached-L.the-laws numbers₀ ∷ [])) (req : (i₀ < nodes tape₀) × (Run source₀ tape₀ next₀ to₀)) → (ent 𝓤 (Con 𝓤 H A at-mem run .pre (to 𝓤 H A at-mem run source-at source₀ tape-at tape₀ i₀ next₀ to₀ numbers₀ source-at tape-at)) (C #checker·numbers-after (vs 𝓤 H A at-mem run source-at source₀ tape-at tape₀ i₀ next₀ to₀ numbers₀) (Con 𝓤 H A at-mem run .post (to 𝓤 H A at-mem run source-at source₀ tape-at tape₀ i₀ next₀ to₀ numbers₀ source-at tape-at)))) → Opds K W (raw (C #checker·numbers-after (vs 𝓤 H A at-mem run source-at source₀ tape-at tape₀ i₀ next₀ to₀ numbers₀) (λ v. mean 𝓤 H A (After 𝓤 H A at-mem run source-at source₀ tape-at tape₀ i₀ next₀ to₀ numbers₀ v))) ∷ Γ) E xs (vs 𝓤 H A at-mem run source-at source₀ tape-at tape₀ i₀ next₀ to₀ numbers₀)
+      → ((z : Z 𝓤 H A at-mem run source-at source₀ tape-at tape₀ i₀ next₀ to₀ numbers₀) → Says 𝓤 H A at-mem run source-at source₀ tape-at tape₀ i₀ next₀ to₀ numbers₀ (LL.val Attached-T.the-type Attached-L.the-laws (z .0) ∷ []) z → Seq K W (‵ (HasShr u8 source-at source₀) ∷ ‵ (HasShr u8 tape-at tape₀) ∷ Γ) (settles E dst (LL.val Attached-T.the-type Attached-L.the-laws (z .0)) q)) → Seq K W (‵ (HasShr u8 source-at source₀) ∷ ‵ (HasShr u8 tape-at tape₀) ∷ Γ) (runs C Λ E (call #checker·numbers-after xs dst) q)
   calls-numbers-after-last t at-mem run fm source-at source₀ tape-at tape₀ i₀ next₀ to₀ numbers₀ i₀-is next₀-is to₀-is numbers₀-is req met os k =
-      cut (‵ (HasShr u8 source-at source₀) ∷ ‵ (HasShr u8 tape-at tape₀) ∷ []) (later (raw (C #checker·numbers-after (vs 𝓤 H A at-mem run source-at source₀ tape-at tape₀ i₀ next₀ to₀ numbers₀) (λ v. mean 𝓤 H A (After 𝓤 H A at-mem run source-at source₀ tape-at tape₀ i₀ next₀ to₀ numbers₀ v)))) ∷ []) Γ (called 𝓤 H A at-mem run source-at source₀ tape-at tape₀ i₀ next₀ to₀ numbers₀ W C fm i₀-is next₀-is to₀-is numbers₀-is req met) $ await t tt $ calls-last t fm (After 𝓤 H A at-mem run source-at source₀ tape-at tape₀ i₀ next₀ to₀ numbers₀) os (λ v. await t tt $ pick t (λ z. learn t (λ s. split t $ subst (λ (u : Val). Seq K W (‵ (HasShr u8 source-at source₀) ∷ ‵ (HasShr u8 tape-at tape₀) ∷ Γ) (settles E dst u q)) (sym (ap only ((EL.tells Attached-T.the-type Attached-L.the-laws) (z .0) (v ∷ []) (s .0)))) (k z (subst (Is Attached-T.the-row (z .0)) ((EL.tells Attached-T.the-type Attached-L.the-laws) (z .0) (v ∷ []) (s .0)) (s .0), s .1)))))
+      cut (‵ (HasShr u8 source-at source₀) ∷ ‵ (HasShr u8 tape-at tape₀) ∷ []) (later (raw (C #checker·numbers-after (vs 𝓤 H A at-mem run source-at source₀ tape-at tape₀ i₀ next₀ to₀ numbers₀) (λ v. mean 𝓤 H A (After 𝓤 H A at-mem run source-at source₀ tape-at tape₀ i₀ next₀ to₀ numbers₀ v)))) ∷ []) Γ (called 𝓤 H A at-mem run source-at source₀ tape-at tape₀ i₀ next₀ to₀ numbers₀ W C fm i₀-is next₀-is to₀-is numbers₀-is req met) $ await t tt $ calls-last t fm (After 𝓤 H A at-mem run source-at source₀ tape-at tape₀ i₀ next₀ to₀ numbers₀) os (λ v. await t tt $ pick t (λ z. learn t (λ s. split t $ subst (λ (u : Val). Seq K W (‵ (HasShr u8 source-at source₀) ∷ ‵ (HasShr u8 tape-at tape₀) ∷ Γ) (settles E dst u q)) (sym (ap only ((LL.tells Attached-T.the-type Attached-L.the-laws) (z .0) (v ∷ []) (s .0)))) (k z (subst (Is Attached-T.the-row (z .0)) ((LL.tells Attached-T.the-type Attached-L.the-laws) (z .0) (v ∷ []) (s .0)) (s .0), s .1)))))

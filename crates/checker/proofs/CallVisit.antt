@@ -52,7 +52,6 @@ use Rattle.references.proofs.Hand.{At, lent as relent, ptrVal, fatVal, ref, Has
 use Rattle.attachment.specs.declared.Attached.{Attached}
 use Rattle.attachment.proofs.Attached as Attached-T
 use Rattle.attachment.proofs.Attached.Laws as Attached-L
-use Rattle.attachment.specs.declared.Attached.the-variants as Attached-V
 use Rattle.running.specs.declared.Record.{Record}
 use Rattle.running.proofs.Record as Record-T
 use Rattle.running.proofs.Record.Laws as Record-L
@@ -95,7 +94,7 @@ module _ {M : Type 1} (𝓤 : URA M) (H : Heap 𝓤) (A : Atoms 𝓤) (at-mem : 
 
   module _ (table-at : At) (table₀ : List ℕ) (words-at : At) (words₀ : List ℕ) (count₀ : ℕ) (source-at : At) (source₀ : List ℕ) (tape-at : At) (tape₀ : List ℕ) (i₀ : ℕ) (to₀ : ℕ) (depth₀ : ℕ) (m₀ : MarkerInfo) (around₀ : Around) (numbers₀ : Attached) (rec-at : At) (rec₀ : Record) (seen-at : At) (seen₀ : List ℕ) (opens-at : At) (opens₀ : List OpenStart) (list-at : At) (list₀ : List ℕ) where
     abbrev pub vs : List Val
-    vs = fatVal table-at ∷ fatVal words-at ∷ vint w64 count₀ ∷ fatVal source-at ∷ fatVal tape-at ∷ vint w64 i₀ ∷ vint w64 to₀ ∷ vint w64 depth₀ ∷ LL.val MarkerInfo-T.the-type MarkerInfo-L.the-laws m₀ ∷ LL.val Around-T.the-type Around-L.the-laws around₀ ∷ EL.val Attached-T.the-type Attached-L.the-laws numbers₀ ∷ ptrVal rec-at ∷ fatVal seen-at ∷ fatVal opens-at ∷ fatVal list-at ∷ []
+    vs = fatVal table-at ∷ fatVal words-at ∷ vint w64 count₀ ∷ fatVal source-at ∷ fatVal tape-at ∷ vint w64 i₀ ∷ vint w64 to₀ ∷ vint w64 depth₀ ∷ LL.val MarkerInfo-T.the-type MarkerInfo-L.the-laws m₀ ∷ LL.val Around-T.the-type Around-L.the-laws around₀ ∷ LL.val Attached-T.the-type Attached-L.the-laws numbers₀ ∷ ptrVal rec-at ∷ fatVal seen-at ∷ fatVal opens-at ∷ fatVal list-at ∷ []
 
     abbrev pub Z : Type 0
     Z = (Unit {0}) × (Record × ((List ℕ) × ((List OpenStart) × ((List ℕ) × Unit {0}))))
@@ -107,9 +106,9 @@ module _ {M : Type 1} (𝓤 : URA M) (H : Heap 𝓤) (A : Atoms 𝓤) (at-mem : 
     After v = later (some (λ (z : Z). given (Says (v ∷ []) z) (((((((‵ (HasShr u8 table-at table₀) ⊛ ‵ (HasShr u64 words-at words₀)) ⊛ ‵ (HasShr u8 source-at source₀)) ⊛ ‵ (HasShr u8 tape-at tape₀)) ⊛ ‵ (HasRef Record-T.the-row rec-at (z .1 .0))) ⊛ ‵ (HasMut u32 seen-at (z .1 .1 .0))) ⊛ ‵ (HasMut OpenStart-T.the-row opens-at (z .1 .1 .1 .0))) ⊛ ‵ (HasMut u64 list-at (z .1 .1 .1 .1 .0)))))
 
     abbrev pub to : At → At → At → At → At → At → At → At → Con .Ghost
-    to table-at′ words-at′ source-at′ tape-at′ rec-at′ seen-at′ opens-at′ list-at′ = (((table-at′ .κ, (words-at′ .κ, (source-at′ .κ, (tape-at′ .κ, (rec-at′ .κ, (seen-at′ .κ, (opens-at′ .κ, (list-at′ .κ, tt)))))))), (table-at′ .q, (words-at′ .q, (source-at′ .q, (tape-at′ .q, (rec-at′ .q, (seen-at′ .q, (opens-at′ .q, (list-at′ .q, tt)))))))), tt, (ref table-at′ table₀, (ref words-at′ words₀, (count₀, (ref source-at′ source₀, (ref tape-at′ tape₀, (i₀, (to₀, (depth₀, (m₀, (around₀, (numbers₀, (ref rec-at′ rec₀, (ref seen-at′ seen₀, (ref opens-at′ opens₀, (ref list-at′ list₀, tt))))))))))))))), (fatVal table-at′ ∷ [], (fatVal words-at′ ∷ [], (vint w64 count₀ ∷ [], (fatVal source-at′ ∷ [], (fatVal tape-at′ ∷ [], (vint w64 i₀ ∷ [], (vint w64 to₀ ∷ [], (vint w64 depth₀ ∷ [], (LL.val MarkerInfo-T.the-type MarkerInfo-L.the-laws m₀ ∷ [], (LL.val Around-T.the-type Around-L.the-laws around₀ ∷ [], (EL.val Attached-T.the-type Attached-L.the-laws numbers₀ ∷ [], (ptrVal rec-at′ ∷ [], (fatVal seen-at′ ∷ [], (fatVal opens-at′ ∷ [], (fatVal list-at′ ∷ [], tt)))))))))))))))), tt)
+    to table-at′ words-at′ source-at′ tape-at′ rec-at′ seen-at′ opens-at′ list-at′ = (((table-at′ .κ, (words-at′ .κ, (source-at′ .κ, (tape-at′ .κ, (rec-at′ .κ, (seen-at′ .κ, (opens-at′ .κ, (list-at′ .κ, tt)))))))), (table-at′ .q, (words-at′ .q, (source-at′ .q, (tape-at′ .q, (rec-at′ .q, (seen-at′ .q, (opens-at′ .q, (list-at′ .q, tt)))))))), tt, (ref table-at′ table₀, (ref words-at′ words₀, (count₀, (ref source-at′ source₀, (ref tape-at′ tape₀, (i₀, (to₀, (depth₀, (m₀, (around₀, (numbers₀, (ref rec-at′ rec₀, (ref seen-at′ seen₀, (ref opens-at′ opens₀, (ref list-at′ list₀, tt))))))))))))))), (fatVal table-at′ ∷ [], (fatVal words-at′ ∷ [], (vint w64 count₀ ∷ [], (fatVal source-at′ ∷ [], (fatVal tape-at′ ∷ [], (vint w64 i₀ ∷ [], (vint w64 to₀ ∷ [], (vint w64 depth₀ ∷ [], (LL.val MarkerInfo-T.the-type MarkerInfo-L.the-laws m₀ ∷ [], (LL.val Around-T.the-type Around-L.the-laws around₀ ∷ [], (LL.val Attached-T.the-type Attached-L.the-laws numbers₀ ∷ [], (ptrVal rec-at′ ∷ [], (fatVal seen-at′ ∷ [], (fatVal opens-at′ ∷ [], (fatVal list-at′ ∷ [], tt)))))))))))))))), tt)
 
-    module _ (W : Given 𝓤 H A) (C : Calls 𝓤 H) (fm : FmC 𝓤 H (W .laws) C) (count₀-is : count₀ < 2 ^ 64) (i₀-is : i₀ < 2 ^ 64) (to₀-is : to₀ < 2 ^ 64) (depth₀-is : depth₀ < 2 ^ 64) (m₀-is : Is MarkerInfo-T.the-row m₀ (LL.val MarkerInfo-T.the-type MarkerInfo-L.the-laws m₀ ∷ [])) (around₀-is : Is Around-T.the-row around₀ (LL.val Around-T.the-type Around-L.the-laws around₀ ∷ [])) (numbers₀-is : Is Attached-T.the-row numbers₀ (EL.val Attached-T.the-type Attached-L.the-laws numbers₀ ∷ [])) (req : (Ready table₀ words₀ count₀ source₀ tape₀ depth₀ i₀ to₀ seen₀ opens₀ rec₀) × (Visitable source₀ tape₀ i₀ to₀ numbers₀ rec₀) × (m₀ .«name_start» + m₀ .«name_len» ≤ length table₀) × Room (countsOf rec₀) (visitFindings table₀ source₀ tape₀ (aroundOf around₀) (entryOfInfo m₀) i₀ to₀ seen₀ opens₀ rec₀)) (met : ((ν-rec : ℕ) → (δ-rec : GName) → (ν-seen : ℕ) → (δ-seen : GName) → (ν-opens : ℕ) → (δ-opens : GName) → (ν-list : ℕ) → (δ-list : GName) → ent 𝓤 (Con .pre (to table-at words-at source-at tape-at (relent rec-at ν-rec δ-rec) (relent seen-at ν-seen δ-seen) (relent opens-at ν-opens δ-opens) (relent list-at ν-list δ-list))) (C #checker·visit vs (Con .post (to table-at words-at source-at tape-at (relent rec-at ν-rec δ-rec) (relent seen-at ν-seen δ-seen) (relent opens-at ν-opens δ-opens) (relent list-at ν-list δ-list)))))) where
+    module _ (W : Given 𝓤 H A) (C : Calls 𝓤 H) (fm : FmC 𝓤 H (W .laws) C) (count₀-is : count₀ < 2 ^ 64) (i₀-is : i₀ < 2 ^ 64) (to₀-is : to₀ < 2 ^ 64) (depth₀-is : depth₀ < 2 ^ 64) (m₀-is : Is MarkerInfo-T.the-row m₀ (LL.val MarkerInfo-T.the-type MarkerInfo-L.the-laws m₀ ∷ [])) (around₀-is : Is Around-T.the-row around₀ (LL.val Around-T.the-type Around-L.the-laws around₀ ∷ [])) (numbers₀-is : Is Attached-T.the-row numbers₀ (LL.val Attached-T.the-type Attached-L.the-laws numbers₀ ∷ [])) (req : (Ready table₀ words₀ count₀ source₀ tape₀ depth₀ i₀ to₀ seen₀ opens₀ rec₀) × (Visitable source₀ tape₀ i₀ to₀ numbers₀ rec₀) × (m₀ .«name_start» + m₀ .«name_len» ≤ length table₀) × Room (countsOf rec₀) (visitFindings table₀ source₀ tape₀ (aroundOf around₀) (entryOfInfo m₀) i₀ to₀ seen₀ opens₀ rec₀)) (met : ((ν-rec : ℕ) → (δ-rec : GName) → (ν-seen : ℕ) → (δ-seen : GName) → (ν-opens : ℕ) → (δ-opens : GName) → (ν-list : ℕ) → (δ-list : GName) → ent 𝓤 (Con .pre (to table-at words-at source-at tape-at (relent rec-at ν-rec δ-rec) (relent seen-at ν-seen δ-seen) (relent opens-at ν-opens δ-opens) (relent list-at ν-list δ-list))) (C #checker·visit vs (Con .post (to table-at words-at source-at tape-at (relent rec-at ν-rec δ-rec) (relent seen-at ν-seen δ-seen) (relent opens-at ν-opens δ-opens) (relent list-at ν-list δ-list)))))) where
       pub called : ent 𝓤 (⋆ 𝓤 H A (‵ (HasShr u8 table-at table₀) ∷ ‵ (HasShr u64 words-at words₀) ∷ ‵ (HasShr u8 source-at source₀) ∷ ‵ (HasShr u8 tape-at tape₀) ∷ ‵ (HasRef Record-T.the-row rec-at rec₀) ∷ ‵ (HasMut u32 seen-at seen₀) ∷ ‵ (HasMut OpenStart-T.the-row opens-at opens₀) ∷ ‵ (HasMut u64 list-at list₀) ∷ [])) (H .⇛ (C #checker·visit vs (λ v. mean 𝓤 H A (After v))))
       called =
           qed W (‵ (HasShr u8 table-at table₀) ∷ ‵ (HasShr u64 words-at words₀) ∷ ‵ (HasShr u8 source-at source₀) ∷ ‵ (HasShr u8 tape-at tape₀) ∷ ‵ (HasRef Record-T.the-row rec-at rec₀) ∷ ‵ (HasMut u32 seen-at seen₀) ∷ ‵ (HasMut OpenStart-T.the-row opens-at opens₀) ∷ ‵ (HasMut u64 list-at list₀) ∷ []) ∵ updating ! $
@@ -170,7 +169,7 @@ module _ {M : Type 1} (𝓤 : URA M) (H : Heap 𝓤) (A : Atoms 𝓤) (at-mem : 
           fjoin ! $
           move ! (2 ∷ 0 ∷ []) $
           fjoin ! $
-          owned ! Attached-T.the-row (Is Attached-T.the-row) (EL.makes Attached-T.the-type Attached-L.the-plain 𝓤 H A) numbers₀ _ numbers₀-is $ fjoin ! $
+          owned ! Attached-T.the-row (Is Attached-T.the-row) (LL.makes Attached-T.the-type Attached-L.the-plain 𝓤 H A) numbers₀ _ numbers₀-is $ fjoin ! $
           owned ! Around-T.the-row (Is Around-T.the-row) (LL.makes Around-T.the-type Around-L.the-plain 𝓤 H A) around₀ _ around₀-is $ fjoin ! $
           owned ! MarkerInfo-T.the-row (Is MarkerInfo-T.the-row) (LL.makes MarkerInfo-T.the-type MarkerInfo-L.the-plain 𝓤 H A) m₀ _ m₀-is $ fjoin ! $
           owned ! usize (Is usize) (uint-makes 𝓤 H A W w64) depth₀ _ (refl, depth₀-is) $ fjoin ! $
@@ -277,13 +276,13 @@ module _ {M : Type 1} (𝓤 : URA M) (H : Heap 𝓤) (A : Atoms 𝓤) (at-mem : 
           keep ! (7 ∷ 6 ∷ 5 ∷ 4 ∷ 3 ∷ 2 ∷ 1 ∷ 0 ∷ []) $ join ! $ join ! $ join ! $ join ! $ join ! $ join ! $ join ! $ done !)))))))))))))))))
 
 module _ {M : Type 1} {𝓤 : URA M} {H : Heap 𝓤} {A : Atoms 𝓤} {K : Type 0} {W : Given 𝓤 H A} {Γ : List (Item 𝓤)} {E : Env 𝓤 H} {C : Calls 𝓤 H} {Λ : Loops 𝓤 H} {q : PostOf 𝓤 H} {dst : Place} {xs : List Operand} where
-  pub calls-visit : K → (at-mem : Memory → SProp 𝓤) (run : Routine → Fun 𝓤) → FmC 𝓤 H (W .laws) C → {rest : Body} (table-at : At) (table₀ : List ℕ) (words-at : At) (words₀ : List ℕ) (count₀ : ℕ) (source-at : At) (source₀ : List ℕ) (tape-at : At) (tape₀ : List ℕ) (i₀ : ℕ) (to₀ : ℕ) (depth₀ : ℕ) (m₀ : MarkerInfo) (around₀ : Around) (numbers₀ : Attached) (rec-at : At) (rec₀ : Record) (seen-at : At) (seen₀ : List ℕ) (opens-at : At) (opens₀ : List OpenStart) (list-at : At) (list₀ : List ℕ) (count₀-is : count₀ < 2 ^ 64) (i₀-is : i₀ < 2 ^ 64) (to₀-is : to₀ < 2 ^ 64) (depth₀-is : depth₀ < 2 ^ 64) (m₀-is : Is MarkerInfo-T.the-row m₀ (LL.val MarkerInfo-T.the-type MarkerInfo-L.the-laws m₀ ∷ [])) (around₀-is : Is Around-T.the-row around₀ (LL.val Around-T.the-type Around-L.the-laws around₀ ∷ [])) (numbers₀-is : Is Attached-T.the-row numbers₀ (EL.val Attached-T.the-type Attached-L.the-laws numbers₀ ∷ [])) (req : (Ready table₀ words₀ count₀ source₀ tape₀ depth₀ i₀ to₀ seen₀ opens₀ rec₀) × (Visitable source₀ tape₀ i₀ to₀ numbers₀ rec₀) × (m₀ .«name_start» + m₀ .«name_len» ≤ length table₀) × Room (countsOf rec₀) (visitFindings table₀ source₀ tape₀ (aroundOf around₀) (entryOfInfo m₀) i₀ to₀ seen₀ opens₀ rec₀)) → ((ν-rec : ℕ) → (δ-rec : GName) → (ν-seen : ℕ) → (δ-seen : GName) → (ν-opens : ℕ) → (δ-opens : GName) → (ν-list : ℕ) → (δ-list : GName) → ent 𝓤 (Con 𝓤 H A at-mem run .pre (to 𝓤 H A at-mem run table-at table₀ words-at words₀ count₀ source-at source₀ tape-at tape₀ i₀ to₀ depth₀ m₀ around₀ numbers₀ rec-at rec₀ seen-at seen₀ opens-at opens₀ list-at list₀ table-at words-at source-at tape-at (relent rec-at ν-rec δ-rec) (relent seen-at ν-seen δ-seen) (relent opens-at ν-opens δ-opens) (relent list-at ν-list δ-list))) (C #checker·visit (vs 𝓤 H A at-mem run table-at table₀ words-at words₀ count₀ source-at source₀ tape-at tape₀ i₀ to₀ depth₀ m₀ around₀ numbers₀ rec-at rec₀ seen-at seen₀ opens-at opens₀ list-at list₀) (Con 𝓤 H A at-mem run .post (to 𝓤 H A at-mem run table-at table₀ words-at words₀ count₀ source-at source₀ tape-at tape₀ i₀ to₀ depth₀ m₀ around₀ numbers₀ rec-at rec₀ seen-at seen₀ opens-at opens₀ list-at list₀ table-at words-at source-at tape-at (relent rec-at ν-rec δ-rec) (relent seen-at ν-seen δ-seen) (relent opens-at ν-opens δ-opens) (relent list-at ν-list δ-list))))) → Opds K W (raw (C #checker·visit (vs 𝓤 H A at-mem run table-at table₀ words-at words₀ count₀ source-at source₀ tape-at tape₀ i₀ to₀ depth₀ m₀ around₀ numbers₀ rec-at rec₀ seen-at seen₀ opens-at opens₀ list-at list₀) (λ v. mean 𝓤 H A (After 𝓤 H A at-mem run table-at table₀ words-at words₀ count₀ source-at source₀ tape-at tape₀ i₀ to₀ depth₀ m₀ around₀ numbers₀ rec-at rec₀ seen-at seen₀ opens-at opens₀ list-at list₀ v))) ∷ Γ) E xs (vs 𝓤 H A at-mem run table-at table₀ words-at words₀ count₀ source-at source₀ tape-at tape₀ i₀ to₀ depth₀ m₀ around₀ numbers₀ rec-at rec₀ seen-at seen₀ opens-at opens₀ list-at list₀)
+  pub calls-visit : K → (at-mem : Memory → SProp 𝓤) (run : Routine → Fun 𝓤) → FmC 𝓤 H (W .laws) C → {rest : Body} (table-at : At) (table₀ : List ℕ) (words-at : At) (words₀ : List ℕ) (count₀ : ℕ) (source-at : At) (source₀ : List ℕ) (tape-at : At) (tape₀ : List ℕ) (i₀ : ℕ) (to₀ : ℕ) (depth₀ : ℕ) (m₀ : MarkerInfo) (around₀ : Around) (numbers₀ : Attached) (rec-at : At) (rec₀ : Record) (seen-at : At) (seen₀ : List ℕ) (opens-at : At) (opens₀ : List OpenStart) (list-at : At) (list₀ : List ℕ) (count₀-is : count₀ < 2 ^ 64) (i₀-is : i₀ < 2 ^ 64) (to₀-is : to₀ < 2 ^ 64) (depth₀-is : depth₀ < 2 ^ 64) (m₀-is : Is MarkerInfo-T.the-row m₀ (LL.val MarkerInfo-T.the-type MarkerInfo-L.the-laws m₀ ∷ [])) (around₀-is : Is Around-T.the-row around₀ (LL.val Around-T.the-type Around-L.the-laws around₀ ∷ [])) (numbers₀-is : Is Attached-T.the-row numbers₀ (LL.val Attached-T.the-type Attached-L.the-laws numbers₀ ∷ [])) (req : (Ready table₀ words₀ count₀ source₀ tape₀ depth₀ i₀ to₀ seen₀ opens₀ rec₀) × (Visitable source₀ tape₀ i₀ to₀ numbers₀ rec₀) × (m₀ .«name_start» + m₀ .«name_len» ≤ length table₀) × Room (countsOf rec₀) (visitFindings table₀ source₀ tape₀ (aroundOf around₀) (entryOfInfo m₀) i₀ to₀ seen₀ opens₀ rec₀)) → ((ν-rec : ℕ) → (δ-rec : GName) → (ν-seen : ℕ) → (δ-seen : GName) → (ν-opens : ℕ) → (δ-opens : GName) → (ν-list : ℕ) → (δ-list : GName) → ent 𝓤 (Con 𝓤 H A at-mem run .pre (to 𝓤 H A at-mem run table-at table₀ words-at words₀ count₀ source-at source₀ tape-at tape₀ i₀ to₀ depth₀ m₀ around₀ numbers₀ rec-at rec₀ seen-at seen₀ opens-at opens₀ list-at list₀ table-at words-at source-at tape-at (relent rec-at ν-rec δ-rec) (relent seen-at ν-seen δ-seen) (relent opens-at ν-opens δ-opens) (relent list-at ν-list δ-list))) (C #checker·visit (vs 𝓤 H A at-mem run table-at table₀ words-at words₀ count₀ source-at source₀ tape-at tape₀ i₀ to₀ depth₀ m₀ around₀ numbers₀ rec-at rec₀ seen-at seen₀ opens-at opens₀ list-at list₀) (Con 𝓤 H A at-mem run .post (to 𝓤 H A at-mem run table-at table₀ words-at words₀ count₀ source-at source₀ tape-at tape₀ i₀ to₀ depth₀ m₀ around₀ numbers₀ rec-at rec₀ seen-at seen₀ opens-at opens₀ list-at list₀ table-at words-at source-at tape-at (relent rec-at ν-rec δ-rec) (relent seen-at ν-seen δ-seen) (relent opens-at ν-opens δ-opens) (relent list-at ν-list δ-list))))) → Opds K W (raw (C #checker·visit (vs 𝓤 H A at-mem run table-at table₀ words-at words₀ count₀ source-at source₀ tape-at tape₀ i₀ to₀ depth₀ m₀ around₀ numbers₀ rec-at rec₀ seen-at seen₀ opens-at opens₀ list-at list₀) (λ v. mean 𝓤 H A (After 𝓤 H A at-mem run table-at table₀ words-at words₀ count₀ source-at source₀ tape-at tape₀ i₀ to₀ depth₀ m₀ around₀ numbers₀ rec-at rec₀ seen-at seen₀ opens-at opens₀ list-at list₀ v))) ∷ Γ) E xs (vs 𝓤 H A at-mem run table-at table₀ words-at words₀ count₀ source-at source₀ tape-at tape₀ i₀ to₀ depth₀ m₀ around₀ numbers₀ rec-at rec₀ seen-at seen₀ opens-at opens₀ list-at list₀)
       → ((z : Z 𝓤 H A at-mem run table-at table₀ words-at words₀ count₀ source-at source₀ tape-at tape₀ i₀ to₀ depth₀ m₀ around₀ numbers₀ rec-at rec₀ seen-at seen₀ opens-at opens₀ list-at list₀) → Says 𝓤 H A at-mem run table-at table₀ words-at words₀ count₀ source-at source₀ tape-at tape₀ i₀ to₀ depth₀ m₀ around₀ numbers₀ rec-at rec₀ seen-at seen₀ opens-at opens₀ list-at list₀ (vunit ∷ []) z → Seq K W (‵ (HasShr u8 table-at table₀) ∷ ‵ (HasShr u64 words-at words₀) ∷ ‵ (HasShr u8 source-at source₀) ∷ ‵ (HasShr u8 tape-at tape₀) ∷ ‵ (HasRef Record-T.the-row rec-at (z .1 .0)) ∷ ‵ (HasMut u32 seen-at (z .1 .1 .0)) ∷ ‵ (HasMut OpenStart-T.the-row opens-at (z .1 .1 .1 .0)) ∷ ‵ (HasMut u64 list-at (z .1 .1 .1 .1 .0)) ∷ Γ) (lands C Λ E dst vunit rest q)) → Seq K W (‵ (HasShr u8 table-at table₀) ∷ ‵ (HasShr u64 words-at words₀) ∷ ‵ (HasShr u8 source-at source₀) ∷ ‵ (HasShr u8 tape-at tape₀) ∷ ‵ (HasRef Record-T.the-row rec-at rec₀) ∷ ‵ (HasMut u32 seen-at seen₀) ∷ ‵ (HasMut OpenStart-T.the-row opens-at opens₀) ∷ ‵ (HasMut u64 list-at list₀) ∷ Γ) (runs C Λ E (seq (call #checker·visit xs dst) rest) q)
   calls-visit t at-mem run fm {rest} table-at table₀ words-at words₀ count₀ source-at source₀ tape-at tape₀ i₀ to₀ depth₀ m₀ around₀ numbers₀ rec-at rec₀ seen-at seen₀ opens-at opens₀ list-at list₀ count₀-is i₀-is to₀-is depth₀-is m₀-is around₀-is numbers₀-is req met os k =
       cut (‵ (HasShr u8 table-at table₀) ∷ ‵ (HasShr u64 words-at words₀) ∷ ‵ (HasShr u8 source-at source₀) ∷ ‵ (HasShr u8 tape-at tape₀) ∷ ‵ (HasRef Record-T.the-row rec-at rec₀) ∷ ‵ (HasMut u32 seen-at seen₀) ∷ ‵ (HasMut OpenStart-T.the-row opens-at opens₀) ∷ ‵ (HasMut u64 list-at list₀) ∷ []) (later (raw (C #checker·visit (vs 𝓤 H A at-mem run table-at table₀ words-at words₀ count₀ source-at source₀ tape-at tape₀ i₀ to₀ depth₀ m₀ around₀ numbers₀ rec-at rec₀ seen-at seen₀ opens-at opens₀ list-at list₀) (λ v. mean 𝓤 H A (After 𝓤 H A at-mem run table-at table₀ words-at words₀ count₀ source-at source₀ tape-at tape₀ i₀ to₀ depth₀ m₀ around₀ numbers₀ rec-at rec₀ seen-at seen₀ opens-at opens₀ list-at list₀ v)))) ∷ []) Γ (called 𝓤 H A at-mem run table-at table₀ words-at words₀ count₀ source-at source₀ tape-at tape₀ i₀ to₀ depth₀ m₀ around₀ numbers₀ rec-at rec₀ seen-at seen₀ opens-at opens₀ list-at list₀ W C fm count₀-is i₀-is to₀-is depth₀-is m₀-is around₀-is numbers₀-is req met) $ await t tt $ calls t fm (After 𝓤 H A at-mem run table-at table₀ words-at words₀ count₀ source-at source₀ tape-at tape₀ i₀ to₀ depth₀ m₀ around₀ numbers₀ rec-at rec₀ seen-at seen₀ opens-at opens₀ list-at list₀) os (λ v. await t tt $ pick t (λ z. learn t (λ s. split t $ split t $ split t $ split t $ split t $ split t $ split t $ subst (λ (u : Val). Seq K W (‵ (HasShr u8 table-at table₀) ∷ ‵ (HasShr u64 words-at words₀) ∷ ‵ (HasShr u8 source-at source₀) ∷ ‵ (HasShr u8 tape-at tape₀) ∷ ‵ (HasRef Record-T.the-row rec-at (z .1 .0)) ∷ ‵ (HasMut u32 seen-at (z .1 .1 .0)) ∷ ‵ (HasMut OpenStart-T.the-row opens-at (z .1 .1 .1 .0)) ∷ ‵ (HasMut u64 list-at (z .1 .1 .1 .1 .0)) ∷ Γ) (lands C Λ E dst u rest q)) (sym (ap only (nothing-tells (z .0) (v ∷ []) (s .0)))) (k z (subst (Is unit (z .0)) (nothing-tells (z .0) (v ∷ []) (s .0)) (s .0), (s .1 .0, (s .1 .1 .0, (s .1 .1 .1 .0, s .1 .1 .1 .1))))))))
 
 module _ {M : Type 1} {𝓤 : URA M} {H : Heap 𝓤} {A : Atoms 𝓤} {K : Type 0} {W : Given 𝓤 H A} {Γ : List (Item 𝓤)} {E : Env 𝓤 H} {C : Calls 𝓤 H} {Λ : Loops 𝓤 H} {q : PostOf 𝓤 H} {dst : Place} {xs : List Operand} where
-  pub calls-visit-last : K → (at-mem : Memory → SProp 𝓤) (run : Routine → Fun 𝓤) → FmC 𝓤 H (W .laws) C → (table-at : At) (table₀ : List ℕ) (words-at : At) (words₀ : List ℕ) (count₀ : ℕ) (source-at : At) (source₀ : List ℕ) (tape-at : At) (tape₀ : List ℕ) (i₀ : ℕ) (to₀ : ℕ) (depth₀ : ℕ) (m₀ : MarkerInfo) (around₀ : Around) (numbers₀ : Attached) (rec-at : At) (rec₀ : Record) (seen-at : At) (seen₀ : List ℕ) (opens-at : At) (opens₀ : List OpenStart) (list-at : At) (list₀ : List ℕ) (count₀-is : count₀ < 2 ^ 64) (i₀-is : i₀ < 2 ^ 64) (to₀-is : to₀ < 2 ^ 64) (depth₀-is : depth₀ < 2 ^ 64) (m₀-is : Is MarkerInfo-T.the-row m₀ (LL.val MarkerInfo-T.the-type MarkerInfo-L.the-laws m₀ ∷ [])) (around₀-is : Is Around-T.the-row around₀ (LL.val Around-T.the-type Around-L.the-laws around₀ ∷ [])) (numbers₀-is : Is Attached-T.the-row numbers₀ (EL.val Attached-T.the-type Attached-L.the-laws numbers₀ ∷ [])) (req : (Ready table₀ words₀ count₀ source₀ tape₀ depth₀ i₀ to₀ seen₀ opens₀ rec₀) × (Visitable source₀ tape₀ i₀ to₀ numbers₀ rec₀) × (m₀ .«name_start» + m₀ .«name_len» ≤ length table₀) × Room (countsOf rec₀) (visitFindings table₀ source₀ tape₀ (aroundOf around₀) (entryOfInfo m₀) i₀ to₀ seen₀ opens₀ rec₀)) → ((ν-rec : ℕ) → (δ-rec : GName) → (ν-seen : ℕ) → (δ-seen : GName) → (ν-opens : ℕ) → (δ-opens : GName) → (ν-list : ℕ) → (δ-list : GName) → ent 𝓤 (Con 𝓤 H A at-mem run .pre (to 𝓤 H A at-mem run table-at table₀ words-at words₀ count₀ source-at source₀ tape-at tape₀ i₀ to₀ depth₀ m₀ around₀ numbers₀ rec-at rec₀ seen-at seen₀ opens-at opens₀ list-at list₀ table-at words-at source-at tape-at (relent rec-at ν-rec δ-rec) (relent seen-at ν-seen δ-seen) (relent opens-at ν-opens δ-opens) (relent list-at ν-list δ-list))) (C #checker·visit (vs 𝓤 H A at-mem run table-at table₀ words-at words₀ count₀ source-at source₀ tape-at tape₀ i₀ to₀ depth₀ m₀ around₀ numbers₀ rec-at rec₀ seen-at seen₀ opens-at opens₀ list-at list₀) (Con 𝓤 H A at-mem run .post (to 𝓤 H A at-mem run table-at table₀ words-at words₀ count₀ source-at source₀ tape-at tape₀ i₀ to₀ depth₀ m₀ around₀ numbers₀ rec-at rec₀ seen-at seen₀ opens-at opens₀ list-at list₀ table-at words-at source-at tape-at (relent rec-at ν-rec δ-rec) (relent seen-at ν-seen δ-seen) (relent opens-at ν-opens δ-opens) (relent list-at ν-list δ-list))))) → Opds K W (raw (C #checker·visit (vs 𝓤 H A at-mem run table-at table₀ words-at words₀ count₀ source-at source₀ tape-at tape₀ i₀ to₀ depth₀ m₀ around₀ numbers₀ rec-at rec₀ seen-at seen₀ opens-at opens₀ list-at list₀) (λ v. mean 𝓤 H A (After 𝓤 H A at-mem run table-at table₀ words-at words₀ count₀ source-at source₀ tape-at tape₀ i₀ to₀ depth₀ m₀ around₀ numbers₀ rec-at rec₀ seen-at seen₀ opens-at opens₀ list-at list₀ v))) ∷ Γ) E xs (vs 𝓤 H A at-mem run table-at table₀ words-at words₀ count₀ source-at source₀ tape-at tape₀ i₀ to₀ depth₀ m₀ around₀ numbers₀ rec-at rec₀ seen-at seen₀ opens-at opens₀ list-at list₀)
+  pub calls-visit-last : K → (at-mem : Memory → SProp 𝓤) (run : Routine → Fun 𝓤) → FmC 𝓤 H (W .laws) C → (table-at : At) (table₀ : List ℕ) (words-at : At) (words₀ : List ℕ) (count₀ : ℕ) (source-at : At) (source₀ : List ℕ) (tape-at : At) (tape₀ : List ℕ) (i₀ : ℕ) (to₀ : ℕ) (depth₀ : ℕ) (m₀ : MarkerInfo) (around₀ : Around) (numbers₀ : Attached) (rec-at : At) (rec₀ : Record) (seen-at : At) (seen₀ : List ℕ) (opens-at : At) (opens₀ : List OpenStart) (list-at : At) (list₀ : List ℕ) (count₀-is : count₀ < 2 ^ 64) (i₀-is : i₀ < 2 ^ 64) (to₀-is : to₀ < 2 ^ 64) (depth₀-is : depth₀ < 2 ^ 64) (m₀-is : Is MarkerInfo-T.the-row m₀ (LL.val MarkerInfo-T.the-type MarkerInfo-L.the-laws m₀ ∷ [])) (around₀-is : Is Around-T.the-row around₀ (LL.val Around-T.the-type Around-L.the-laws around₀ ∷ [])) (numbers₀-is : Is Attached-T.the-row numbers₀ (LL.val Attached-T.the-type Attached-L.the-laws numbers₀ ∷ [])) (req : (Ready table₀ words₀ count₀ source₀ tape₀ depth₀ i₀ to₀ seen₀ opens₀ rec₀) × (Visitable source₀ tape₀ i₀ to₀ numbers₀ rec₀) × (m₀ .«name_start» + m₀ .«name_len» ≤ length table₀) × Room (countsOf rec₀) (visitFindings table₀ source₀ tape₀ (aroundOf around₀) (entryOfInfo m₀) i₀ to₀ seen₀ opens₀ rec₀)) → ((ν-rec : ℕ) → (δ-rec : GName) → (ν-seen : ℕ) → (δ-seen : GName) → (ν-opens : ℕ) → (δ-opens : GName) → (ν-list : ℕ) → (δ-list : GName) → ent 𝓤 (Con 𝓤 H A at-mem run .pre (to 𝓤 H A at-mem run table-at table₀ words-at words₀ count₀ source-at source₀ tape-at tape₀ i₀ to₀ depth₀ m₀ around₀ numbers₀ rec-at rec₀ seen-at seen₀ opens-at opens₀ list-at list₀ table-at words-at source-at tape-at (relent rec-at ν-rec δ-rec) (relent seen-at ν-seen δ-seen) (relent opens-at ν-opens δ-opens) (relent list-at ν-list δ-list))) (C #checker·visit (vs 𝓤 H A at-mem run table-at table₀ words-at words₀ count₀ source-at source₀ tape-at tape₀ i₀ to₀ depth₀ m₀ around₀ numbers₀ rec-at rec₀ seen-at seen₀ opens-at opens₀ list-at list₀) (Con 𝓤 H A at-mem run .post (to 𝓤 H A at-mem run table-at table₀ words-at words₀ count₀ source-at source₀ tape-at tape₀ i₀ to₀ depth₀ m₀ around₀ numbers₀ rec-at rec₀ seen-at seen₀ opens-at opens₀ list-at list₀ table-at words-at source-at tape-at (relent rec-at ν-rec δ-rec) (relent seen-at ν-seen δ-seen) (relent opens-at ν-opens δ-opens) (relent list-at ν-list δ-list))))) → Opds K W (raw (C #checker·visit (vs 𝓤 H A at-mem run table-at table₀ words-at words₀ count₀ source-at source₀ tape-at tape₀ i₀ to₀ depth₀ m₀ around₀ numbers₀ rec-at rec₀ seen-at seen₀ opens-at opens₀ list-at list₀) (λ v. mean 𝓤 H A (After 𝓤 H A at-mem run table-at table₀ words-at words₀ count₀ source-at source₀ tape-at tape₀ i₀ to₀ depth₀ m₀ around₀ numbers₀ rec-at rec₀ seen-at seen₀ opens-at opens₀ list-at list₀ v))) ∷ Γ) E xs (vs 𝓤 H A at-mem run table-at table₀ words-at words₀ count₀ source-at source₀ tape-at tape₀ i₀ to₀ depth₀ m₀ around₀ numbers₀ rec-at rec₀ seen-at seen₀ opens-at opens₀ list-at list₀)
       → ((z : Z 𝓤 H A at-mem run table-at table₀ words-at words₀ count₀ source-at source₀ tape-at tape₀ i₀ to₀ depth₀ m₀ around₀ numbers₀ rec-at rec₀ seen-at seen₀ opens-at opens₀ list-at list₀) → Says 𝓤 H A at-mem run table-at table₀ words-at words₀ count₀ source-at source₀ tape-at tape₀ i₀ to₀ depth₀ m₀ around₀ numbers₀ rec-at rec₀ seen-at seen₀ opens-at opens₀ list-at list₀ (vunit ∷ []) z → Seq K W (‵ (HasShr u8 table-at table₀) ∷ ‵ (HasShr u64 words-at words₀) ∷ ‵ (HasShr u8 source-at source₀) ∷ ‵ (HasShr u8 tape-at tape₀) ∷ ‵ (HasRef Record-T.the-row rec-at (z .1 .0)) ∷ ‵ (HasMut u32 seen-at (z .1 .1 .0)) ∷ ‵ (HasMut OpenStart-T.the-row opens-at (z .1 .1 .1 .0)) ∷ ‵ (HasMut u64 list-at (z .1 .1 .1 .1 .0)) ∷ Γ) (settles E dst vunit q)) → Seq K W (‵ (HasShr u8 table-at table₀) ∷ ‵ (HasShr u64 words-at words₀) ∷ ‵ (HasShr u8 source-at source₀) ∷ ‵ (HasShr u8 tape-at tape₀) ∷ ‵ (HasRef Record-T.the-row rec-at rec₀) ∷ ‵ (HasMut u32 seen-at seen₀) ∷ ‵ (HasMut OpenStart-T.the-row opens-at opens₀) ∷ ‵ (HasMut u64 list-at list₀) ∷ Γ) (runs C Λ E (call #checker·visit xs dst) q)
   calls-visit-last t at-mem run fm table-at table₀ words-at words₀ count₀ source-at source₀ tape-at tape₀ i₀ to₀ depth₀ m₀ around₀ numbers₀ rec-at rec₀ seen-at seen₀ opens-at opens₀ list-at list₀ count₀-is i₀-is to₀-is depth₀-is m₀-is around₀-is numbers₀-is req met os k =
       cut (‵ (HasShr u8 table-at table₀) ∷ ‵ (HasShr u64 words-at words₀) ∷ ‵ (HasShr u8 source-at source₀) ∷ ‵ (HasShr u8 tape-at tape₀) ∷ ‵ (HasRef Record-T.the-row rec-at rec₀) ∷ ‵ (HasMut u32 seen-at seen₀) ∷ ‵ (HasMut OpenStart-T.the-row opens-at opens₀) ∷ ‵ (HasMut u64 list-at list₀) ∷ []) (later (raw (C #checker·visit (vs 𝓤 H A at-mem run table-at table₀ words-at words₀ count₀ source-at source₀ tape-at tape₀ i₀ to₀ depth₀ m₀ around₀ numbers₀ rec-at rec₀ seen-at seen₀ opens-at opens₀ list-at list₀) (λ v. mean 𝓤 H A (After 𝓤 H A at-mem run table-at table₀ words-at words₀ count₀ source-at source₀ tape-at tape₀ i₀ to₀ depth₀ m₀ around₀ numbers₀ rec-at rec₀ seen-at seen₀ opens-at opens₀ list-at list₀ v)))) ∷ []) Γ (called 𝓤 H A at-mem run table-at table₀ words-at words₀ count₀ source-at source₀ tape-at tape₀ i₀ to₀ depth₀ m₀ around₀ numbers₀ rec-at rec₀ seen-at seen₀ opens-at opens₀ list-at list₀ W C fm count₀-is i₀-is to₀-is depth₀-is m₀-is around₀-is numbers₀-is req met) $ await t tt $ calls-last t fm (After 𝓤 H A at-mem run table-at table₀ words-at words₀ count₀ source-at source₀ tape-at tape₀ i₀ to₀ depth₀ m₀ around₀ numbers₀ rec-at rec₀ seen-at seen₀ opens-at opens₀ list-at list₀) os (λ v. await t tt $ pick t (λ z. learn t (λ s. split t $ split t $ split t $ split t $ split t $ split t $ split t $ subst (λ (u : Val). Seq K W (‵ (HasShr u8 table-at table₀) ∷ ‵ (HasShr u64 words-at words₀) ∷ ‵ (HasShr u8 source-at source₀) ∷ ‵ (HasShr u8 tape-at tape₀) ∷ ‵ (HasRef Record-T.the-row rec-at (z .1 .0)) ∷ ‵ (HasMut u32 seen-at (z .1 .1 .0)) ∷ ‵ (HasMut OpenStart-T.the-row opens-at (z .1 .1 .1 .0)) ∷ ‵ (HasMut u64 list-at (z .1 .1 .1 .1 .0)) ∷ Γ) (settles E dst u q)) (sym (ap only (nothing-tells (z .0) (v ∷ []) (s .0)))) (k z (subst (Is unit (z .0)) (nothing-tells (z .0) (v ∷ []) (s .0)) (s .0), (s .1 .0, (s .1 .1 .0, (s .1 .1 .1 .0, s .1 .1 .1 .1))))))))

@@ -52,7 +52,6 @@ use Rattle.references.proofs.Hand.{At, lent as relent, ptrVal, fatVal, ref, Has
 use Rattle.attachment.specs.declared.Attached.{Attached}
 use Rattle.attachment.proofs.Attached as Attached-T
 use Rattle.attachment.proofs.Attached.Laws as Attached-L
-use Rattle.attachment.specs.declared.Attached.the-variants as Attached-V
 use Rattle.running.specs.declared.Record.{Record}
 use Rattle.running.proofs.Record as Record-T
 use Rattle.running.proofs.Record.Laws as Record-L
@@ -95,7 +94,7 @@ module _ {M : Type 1} (𝓤 : URA M) (H : Heap 𝓤) (A : Atoms 𝓤) (at-mem : 
 
   module _ (table-at : At) (table₀ : List ℕ) (m₀ : MarkerInfo) (source-at : At) (source₀ : List ℕ) (tape-at : At) (tape₀ : List ℕ) (i₀ : ℕ) (to₀ : ℕ) (around₀ : Around) (numbers₀ : Attached) (rec₀ : Record) (list-at : At) (list₀ : List ℕ) where
     abbrev pub vs : List Val
-    vs = fatVal table-at ∷ LL.val MarkerInfo-T.the-type MarkerInfo-L.the-laws m₀ ∷ fatVal source-at ∷ fatVal tape-at ∷ vint w64 i₀ ∷ vint w64 to₀ ∷ LL.val Around-T.the-type Around-L.the-laws around₀ ∷ EL.val Attached-T.the-type Attached-L.the-laws numbers₀ ∷ LL.val Record-T.the-type Record-L.the-laws rec₀ ∷ fatVal list-at ∷ []
+    vs = fatVal table-at ∷ LL.val MarkerInfo-T.the-type MarkerInfo-L.the-laws m₀ ∷ fatVal source-at ∷ fatVal tape-at ∷ vint w64 i₀ ∷ vint w64 to₀ ∷ LL.val Around-T.the-type Around-L.the-laws around₀ ∷ LL.val Attached-T.the-type Attached-L.the-laws numbers₀ ∷ LL.val Record-T.the-type Record-L.the-laws rec₀ ∷ fatVal list-at ∷ []
 
     abbrev pub Z : Type 0
     Z = Record × ((List ℕ) × Unit {0})
@@ -107,9 +106,9 @@ module _ {M : Type 1} (𝓤 : URA M) (H : Heap 𝓤) (A : Atoms 𝓤) (at-mem : 
     After v = later (some (λ (z : Z). given (Says (v ∷ []) z) (((‵ (HasShr u8 table-at table₀) ⊛ ‵ (HasShr u8 source-at source₀)) ⊛ ‵ (HasShr u8 tape-at tape₀)) ⊛ ‵ (HasMut u64 list-at (z .1 .0)))))
 
     abbrev pub to : At → At → At → At → Con .Ghost
-    to table-at′ source-at′ tape-at′ list-at′ = (((table-at′ .κ, (source-at′ .κ, (tape-at′ .κ, (list-at′ .κ, tt)))), (table-at′ .q, (source-at′ .q, (tape-at′ .q, (list-at′ .q, tt)))), tt, (ref table-at′ table₀, (m₀, (ref source-at′ source₀, (ref tape-at′ tape₀, (i₀, (to₀, (around₀, (numbers₀, (rec₀, (ref list-at′ list₀, tt)))))))))), (fatVal table-at′ ∷ [], (LL.val MarkerInfo-T.the-type MarkerInfo-L.the-laws m₀ ∷ [], (fatVal source-at′ ∷ [], (fatVal tape-at′ ∷ [], (vint w64 i₀ ∷ [], (vint w64 to₀ ∷ [], (LL.val Around-T.the-type Around-L.the-laws around₀ ∷ [], (EL.val Attached-T.the-type Attached-L.the-laws numbers₀ ∷ [], (LL.val Record-T.the-type Record-L.the-laws rec₀ ∷ [], (fatVal list-at′ ∷ [], tt))))))))))), tt)
+    to table-at′ source-at′ tape-at′ list-at′ = (((table-at′ .κ, (source-at′ .κ, (tape-at′ .κ, (list-at′ .κ, tt)))), (table-at′ .q, (source-at′ .q, (tape-at′ .q, (list-at′ .q, tt)))), tt, (ref table-at′ table₀, (m₀, (ref source-at′ source₀, (ref tape-at′ tape₀, (i₀, (to₀, (around₀, (numbers₀, (rec₀, (ref list-at′ list₀, tt)))))))))), (fatVal table-at′ ∷ [], (LL.val MarkerInfo-T.the-type MarkerInfo-L.the-laws m₀ ∷ [], (fatVal source-at′ ∷ [], (fatVal tape-at′ ∷ [], (vint w64 i₀ ∷ [], (vint w64 to₀ ∷ [], (LL.val Around-T.the-type Around-L.the-laws around₀ ∷ [], (LL.val Attached-T.the-type Attached-L.the-laws numbers₀ ∷ [], (LL.val Record-T.the-type Record-L.the-laws rec₀ ∷ [], (fatVal list-at′ ∷ [], tt))))))))))), tt)
 
-    module _ (W : Given 𝓤 H A) (C : Calls 𝓤 H) (fm : FmC 𝓤 H (W .laws) C) (m₀-is : Is MarkerInfo-T.the-row m₀ (LL.val MarkerInfo-T.the-type MarkerInfo-L.the-laws m₀ ∷ [])) (i₀-is : i₀ < 2 ^ 64) (to₀-is : to₀ < 2 ^ 64) (around₀-is : Is Around-T.the-row around₀ (LL.val Around-T.the-type Around-L.the-laws around₀ ∷ [])) (numbers₀-is : Is Attached-T.the-row numbers₀ (EL.val Attached-T.the-type Attached-L.the-laws numbers₀ ∷ [])) (rec₀-is : Is Record-T.the-row rec₀ (LL.val Record-T.the-type Record-L.the-laws rec₀ ∷ [])) (req : (m₀ .«name_start» + m₀ .«name_len» ≤ length table₀) × (Run source₀ tape₀ i₀ to₀) × (i₀ < to₀) × (isOpen (kindAt tape₀ i₀) ≡ true) × (startsOf numbers₀ ≡ startsFor (anchorOf source₀ tape₀ (rec₀ .anchor) i₀) (forest source₀ tape₀ i₀ to₀)) × Room (countsOf rec₀) (ownAt table₀ source₀ tape₀ (aroundOf around₀) (anchorOf source₀ tape₀ (rec₀ .anchor) i₀) (entryOfInfo m₀) i₀ to₀ rec₀)) (met : ((ν-list : ℕ) → (δ-list : GName) → ent 𝓤 (Con .pre (to table-at source-at tape-at (relent list-at ν-list δ-list))) (C #opens·visit-marker vs (Con .post (to table-at source-at tape-at (relent list-at ν-list δ-list)))))) where
+    module _ (W : Given 𝓤 H A) (C : Calls 𝓤 H) (fm : FmC 𝓤 H (W .laws) C) (m₀-is : Is MarkerInfo-T.the-row m₀ (LL.val MarkerInfo-T.the-type MarkerInfo-L.the-laws m₀ ∷ [])) (i₀-is : i₀ < 2 ^ 64) (to₀-is : to₀ < 2 ^ 64) (around₀-is : Is Around-T.the-row around₀ (LL.val Around-T.the-type Around-L.the-laws around₀ ∷ [])) (numbers₀-is : Is Attached-T.the-row numbers₀ (LL.val Attached-T.the-type Attached-L.the-laws numbers₀ ∷ [])) (rec₀-is : Is Record-T.the-row rec₀ (LL.val Record-T.the-type Record-L.the-laws rec₀ ∷ [])) (req : (m₀ .«name_start» + m₀ .«name_len» ≤ length table₀) × (Run source₀ tape₀ i₀ to₀) × (i₀ < to₀) × (isOpen (kindAt tape₀ i₀) ≡ true) × (startsOf numbers₀ ≡ startsFor (anchorOf source₀ tape₀ (rec₀ .anchor) i₀) (forest source₀ tape₀ i₀ to₀)) × Room (countsOf rec₀) (ownAt table₀ source₀ tape₀ (aroundOf around₀) (anchorOf source₀ tape₀ (rec₀ .anchor) i₀) (entryOfInfo m₀) i₀ to₀ rec₀)) (met : ((ν-list : ℕ) → (δ-list : GName) → ent 𝓤 (Con .pre (to table-at source-at tape-at (relent list-at ν-list δ-list))) (C #opens·visit-marker vs (Con .post (to table-at source-at tape-at (relent list-at ν-list δ-list)))))) where
       pub called : ent 𝓤 (⋆ 𝓤 H A (‵ (HasShr u8 table-at table₀) ∷ ‵ (HasShr u8 source-at source₀) ∷ ‵ (HasShr u8 tape-at tape₀) ∷ ‵ (HasMut u64 list-at list₀) ∷ [])) (H .⇛ (C #opens·visit-marker vs (λ v. mean 𝓤 H A (After v))))
       called =
           qed W (‵ (HasShr u8 table-at table₀) ∷ ‵ (HasShr u8 source-at source₀) ∷ ‵ (HasShr u8 tape-at tape₀) ∷ ‵ (HasMut u64 list-at list₀) ∷ []) ∵ updating ! $
@@ -141,7 +140,7 @@ module _ {M : Type 1} (𝓤 : URA M) (H : Heap 𝓤) (A : Atoms 𝓤) (at-mem : 
           move ! (2 ∷ 0 ∷ []) $
           fjoin ! $
           owned ! Record-T.the-row (Is Record-T.the-row) (LL.makes Record-T.the-type Record-L.the-plain 𝓤 H A) rec₀ _ rec₀-is $ fjoin ! $
-          owned ! Attached-T.the-row (Is Attached-T.the-row) (EL.makes Attached-T.the-type Attached-L.the-plain 𝓤 H A) numbers₀ _ numbers₀-is $ fjoin ! $
+          owned ! Attached-T.the-row (Is Attached-T.the-row) (LL.makes Attached-T.the-type Attached-L.the-plain 𝓤 H A) numbers₀ _ numbers₀-is $ fjoin ! $
           owned ! Around-T.the-row (Is Around-T.the-row) (LL.makes Around-T.the-type Around-L.the-plain 𝓤 H A) around₀ _ around₀-is $ fjoin ! $
           owned ! usize (Is usize) (uint-makes 𝓤 H A W w64) to₀ _ (refl, to₀-is) $ fjoin ! $
           owned ! usize (Is usize) (uint-makes 𝓤 H A W w64) i₀ _ (refl, i₀-is) $ fjoin ! $
@@ -212,13 +211,13 @@ module _ {M : Type 1} (𝓤 : URA M) (H : Heap 𝓤) (A : Atoms 𝓤) (at-mem : 
           keep ! (3 ∷ 2 ∷ 1 ∷ 0 ∷ []) $ join ! $ join ! $ join ! $ done !)))))))))
 
 module _ {M : Type 1} {𝓤 : URA M} {H : Heap 𝓤} {A : Atoms 𝓤} {K : Type 0} {W : Given 𝓤 H A} {Γ : List (Item 𝓤)} {E : Env 𝓤 H} {C : Calls 𝓤 H} {Λ : Loops 𝓤 H} {q : PostOf 𝓤 H} {dst : Place} {xs : List Operand} where
-  pub calls-visit-marker : K → (at-mem : Memory → SProp 𝓤) (run : Routine → Fun 𝓤) → FmC 𝓤 H (W .laws) C → {rest : Body} (table-at : At) (table₀ : List ℕ) (m₀ : MarkerInfo) (source-at : At) (source₀ : List ℕ) (tape-at : At) (tape₀ : List ℕ) (i₀ : ℕ) (to₀ : ℕ) (around₀ : Around) (numbers₀ : Attached) (rec₀ : Record) (list-at : At) (list₀ : List ℕ) (m₀-is : Is MarkerInfo-T.the-row m₀ (LL.val MarkerInfo-T.the-type MarkerInfo-L.the-laws m₀ ∷ [])) (i₀-is : i₀ < 2 ^ 64) (to₀-is : to₀ < 2 ^ 64) (around₀-is : Is Around-T.the-row around₀ (LL.val Around-T.the-type Around-L.the-laws around₀ ∷ [])) (numbers₀-is : Is Attached-T.the-row numbers₀ (EL.val Attached-T.the-type Attached-L.the-laws numbers₀ ∷ [])) (rec₀-is : Is Record-T.the-row rec₀ (LL.val Record-T.the-type Record-L.the-laws rec₀ ∷ [])) (req : (m₀ .«name_start» + m₀ .«name_len» ≤ length table₀) × (Run source₀ tape₀ i₀ to₀) × (i₀ < to₀) × (isOpen (kindAt tape₀ i₀) ≡ true) × (startsOf numbers₀ ≡ startsFor (anchorOf source₀ tape₀ (rec₀ .anchor) i₀) (forest source₀ tape₀ i₀ to₀)) × Room (countsOf rec₀) (ownAt table₀ source₀ tape₀ (aroundOf around₀) (anchorOf source₀ tape₀ (rec₀ .anchor) i₀) (entryOfInfo m₀) i₀ to₀ rec₀)) → ((ν-list : ℕ) → (δ-list : GName) → ent 𝓤 (Con 𝓤 H A at-mem run .pre (to 𝓤 H A at-mem run table-at table₀ m₀ source-at source₀ tape-at tape₀ i₀ to₀ around₀ numbers₀ rec₀ list-at list₀ table-at source-at tape-at (relent list-at ν-list δ-list))) (C #opens·visit-marker (vs 𝓤 H A at-mem run table-at table₀ m₀ source-at source₀ tape-at tape₀ i₀ to₀ around₀ numbers₀ rec₀ list-at list₀) (Con 𝓤 H A at-mem run .post (to 𝓤 H A at-mem run table-at table₀ m₀ source-at source₀ tape-at tape₀ i₀ to₀ around₀ numbers₀ rec₀ list-at list₀ table-at source-at tape-at (relent list-at ν-list δ-list))))) → Opds K W (raw (C #opens·visit-marker (vs 𝓤 H A at-mem run table-at table₀ m₀ source-at source₀ tape-at tape₀ i₀ to₀ around₀ numbers₀ rec₀ list-at list₀) (λ v. mean 𝓤 H A (After 𝓤 H A at-mem run table-at table₀ m₀ source-at source₀ tape-at tape₀ i₀ to₀ around₀ numbers₀ rec₀ list-at list₀ v))) ∷ Γ) E xs (vs 𝓤 H A at-mem run table-at table₀ m₀ source-at source₀ tape-at tape₀ i₀ to₀ around₀ numbers₀ rec₀ list-at list₀)
+  pub calls-visit-marker : K → (at-mem : Memory → SProp 𝓤) (run : Routine → Fun 𝓤) → FmC 𝓤 H (W .laws) C → {rest : Body} (table-at : At) (table₀ : List ℕ) (m₀ : MarkerInfo) (source-at : At) (source₀ : List ℕ) (tape-at : At) (tape₀ : List ℕ) (i₀ : ℕ) (to₀ : ℕ) (around₀ : Around) (numbers₀ : Attached) (rec₀ : Record) (list-at : At) (list₀ : List ℕ) (m₀-is : Is MarkerInfo-T.the-row m₀ (LL.val MarkerInfo-T.the-type MarkerInfo-L.the-laws m₀ ∷ [])) (i₀-is : i₀ < 2 ^ 64) (to₀-is : to₀ < 2 ^ 64) (around₀-is : Is Around-T.the-row around₀ (LL.val Around-T.the-type Around-L.the-laws around₀ ∷ [])) (numbers₀-is : Is Attached-T.the-row numbers₀ (LL.val Attached-T.the-type Attached-L.the-laws numbers₀ ∷ [])) (rec₀-is : Is Record-T.the-row rec₀ (LL.val Record-T.the-type Record-L.the-laws rec₀ ∷ [])) (req : (m₀ .«name_start» + m₀ .«name_len» ≤ length table₀) × (Run source₀ tape₀ i₀ to₀) × (i₀ < to₀) × (isOpen (kindAt tape₀ i₀) ≡ true) × (startsOf numbers₀ ≡ startsFor (anchorOf source₀ tape₀ (rec₀ .anchor) i₀) (forest source₀ tape₀ i₀ to₀)) × Room (countsOf rec₀) (ownAt table₀ source₀ tape₀ (aroundOf around₀) (anchorOf source₀ tape₀ (rec₀ .anchor) i₀) (entryOfInfo m₀) i₀ to₀ rec₀)) → ((ν-list : ℕ) → (δ-list : GName) → ent 𝓤 (Con 𝓤 H A at-mem run .pre (to 𝓤 H A at-mem run table-at table₀ m₀ source-at source₀ tape-at tape₀ i₀ to₀ around₀ numbers₀ rec₀ list-at list₀ table-at source-at tape-at (relent list-at ν-list δ-list))) (C #opens·visit-marker (vs 𝓤 H A at-mem run table-at table₀ m₀ source-at source₀ tape-at tape₀ i₀ to₀ around₀ numbers₀ rec₀ list-at list₀) (Con 𝓤 H A at-mem run .post (to 𝓤 H A at-mem run table-at table₀ m₀ source-at source₀ tape-at tape₀ i₀ to₀ around₀ numbers₀ rec₀ list-at list₀ table-at source-at tape-at (relent list-at ν-list δ-list))))) → Opds K W (raw (C #opens·visit-marker (vs 𝓤 H A at-mem run table-at table₀ m₀ source-at source₀ tape-at tape₀ i₀ to₀ around₀ numbers₀ rec₀ list-at list₀) (λ v. mean 𝓤 H A (After 𝓤 H A at-mem run table-at table₀ m₀ source-at source₀ tape-at tape₀ i₀ to₀ around₀ numbers₀ rec₀ list-at list₀ v))) ∷ Γ) E xs (vs 𝓤 H A at-mem run table-at table₀ m₀ source-at source₀ tape-at tape₀ i₀ to₀ around₀ numbers₀ rec₀ list-at list₀)
       → ((z : Z 𝓤 H A at-mem run table-at table₀ m₀ source-at source₀ tape-at tape₀ i₀ to₀ around₀ numbers₀ rec₀ list-at list₀) → Says 𝓤 H A at-mem run table-at table₀ m₀ source-at source₀ tape-at tape₀ i₀ to₀ around₀ numbers₀ rec₀ list-at list₀ (LL.val Record-T.the-type Record-L.the-laws (z .0) ∷ []) z → Seq K W (‵ (HasShr u8 table-at table₀) ∷ ‵ (HasShr u8 source-at source₀) ∷ ‵ (HasShr u8 tape-at tape₀) ∷ ‵ (HasMut u64 list-at (z .1 .0)) ∷ Γ) (lands C Λ E dst (LL.val Record-T.the-type Record-L.the-laws (z .0)) rest q)) → Seq K W (‵ (HasShr u8 table-at table₀) ∷ ‵ (HasShr u8 source-at source₀) ∷ ‵ (HasShr u8 tape-at tape₀) ∷ ‵ (HasMut u64 list-at list₀) ∷ Γ) (runs C Λ E (seq (call #opens·visit-marker xs dst) rest) q)
   calls-visit-marker t at-mem run fm {rest} table-at table₀ m₀ source-at source₀ tape-at tape₀ i₀ to₀ around₀ numbers₀ rec₀ list-at list₀ m₀-is i₀-is to₀-is around₀-is numbers₀-is rec₀-is req met os k =
       cut (‵ (HasShr u8 table-at table₀) ∷ ‵ (HasShr u8 source-at source₀) ∷ ‵ (HasShr u8 tape-at tape₀) ∷ ‵ (HasMut u64 list-at list₀) ∷ []) (later (raw (C #opens·visit-marker (vs 𝓤 H A at-mem run table-at table₀ m₀ source-at source₀ tape-at tape₀ i₀ to₀ around₀ numbers₀ rec₀ list-at list₀) (λ v. mean 𝓤 H A (After 𝓤 H A at-mem run table-at table₀ m₀ source-at source₀ tape-at tape₀ i₀ to₀ around₀ numbers₀ rec₀ list-at list₀ v)))) ∷ []) Γ (called 𝓤 H A at-mem run table-at table₀ m₀ source-at source₀ tape-at tape₀ i₀ to₀ around₀ numbers₀ rec₀ list-at list₀ W C fm m₀-is i₀-is to₀-is around₀-is numbers₀-is rec₀-is req met) $ await t tt $ calls t fm (After 𝓤 H A at-mem run table-at table₀ m₀ source-at source₀ tape-at tape₀ i₀ to₀ around₀ numbers₀ rec₀ list-at list₀) os (λ v. await t tt $ pick t (λ z. learn t (λ s. split t $ split t $ split t $ subst (λ (u : Val). Seq K W (‵ (HasShr u8 table-at table₀) ∷ ‵ (HasShr u8 source-at source₀) ∷ ‵ (HasShr u8 tape-at tape₀) ∷ ‵ (HasMut u64 list-at (z .1 .0)) ∷ Γ) (lands C Λ E dst u rest q)) (sym (ap only ((LL.tells Record-T.the-type Record-L.the-laws) (z .0) (v ∷ []) (s .0)))) (k z (subst (Is Record-T.the-row (z .0)) ((LL.tells Record-T.the-type Record-L.the-laws) (z .0) (v ∷ []) (s .0)) (s .0), (s .1 .0, s .1 .1))))))
 
 module _ {M : Type 1} {𝓤 : URA M} {H : Heap 𝓤} {A : Atoms 𝓤} {K : Type 0} {W : Given 𝓤 H A} {Γ : List (Item 𝓤)} {E : Env 𝓤 H} {C : Calls 𝓤 H} {Λ : Loops 𝓤 H} {q : PostOf 𝓤 H} {dst : Place} {xs : List Operand} where
-  pub calls-visit-marker-last : K → (at-mem : Memory → SProp 𝓤) (run : Routine → Fun 𝓤) → FmC 𝓤 H (W .laws) C → (table-at : At) (table₀ : List ℕ) (m₀ : MarkerInfo) (source-at : At) (source₀ : List ℕ) (tape-at : At) (tape₀ : List ℕ) (i₀ : ℕ) (to₀ : ℕ) (around₀ : Around) (numbers₀ : Attached) (rec₀ : Record) (list-at : At) (list₀ : List ℕ) (m₀-is : Is MarkerInfo-T.the-row m₀ (LL.val MarkerInfo-T.the-type MarkerInfo-L.the-laws m₀ ∷ [])) (i₀-is : i₀ < 2 ^ 64) (to₀-is : to₀ < 2 ^ 64) (around₀-is : Is Around-T.the-row around₀ (LL.val Around-T.the-type Around-L.the-laws around₀ ∷ [])) (numbers₀-is : Is Attached-T.the-row numbers₀ (EL.val Attached-T.the-type Attached-L.the-laws numbers₀ ∷ [])) (rec₀-is : Is Record-T.the-row rec₀ (LL.val Record-T.the-type Record-L.the-laws rec₀ ∷ [])) (req : (m₀ .«name_start» + m₀ .«name_len» ≤ length table₀) × (Run source₀ tape₀ i₀ to₀) × (i₀ < to₀) × (isOpen (kindAt tape₀ i₀) ≡ true) × (startsOf numbers₀ ≡ startsFor (anchorOf source₀ tape₀ (rec₀ .anchor) i₀) (forest source₀ tape₀ i₀ to₀)) × Room (countsOf rec₀) (ownAt table₀ source₀ tape₀ (aroundOf around₀) (anchorOf source₀ tape₀ (rec₀ .anchor) i₀) (entryOfInfo m₀) i₀ to₀ rec₀)) → ((ν-list : ℕ) → (δ-list : GName) → ent 𝓤 (Con 𝓤 H A at-mem run .pre (to 𝓤 H A at-mem run table-at table₀ m₀ source-at source₀ tape-at tape₀ i₀ to₀ around₀ numbers₀ rec₀ list-at list₀ table-at source-at tape-at (relent list-at ν-list δ-list))) (C #opens·visit-marker (vs 𝓤 H A at-mem run table-at table₀ m₀ source-at source₀ tape-at tape₀ i₀ to₀ around₀ numbers₀ rec₀ list-at list₀) (Con 𝓤 H A at-mem run .post (to 𝓤 H A at-mem run table-at table₀ m₀ source-at source₀ tape-at tape₀ i₀ to₀ around₀ numbers₀ rec₀ list-at list₀ table-at source-at tape-at (relent list-at ν-list δ-list))))) → Opds K W (raw (C #opens·visit-marker (vs 𝓤 H A at-mem run table-at table₀ m₀ source-at source₀ tape-at tape₀ i₀ to₀ around₀ numbers₀ rec₀ list-at list₀) (λ v. mean 𝓤 H A (After 𝓤 H A at-mem run table-at table₀ m₀ source-at source₀ tape-at tape₀ i₀ to₀ around₀ numbers₀ rec₀ list-at list₀ v))) ∷ Γ) E xs (vs 𝓤 H A at-mem run table-at table₀ m₀ source-at source₀ tape-at tape₀ i₀ to₀ around₀ numbers₀ rec₀ list-at list₀)
+  pub calls-visit-marker-last : K → (at-mem : Memory → SProp 𝓤) (run : Routine → Fun 𝓤) → FmC 𝓤 H (W .laws) C → (table-at : At) (table₀ : List ℕ) (m₀ : MarkerInfo) (source-at : At) (source₀ : List ℕ) (tape-at : At) (tape₀ : List ℕ) (i₀ : ℕ) (to₀ : ℕ) (around₀ : Around) (numbers₀ : Attached) (rec₀ : Record) (list-at : At) (list₀ : List ℕ) (m₀-is : Is MarkerInfo-T.the-row m₀ (LL.val MarkerInfo-T.the-type MarkerInfo-L.the-laws m₀ ∷ [])) (i₀-is : i₀ < 2 ^ 64) (to₀-is : to₀ < 2 ^ 64) (around₀-is : Is Around-T.the-row around₀ (LL.val Around-T.the-type Around-L.the-laws around₀ ∷ [])) (numbers₀-is : Is Attached-T.the-row numbers₀ (LL.val Attached-T.the-type Attached-L.the-laws numbers₀ ∷ [])) (rec₀-is : Is Record-T.the-row rec₀ (LL.val Record-T.the-type Record-L.the-laws rec₀ ∷ [])) (req : (m₀ .«name_start» + m₀ .«name_len» ≤ length table₀) × (Run source₀ tape₀ i₀ to₀) × (i₀ < to₀) × (isOpen (kindAt tape₀ i₀) ≡ true) × (startsOf numbers₀ ≡ startsFor (anchorOf source₀ tape₀ (rec₀ .anchor) i₀) (forest source₀ tape₀ i₀ to₀)) × Room (countsOf rec₀) (ownAt table₀ source₀ tape₀ (aroundOf around₀) (anchorOf source₀ tape₀ (rec₀ .anchor) i₀) (entryOfInfo m₀) i₀ to₀ rec₀)) → ((ν-list : ℕ) → (δ-list : GName) → ent 𝓤 (Con 𝓤 H A at-mem run .pre (to 𝓤 H A at-mem run table-at table₀ m₀ source-at source₀ tape-at tape₀ i₀ to₀ around₀ numbers₀ rec₀ list-at list₀ table-at source-at tape-at (relent list-at ν-list δ-list))) (C #opens·visit-marker (vs 𝓤 H A at-mem run table-at table₀ m₀ source-at source₀ tape-at tape₀ i₀ to₀ around₀ numbers₀ rec₀ list-at list₀) (Con 𝓤 H A at-mem run .post (to 𝓤 H A at-mem run table-at table₀ m₀ source-at source₀ tape-at tape₀ i₀ to₀ around₀ numbers₀ rec₀ list-at list₀ table-at source-at tape-at (relent list-at ν-list δ-list))))) → Opds K W (raw (C #opens·visit-marker (vs 𝓤 H A at-mem run table-at table₀ m₀ source-at source₀ tape-at tape₀ i₀ to₀ around₀ numbers₀ rec₀ list-at list₀) (λ v. mean 𝓤 H A (After 𝓤 H A at-mem run table-at table₀ m₀ source-at source₀ tape-at tape₀ i₀ to₀ around₀ numbers₀ rec₀ list-at list₀ v))) ∷ Γ) E xs (vs 𝓤 H A at-mem run table-at table₀ m₀ source-at source₀ tape-at tape₀ i₀ to₀ around₀ numbers₀ rec₀ list-at list₀)
       → ((z : Z 𝓤 H A at-mem run table-at table₀ m₀ source-at source₀ tape-at tape₀ i₀ to₀ around₀ numbers₀ rec₀ list-at list₀) → Says 𝓤 H A at-mem run table-at table₀ m₀ source-at source₀ tape-at tape₀ i₀ to₀ around₀ numbers₀ rec₀ list-at list₀ (LL.val Record-T.the-type Record-L.the-laws (z .0) ∷ []) z → Seq K W (‵ (HasShr u8 table-at table₀) ∷ ‵ (HasShr u8 source-at source₀) ∷ ‵ (HasShr u8 tape-at tape₀) ∷ ‵ (HasMut u64 list-at (z .1 .0)) ∷ Γ) (settles E dst (LL.val Record-T.the-type Record-L.the-laws (z .0)) q)) → Seq K W (‵ (HasShr u8 table-at table₀) ∷ ‵ (HasShr u8 source-at source₀) ∷ ‵ (HasShr u8 tape-at tape₀) ∷ ‵ (HasMut u64 list-at list₀) ∷ Γ) (runs C Λ E (call #opens·visit-marker xs dst) q)
   calls-visit-marker-last t at-mem run fm table-at table₀ m₀ source-at source₀ tape-at tape₀ i₀ to₀ around₀ numbers₀ rec₀ list-at list₀ m₀-is i₀-is to₀-is around₀-is numbers₀-is rec₀-is req met os k =
       cut (‵ (HasShr u8 table-at table₀) ∷ ‵ (HasShr u8 source-at source₀) ∷ ‵ (HasShr u8 tape-at tape₀) ∷ ‵ (HasMut u64 list-at list₀) ∷ []) (later (raw (C #opens·visit-marker (vs 𝓤 H A at-mem run table-at table₀ m₀ source-at source₀ tape-at tape₀ i₀ to₀ around₀ numbers₀ rec₀ list-at list₀) (λ v. mean 𝓤 H A (After 𝓤 H A at-mem run table-at table₀ m₀ source-at source₀ tape-at tape₀ i₀ to₀ around₀ numbers₀ rec₀ list-at list₀ v)))) ∷ []) Γ (called 𝓤 H A at-mem run table-at table₀ m₀ source-at source₀ tape-at tape₀ i₀ to₀ around₀ numbers₀ rec₀ list-at list₀ W C fm m₀-is i₀-is to₀-is around₀-is numbers₀-is rec₀-is req met) $ await t tt $ calls-last t fm (After 𝓤 H A at-mem run table-at table₀ m₀ source-at source₀ tape-at tape₀ i₀ to₀ around₀ numbers₀ rec₀ list-at list₀) os (λ v. await t tt $ pick t (λ z. learn t (λ s. split t $ split t $ split t $ subst (λ (u : Val). Seq K W (‵ (HasShr u8 table-at table₀) ∷ ‵ (HasShr u8 source-at source₀) ∷ ‵ (HasShr u8 tape-at tape₀) ∷ ‵ (HasMut u64 list-at (z .1 .0)) ∷ Γ) (settles E dst u q)) (sym (ap only ((LL.tells Record-T.the-type Record-L.the-laws) (z .0) (v ∷ []) (s .0)))) (k z (subst (Is Record-T.the-row (z .0)) ((LL.tells Record-T.the-type Record-L.the-laws) (z .0) (v ∷ []) (s .0)) (s .0), (s .1 .0, s .1 .1))))))

@@ -35,7 +35,11 @@ fn anchored(
     ensures { λ r. ⌜ startsOf r ≡ startsFor (anchorOf (now (source .entry)) (now (tape .entry)) anchor from) (forest (now (source .entry)) (now (tape .entry)) from to) ⌝ }
 {
     if anchor == 0 {
-        return Attached::Nothing;
+        return Attached {
+            count: 0,
+            first: 0,
+            second: 0,
+        };
     }
     attachment::attached_numbers(
         source,
@@ -207,10 +211,10 @@ fn visit(
     requires { ⌜ (Ready (now table) (now words) count (now source) (now tape) depth i to (now seen) (now opens) (now rec)) × (Visitable (now source) (now tape) i to numbers (now rec)) × (m .«name_start» + m .«name_len» ≤ length (now table)) × Room (countsOf (now rec)) (visitFindings (now table) (now source) (now tape) (aroundOf around) (entryOfInfo m) i to (now seen) (now opens) (now rec)) ⌝ }
     ensures { λ _. ⌜ Visited (now (table .entry)) (now (source .entry)) (now (tape .entry)) (aroundOf around) (entryOfInfo m) i to (now (seen .entry)) (now (opens .entry)) (now (list .entry)) (now (rec .entry)) (now (seen .exit)) (now (opens .exit)) (now (list .exit)) (now (rec .exit)) ⌝ }
 {
-    let before = *rec;
-    if opens::is_calm(table, m, source, tape, i, around, before) {
+    if opens::is_calm(table, m, source, tape, i, around, rec.has_chapter) {
         return;
     }
+    let before = *rec;
     let marked = opens::visit_marker(table, m, source, tape, i, to, around, numbers, before, list);
     let paired = milestones::milestone(m, source, tape, i, opens, marked, list);
     let from = i + 1;

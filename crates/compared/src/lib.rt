@@ -695,18 +695,15 @@ fn put(list: &mut [u64], k: usize, x: u32) {
 fn starts_told(numbers: Attached, list: &mut [u64]) -> u64
     ensures { λ r. ⌜ r ≡ length (startsOf numbers) ⌝ }
 {
-    match numbers {
-        Attached::Nothing => 0,
-        Attached::One(a) => {
-            put(list, 0, a);
-            1
-        }
-        Attached::Two(a, b) => {
-            put(list, 0, a);
-            put(list, 1, b);
-            2
-        }
+    if numbers.count == 0 {
+        return 0;
     }
+    put(list, 0, numbers.first);
+    if numbers.count == 1 {
+        return 1;
+    }
+    put(list, 1, numbers.second);
+    2
 }
 
 // Where the siblings after a chapter or a verse begin that is among a node's children, or 0 where it is no such child of a

@@ -527,11 +527,11 @@ fn is_asked_for(name: &[u8]) -> bool
     is_one_of_four(name)
 }
 
-fn is_placed(m: MarkerInfo, around: Around, rec: Record) -> bool
-    ensures { λ r. ⌜ r ≡ placed (entryOfInfo m) (aroundOf around) (rec .«has_chapter») ⌝ }
+fn is_placed(m: MarkerInfo, around: Around, chapter: bool) -> bool
+    ensures { λ r. ⌜ r ≡ placed (entryOfInfo m) (aroundOf around) chapter ⌝ }
 {
     if running::is_of(m, 3) {
-        return rec.has_chapter;
+        return chapter;
     }
     if running::is_of(m, 4) {
         return around.note;
@@ -539,7 +539,8 @@ fn is_placed(m: MarkerInfo, around: Around, rec: Record) -> bool
     false
 }
 
-// Whether a marker is one of which nothing is said and whose children change nothing, so that its visit is spared.
+// Whether a marker is one of which nothing is said and whose children change nothing, so that its visit is spared. `chapter` says
+// whether a chapter stands before it.
 pub fn is_calm(
     table: &[u8],
     m: MarkerInfo,
@@ -547,12 +548,12 @@ pub fn is_calm(
     tape: &[u8],
     i: usize,
     around: Around,
-    rec: Record,
+    chapter: bool,
 ) -> bool
     requires { ⌜ (m .«name_start» + m .«name_len» ≤ length (now table)) × (i < count (now tape)) × (Run (now source) (now tape) (i + 1) (linkAt (now tape) i)) ⌝ }
-    ensures { λ r. ⌜ r ≡ calmAt (now (table .entry)) (now (source .entry)) (now (tape .entry)) (aroundOf around) (entryOfInfo m) i (rec .«has_chapter») ⌝ }
+    ensures { λ r. ⌜ r ≡ calmAt (now (table .entry)) (now (source .entry)) (now (tape .entry)) (aroundOf around) (entryOfInfo m) i chapter ⌝ }
 {
-    if !is_placed(m, around, rec) {
+    if !is_placed(m, around, chapter) {
         return false;
     }
     let link = tape::link_at(tape, i) as usize;

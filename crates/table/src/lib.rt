@@ -199,7 +199,7 @@ pub fn same(a: &[u8], b: &[u8]) -> bool
         return false;
     }
     if a.len() < 8 {
-        return same_short(a, b);
+        return same_from(a, b, 0);
     }
     same_long(a, b)
 }

@@ -54,7 +54,6 @@ use Rattle.references.proofs.Hand.{At, lent as relent, ptrVal, fatVal, ref, Has
 use Rattle.attachment.specs.declared.Attached.{Attached}
 use Rattle.attachment.proofs.Attached as Attached-T
 use Rattle.attachment.proofs.Attached.Laws as Attached-L
-use Rattle.attachment.specs.declared.Attached.the-variants as Attached-V
 use Rattle.running.specs.declared.Record.{Record}
 use Rattle.running.proofs.Record as Record-T
 use Rattle.running.proofs.Record.Laws as Record-L
@@ -159,7 +158,7 @@ unfolding code.visit-routine code.walk-routine tablesOf
 +visit+walk-spec 𝓤 H 𝓜 𝓖 𝓡 = mutual-elim 𝓤 H (𝓖 .A) (cycle.functions 𝓤 H (𝓖 .A) (𝓜 .mem) (𝓡 .run)) _<_ (Nat·lt-wfRel .wf) (measured 𝓤 H (𝓖 .A) (record { signature = visit-F.signature; run = 𝓡 .run code.visit-routine; spec = visit-F.spec 𝓤 H (𝓖 .A) (𝓜 .mem) (𝓡 .run) }) (μ-visit 𝓤 H (𝓖 .A) (𝓜 .mem) (𝓡 .run)), measured 𝓤 H (𝓖 .A) (record { signature = walk-F.signature; run = 𝓡 .run code.walk-routine; spec = walk-F.spec 𝓤 H (𝓖 .A) (𝓜 .mem) (𝓡 .run) }) (μ-walk 𝓤 H (𝓖 .A) (𝓜 .mem) (𝓡 .run)))
     (λ t below. at-on 𝓤 H (𝓖 .A) visit-F.signature (visit-F.spec 𝓤 H (𝓖 .A) (𝓜 .mem) (𝓡 .run)) (WpFn 𝓤 H ((tablesOf 𝓤 H 𝓜 (tables 𝓤 H 𝓜 𝓡 code.env)) .C) ((tablesOf 𝓤 H 𝓜 (tables 𝓤 H 𝓜 𝓡 code.env)) .Λ) code.visit-function) ((tablesOf 𝓤 H 𝓜 (tables 𝓤 H 𝓜 𝓡 code.env)) .C #checker·visit) (code.visit-unfolded 𝓤 H 𝓜 𝓡) (μ-visit 𝓤 H (𝓖 .A) (𝓜 .mem) (𝓡 .run)) t (λ y e.
     walk-meets-at 𝓤 H (𝓖 .A) visit-F.ended visit-W.stayed (givenOf 𝓤 H 𝓜 𝓖) (goes-none-slice 𝓤 H (𝓖 .A) (givenOf 𝓤 H 𝓜 𝓖) 8 (0 ∷ []) tt (plain (λ _. u8)) yes, (goes-none-slice 𝓤 H (𝓖 .A) (givenOf 𝓤 H 𝓜 𝓖) 8 (1 ∷ []) tt (plain (λ _. u64)) yes, (goes-none 𝓤 H (𝓖 .A) (givenOf 𝓤 H 𝓜 𝓖) 8 (λ _. usize) yes (λ κs x f. refl), (goes-none-slice 𝓤 H (𝓖 .A) (givenOf 𝓤 H 𝓜 𝓖) 8 (2 ∷ []) tt (plain (λ _. u8)) yes, (goes-none-slice 𝓤 H (𝓖 .A) (givenOf 𝓤 H 𝓜 𝓖) 8 (3 ∷ []) tt (plain (λ _. u8)) yes, (goes-none 𝓤 H (𝓖 .A) (givenOf 𝓤 H 𝓜 𝓖) 8 (λ _. usize) yes (λ κs x f. refl), (goes-none 𝓤 H (𝓖 .A) (givenOf 𝓤 H 𝓜 𝓖) 8 (λ _. usize) yes (λ κs x f. refl), (goes-none 𝓤 H (𝓖 .A) (givenOf 𝓤 H 𝓜 𝓖) 8 (λ _. usize) yes (λ κs x f. refl), (goes-none 𝓤 H (𝓖 .A) (givenOf 𝓤 H 𝓜 𝓖) 8 (λ _. MarkerInfo-T.the-row) yes (λ κs x f. refl), (goes-none 𝓤 H (𝓖 .A) (givenOf 𝓤 H 𝓜 𝓖) 8 (λ _. Around-T.the-row) yes (λ κs x f. refl), (goes-none 𝓤 H (𝓖 .A) (givenOf 𝓤 H 𝓜 𝓖) 8 (λ _. Attached-T.the-row) yes (λ κs x f. refl), (goes-ref 𝓤 H (𝓖 .A) (givenOf 𝓤 H 𝓜 𝓖) 8 4 tt (plain (λ _. Record-T.the-row)), (goes-slice 𝓤 H (𝓖 .A) (givenOf 𝓤 H 𝓜 𝓖) 8 5 tt (plain (λ _. u32)), (goes-slice 𝓤 H (𝓖 .A) (givenOf 𝓤 H 𝓜 𝓖) 8 6 tt (plain (λ _. OpenStart-T.the-row)), (goes-slice 𝓤 H (𝓖 .A) (givenOf 𝓤 H 𝓜 𝓖) 8 7 tt (plain (λ _. u64)), tt))))))))))))))) (visit-F.clauses 𝓤 H (𝓖 .A) (𝓜 .mem) (𝓡 .run)) (WpFn 𝓤 H ((tablesOf 𝓤 H 𝓜 (tables 𝓤 H 𝓜 𝓡 code.env)) .C) ((tablesOf 𝓤 H 𝓜 (tables 𝓤 H 𝓜 𝓡 code.env)) .Λ) code.visit-function) (WpFn-mono 𝓤 H ((givenOf 𝓤 H 𝓜 𝓖) .laws) (tablesOf 𝓤 H 𝓜 (tables 𝓤 H 𝓜 𝓡 code.env)) code.visit-function) y
-    (walked-at 𝓤 H (𝓖 .A) visit-F.ended visit-W.stayed (visit-F.clauses 𝓤 H (𝓖 .A) (𝓜 .mem) (𝓡 .run)) (WpFn 𝓤 H ((tablesOf 𝓤 H 𝓜 (tables 𝓤 H 𝓜 𝓡 code.env)) .C) ((tablesOf 𝓤 H 𝓜 (tables 𝓤 H 𝓜 𝓡 code.env)) .Λ) code.visit-function) y (slice-vals, (slice-vals, ((uint-vals w64), (slice-vals, (slice-vals, ((uint-vals w64), ((uint-vals w64), ((uint-vals w64), ((LL.vals MarkerInfo-T.the-type MarkerInfo-L.the-laws), ((LL.vals Around-T.the-type Around-L.the-laws), ((EL.vals Attached-T.the-type Attached-L.the-laws), (ptr-vals, (slice-vals, (slice-vals, (slice-vals, tt))))))))))))))) (shr-slice-tells (named 0) (y .0 .0 .0) u8, (shr-slice-tells (named 1) (y .0 .0 .1 .0) u64, ((uint-tells w64), (shr-slice-tells (named 2) (y .0 .0 .1 .1 .0) u8, (shr-slice-tells (named 3) (y .0 .0 .1 .1 .1 .0) u8, ((uint-tells w64), ((uint-tells w64), ((uint-tells w64), ((LL.tells MarkerInfo-T.the-type MarkerInfo-L.the-laws), ((LL.tells Around-T.the-type Around-L.the-laws), ((EL.tells Attached-T.the-type Attached-L.the-laws), (mut-tells (named 4) (y .0 .0 .1 .1 .1 .1 .0) Record-T.the-row, (mut-slice-tells (named 5) (y .0 .0 .1 .1 .1 .1 .1 .0) u32, (mut-slice-tells (named 6) (y .0 .0 .1 .1 .1 .1 .1 .1 .0) OpenStart-T.the-row, (mut-slice-tells (named 7) (y .0 .0 .1 .1 .1 .1 .1 .1 .1 .0) u64, tt))))))))))))))) (λ are. needs 𝓤 ((Ready (y .0 .3 .0 .now) (y .0 .3 .1 .0 .now) (y .0 .3 .1 .1 .0) (y .0 .3 .1 .1 .1 .0 .now) (y .0 .3 .1 .1 .1 .1 .0 .now) (y .0 .3 .1 .1 .1 .1 .1 .1 .1 .0) (y .0 .3 .1 .1 .1 .1 .1 .0) (y .0 .3 .1 .1 .1 .1 .1 .1 .0) (y .0 .3 .1 .1 .1 .1 .1 .1 .1 .1 .1 .1 .1 .1 .0 .now) (y .0 .3 .1 .1 .1 .1 .1 .1 .1 .1 .1 .1 .1 .1 .1 .0 .now) (y .0 .3 .1 .1 .1 .1 .1 .1 .1 .1 .1 .1 .1 .0 .now)) × (Visitable (y .0 .3 .1 .1 .1 .0 .now) (y .0 .3 .1 .1 .1 .1 .0 .now) (y .0 .3 .1 .1 .1 .1 .1 .0) (y .0 .3 .1 .1 .1 .1 .1 .1 .0) (y .0 .3 .1 .1 .1 .1 .1 .1 .1 .1 .1 .1 .0) (y .0 .3 .1 .1 .1 .1 .1 .1 .1 .1 .1 .1 .1 .0 .now)) × ((y .0 .3 .1 .1 .1 .1 .1 .1 .1 .1 .0) .«name_start» + (y .0 .3 .1 .1 .1 .1 .1 .1 .1 .1 .0) .«name_len» ≤ length (y .0 .3 .0 .now)) × Room (countsOf (y .0 .3 .1 .1 .1 .1 .1 .1 .1 .1 .1 .1 .1 .0 .now)) (visitFindings (y .0 .3 .0 .now) (y .0 .3 .1 .1 .1 .0 .now) (y .0 .3 .1 .1 .1 .1 .0 .now) (aroundOf (y .0 .3 .1 .1 .1 .1 .1 .1 .1 .1 .1 .0)) (entryOfInfo (y .0 .3 .1 .1 .1 .1 .1 .1 .1 .1 .0)) (y .0 .3 .1 .1 .1 .1 .1 .0) (y .0 .3 .1 .1 .1 .1 .1 .1 .0) (y .0 .3 .1 .1 .1 .1 .1 .1 .1 .1 .1 .1 .1 .1 .0 .now) (y .0 .3 .1 .1 .1 .1 .1 .1 .1 .1 .1 .1 .1 .1 .1 .0 .now) (y .0 .3 .1 .1 .1 .1 .1 .1 .1 .1 .1 .1 .1 .0 .now))) _ (λ req. visit-W.walk 𝓤 H (𝓖 .A) (givenOf 𝓤 H 𝓜 𝓖) (𝓜 .mem) (𝓡 .run) (record { κ = y .0 .0 .0; q = y .0 .1 .0; γ = y .0 .3 .0 .name; b = y .0 .3 .0 .ptr .0; o = y .0 .3 .0 .ptr .1; n = length (y .0 .3 .0 .now) }) (y .0 .3 .0 .now) (record { κ = y .0 .0 .1 .0; q = y .0 .1 .1 .0; γ = y .0 .3 .1 .0 .name; b = y .0 .3 .1 .0 .ptr .0; o = y .0 .3 .1 .0 .ptr .1; n = length (y .0 .3 .1 .0 .now) }) (y .0 .3 .1 .0 .now) (y .0 .3 .1 .1 .0) (record { κ = y .0 .0 .1 .1 .0; q = y .0 .1 .1 .1 .0; γ = y .0 .3 .1 .1 .1 .0 .name; b = y .0 .3 .1 .1 .1 .0 .ptr .0; o = y .0 .3 .1 .1 .1 .0 .ptr .1; n = length (y .0 .3 .1 .1 .1 .0 .now) }) (y .0 .3 .1 .1 .1 .0 .now) (record { κ = y .0 .0 .1 .1 .1 .0; q = y .0 .1 .1 .1 .1 .0; γ = y .0 .3 .1 .1 .1 .1 .0 .name; b = y .0 .3 .1 .1 .1 .1 .0 .ptr .0; o = y .0 .3 .1 .1 .1 .1 .0 .ptr .1; n = length (y .0 .3 .1 .1 .1 .1 .0 .now) }) (y .0 .3 .1 .1 .1 .1 .0 .now) (y .0 .3 .1 .1 .1 .1 .1 .0) (y .0 .3 .1 .1 .1 .1 .1 .1 .0) (y .0 .3 .1 .1 .1 .1 .1 .1 .1 .0) (y .0 .3 .1 .1 .1 .1 .1 .1 .1 .1 .0) (y .0 .3 .1 .1 .1 .1 .1 .1 .1 .1 .1 .0) (y .0 .3 .1 .1 .1 .1 .1 .1 .1 .1 .1 .1 .0) (record { κ = y .0 .0 .1 .1 .1 .1 .0; q = y .0 .1 .1 .1 .1 .1 .0; γ = y .0 .3 .1 .1 .1 .1 .1 .1 .1 .1 .1 .1 .1 .0 .name; b = y .0 .3 .1 .1 .1 .1 .1 .1 .1 .1 .1 .1 .1 .0 .ptr .0; o = y .0 .3 .1 .1 .1 .1 .1 .1 .1 .1 .1 .1 .1 .0 .ptr .1; n = 0 }) (y .0 .3 .1 .1 .1 .1 .1 .1 .1 .1 .1 .1 .1 .0 .now) (record { κ = y .0 .0 .1 .1 .1 .1 .1 .0; q = y .0 .1 .1 .1 .1 .1 .1 .0; γ = y .0 .3 .1 .1 .1 .1 .1 .1 .1 .1 .1 .1 .1 .1 .0 .name; b = y .0 .3 .1 .1 .1 .1 .1 .1 .1 .1 .1 .1 .1 .1 .0 .ptr .0; o = y .0 .3 .1 .1 .1 .1 .1 .1 .1 .1 .1 .1 .1 .1 .0 .ptr .1; n = length (y .0 .3 .1 .1 .1 .1 .1 .1 .1 .1 .1 .1 .1 .1 .0 .now) }) (y .0 .3 .1 .1 .1 .1 .1 .1 .1 .1 .1 .1 .1 .1 .0 .now) (record { κ = y .0 .0 .1 .1 .1 .1 .1 .1 .0; q = y .0 .1 .1 .1 .1 .1 .1 .1 .0; γ = y .0 .3 .1 .1 .1 .1 .1 .1 .1 .1 .1 .1 .1 .1 .1 .0 .name; b = y .0 .3 .1 .1 .1 .1 .1 .1 .1 .1 .1 .1 .1 .1 .1 .0 .ptr .0; o = y .0 .3 .1 .1 .1 .1 .1 .1 .1 .1 .1 .1 .1 .1 .1 .0 .ptr .1; n = length (y .0 .3 .1 .1 .1 .1 .1 .1 .1 .1 .1 .1 .1 .1 .1 .0 .now) }) (y .0 .3 .1 .1 .1 .1 .1 .1 .1 .1 .1 .1 .1 .1 .1 .0 .now) (record { κ = y .0 .0 .1 .1 .1 .1 .1 .1 .1 .0; q = y .0 .1 .1 .1 .1 .1 .1 .1 .1 .0; γ = y .0 .3 .1 .1 .1 .1 .1 .1 .1 .1 .1 .1 .1 .1 .1 .1 .0 .name; b = y .0 .3 .1 .1 .1 .1 .1 .1 .1 .1 .1 .1 .1 .1 .1 .1 .0 .ptr .0; o = y .0 .3 .1 .1 .1 .1 .1 .1 .1 .1 .1 .1 .1 .1 .1 .1 .0 .ptr .1; n = length (y .0 .3 .1 .1 .1 .1 .1 .1 .1 .1 .1 .1 .1 .1 .1 .1 .0 .now) }) (y .0 .3 .1 .1 .1 .1 .1 .1 .1 .1 .1 .1 .1 .1 .1 .1 .0 .now) (are .0 .0 .1) refl (are .1 .0 .0 .1) refl (are .1 .1 .0 .1) (are .1 .1 .1 .0 .0 .1) refl (are .1 .1 .1 .1 .0 .0 .1) refl (are .1 .1 .1 .1 .1 .0 .1) (are .1 .1 .1 .1 .1 .1 .0 .1) (are .1 .1 .1 .1 .1 .1 .1 .0 .1) (are .1 .1 .1 .1 .1 .1 .1 .1 .0) (are .1 .1 .1 .1 .1 .1 .1 .1 .1 .0) (are .1 .1 .1 .1 .1 .1 .1 .1 .1 .1 .0) (are .1 .1 .1 .1 .1 .1 .1 .1 .1 .1 .1 .1 .0 .0 .1) refl (are .1 .1 .1 .1 .1 .1 .1 .1 .1 .1 .1 .1 .1 .0 .0 .1) refl (are .1 .1 .1 .1 .1 .1 .1 .1 .1 .1 .1 .1 .1 .1 .0 .0 .1) refl req (tablesOf 𝓤 H 𝓜 (tables 𝓤 H 𝓜 𝓡 code.env)) (cited 𝓤 H (is-calm-C.Con 𝓤 H (𝓖 .A) (𝓜 .mem) (𝓡 .run)) 𝓜 𝓡 code.env #opens·is-calm is-calm-def.routine code.calls-opens·is-calm (is-calm-thm.met 𝓤 H 𝓜 𝓖 𝓡)) (cited 𝓤 H (visit-marker-C.Con 𝓤 H (𝓖 .A) (𝓜 .mem) (𝓡 .run)) 𝓜 𝓡 code.env #opens·visit-marker visit-marker-def.routine code.calls-opens·visit-marker (visit-marker-thm.met 𝓤 H 𝓜 𝓖 𝓡)) (cited 𝓤 H (milestone-C.Con 𝓤 H (𝓖 .A) (𝓜 .mem) (𝓡 .run)) 𝓜 𝓡 code.env #milestones·milestone milestone-def.routine code.calls-milestones·milestone (milestone-thm.met 𝓤 H 𝓜 𝓖 𝓡)) (cited 𝓤 H (link-at-C.Con 𝓤 H (𝓖 .A) (𝓜 .mem) (𝓡 .run)) 𝓜 𝓡 code.env #tape·link-at link-at-def.routine code.calls-tape·link-at (link-at-thm.met 𝓤 H 𝓜 𝓖 𝓡)) (cited 𝓤 H (is-quiet-C.Con 𝓤 H (𝓖 .A) (𝓜 .mem) (𝓡 .run)) 𝓜 𝓡 code.env #checker·is-quiet is-quiet-def.routine code.calls-checker·is-quiet (is-quiet-thm.met 𝓤 H 𝓜 𝓖 𝓡)) (cited 𝓤 H (with-anchor-C.Con 𝓤 H (𝓖 .A) (𝓜 .mem) (𝓡 .run)) 𝓜 𝓡 code.env #running·with-anchor with-anchor-def.routine code.calls-running·with-anchor (with-anchor-thm.met 𝓤 H 𝓜 𝓖 𝓡)) (cited 𝓤 H (inside-C.Con 𝓤 H (𝓖 .A) (𝓜 .mem) (𝓡 .run)) 𝓜 𝓡 code.env #running·inside inside-def.routine code.calls-running·inside (inside-thm.met 𝓤 H 𝓜 𝓖 𝓡)) (λ y′ lt. below .1 ((μ-walk 𝓤 H (𝓖 .A) (𝓜 .mem) (𝓡 .run)) y′) (subst (λ (s : ℕ). (μ-walk 𝓤 H (𝓖 .A) (𝓜 .mem) (𝓡 .run)) y′ < s) e lt) y′ refl))))))
+    (walked-at 𝓤 H (𝓖 .A) visit-F.ended visit-W.stayed (visit-F.clauses 𝓤 H (𝓖 .A) (𝓜 .mem) (𝓡 .run)) (WpFn 𝓤 H ((tablesOf 𝓤 H 𝓜 (tables 𝓤 H 𝓜 𝓡 code.env)) .C) ((tablesOf 𝓤 H 𝓜 (tables 𝓤 H 𝓜 𝓡 code.env)) .Λ) code.visit-function) y (slice-vals, (slice-vals, ((uint-vals w64), (slice-vals, (slice-vals, ((uint-vals w64), ((uint-vals w64), ((uint-vals w64), ((LL.vals MarkerInfo-T.the-type MarkerInfo-L.the-laws), ((LL.vals Around-T.the-type Around-L.the-laws), ((LL.vals Attached-T.the-type Attached-L.the-laws), (ptr-vals, (slice-vals, (slice-vals, (slice-vals, tt))))))))))))))) (shr-slice-tells (named 0) (y .0 .0 .0) u8, (shr-slice-tells (named 1) (y .0 .0 .1 .0) u64, ((uint-tells w64), (shr-slice-tells (named 2) (y .0 .0 .1 .1 .0) u8, (shr-slice-tells (named 3) (y .0 .0 .1 .1 .1 .0) u8, ((uint-tells w64), ((uint-tells w64), ((uint-tells w64), ((LL.tells MarkerInfo-T.the-type MarkerInfo-L.the-laws), ((LL.tells Around-T.the-type Around-L.the-laws), ((LL.tells Attached-T.the-type Attached-L.the-laws), (mut-tells (named 4) (y .0 .0 .1 .1 .1 .1 .0) Record-T.the-row, (mut-slice-tells (named 5) (y .0 .0 .1 .1 .1 .1 .1 .0) u32, (mut-slice-tells (named 6) (y .0 .0 .1 .1 .1 .1 .1 .1 .0) OpenStart-T.the-row, (mut-slice-tells (named 7) (y .0 .0 .1 .1 .1 .1 .1 .1 .1 .0) u64, tt))))))))))))))) (λ are. needs 𝓤 ((Ready (y .0 .3 .0 .now) (y .0 .3 .1 .0 .now) (y .0 .3 .1 .1 .0) (y .0 .3 .1 .1 .1 .0 .now) (y .0 .3 .1 .1 .1 .1 .0 .now) (y .0 .3 .1 .1 .1 .1 .1 .1 .1 .0) (y .0 .3 .1 .1 .1 .1 .1 .0) (y .0 .3 .1 .1 .1 .1 .1 .1 .0) (y .0 .3 .1 .1 .1 .1 .1 .1 .1 .1 .1 .1 .1 .1 .0 .now) (y .0 .3 .1 .1 .1 .1 .1 .1 .1 .1 .1 .1 .1 .1 .1 .0 .now) (y .0 .3 .1 .1 .1 .1 .1 .1 .1 .1 .1 .1 .1 .0 .now)) × (Visitable (y .0 .3 .1 .1 .1 .0 .now) (y .0 .3 .1 .1 .1 .1 .0 .now) (y .0 .3 .1 .1 .1 .1 .1 .0) (y .0 .3 .1 .1 .1 .1 .1 .1 .0) (y .0 .3 .1 .1 .1 .1 .1 .1 .1 .1 .1 .1 .0) (y .0 .3 .1 .1 .1 .1 .1 .1 .1 .1 .1 .1 .1 .0 .now)) × ((y .0 .3 .1 .1 .1 .1 .1 .1 .1 .1 .0) .«name_start» + (y .0 .3 .1 .1 .1 .1 .1 .1 .1 .1 .0) .«name_len» ≤ length (y .0 .3 .0 .now)) × Room (countsOf (y .0 .3 .1 .1 .1 .1 .1 .1 .1 .1 .1 .1 .1 .0 .now)) (visitFindings (y .0 .3 .0 .now) (y .0 .3 .1 .1 .1 .0 .now) (y .0 .3 .1 .1 .1 .1 .0 .now) (aroundOf (y .0 .3 .1 .1 .1 .1 .1 .1 .1 .1 .1 .0)) (entryOfInfo (y .0 .3 .1 .1 .1 .1 .1 .1 .1 .1 .0)) (y .0 .3 .1 .1 .1 .1 .1 .0) (y .0 .3 .1 .1 .1 .1 .1 .1 .0) (y .0 .3 .1 .1 .1 .1 .1 .1 .1 .1 .1 .1 .1 .1 .0 .now) (y .0 .3 .1 .1 .1 .1 .1 .1 .1 .1 .1 .1 .1 .1 .1 .0 .now) (y .0 .3 .1 .1 .1 .1 .1 .1 .1 .1 .1 .1 .1 .0 .now))) _ (λ req. visit-W.walk 𝓤 H (𝓖 .A) (givenOf 𝓤 H 𝓜 𝓖) (𝓜 .mem) (𝓡 .run) (record { κ = y .0 .0 .0; q = y .0 .1 .0; γ = y .0 .3 .0 .name; b = y .0 .3 .0 .ptr .0; o = y .0 .3 .0 .ptr .1; n = length (y .0 .3 .0 .now) }) (y .0 .3 .0 .now) (record { κ = y .0 .0 .1 .0; q = y .0 .1 .1 .0; γ = y .0 .3 .1 .0 .name; b = y .0 .3 .1 .0 .ptr .0; o = y .0 .3 .1 .0 .ptr .1; n = length (y .0 .3 .1 .0 .now) }) (y .0 .3 .1 .0 .now) (y .0 .3 .1 .1 .0) (record { κ = y .0 .0 .1 .1 .0; q = y .0 .1 .1 .1 .0; γ = y .0 .3 .1 .1 .1 .0 .name; b = y .0 .3 .1 .1 .1 .0 .ptr .0; o = y .0 .3 .1 .1 .1 .0 .ptr .1; n = length (y .0 .3 .1 .1 .1 .0 .now) }) (y .0 .3 .1 .1 .1 .0 .now) (record { κ = y .0 .0 .1 .1 .1 .0; q = y .0 .1 .1 .1 .1 .0; γ = y .0 .3 .1 .1 .1 .1 .0 .name; b = y .0 .3 .1 .1 .1 .1 .0 .ptr .0; o = y .0 .3 .1 .1 .1 .1 .0 .ptr .1; n = length (y .0 .3 .1 .1 .1 .1 .0 .now) }) (y .0 .3 .1 .1 .1 .1 .0 .now) (y .0 .3 .1 .1 .1 .1 .1 .0) (y .0 .3 .1 .1 .1 .1 .1 .1 .0) (y .0 .3 .1 .1 .1 .1 .1 .1 .1 .0) (y .0 .3 .1 .1 .1 .1 .1 .1 .1 .1 .0) (y .0 .3 .1 .1 .1 .1 .1 .1 .1 .1 .1 .0) (y .0 .3 .1 .1 .1 .1 .1 .1 .1 .1 .1 .1 .0) (record { κ = y .0 .0 .1 .1 .1 .1 .0; q = y .0 .1 .1 .1 .1 .1 .0; γ = y .0 .3 .1 .1 .1 .1 .1 .1 .1 .1 .1 .1 .1 .0 .name; b = y .0 .3 .1 .1 .1 .1 .1 .1 .1 .1 .1 .1 .1 .0 .ptr .0; o = y .0 .3 .1 .1 .1 .1 .1 .1 .1 .1 .1 .1 .1 .0 .ptr .1; n = 0 }) (y .0 .3 .1 .1 .1 .1 .1 .1 .1 .1 .1 .1 .1 .0 .now) (record { κ = y .0 .0 .1 .1 .1 .1 .1 .0; q = y .0 .1 .1 .1 .1 .1 .1 .0; γ = y .0 .3 .1 .1 .1 .1 .1 .1 .1 .1 .1 .1 .1 .1 .0 .name; b = y .0 .3 .1 .1 .1 .1 .1 .1 .1 .1 .1 .1 .1 .1 .0 .ptr .0; o = y .0 .3 .1 .1 .1 .1 .1 .1 .1 .1 .1 .1 .1 .1 .0 .ptr .1; n = length (y .0 .3 .1 .1 .1 .1 .1 .1 .1 .1 .1 .1 .1 .1 .0 .now) }) (y .0 .3 .1 .1 .1 .1 .1 .1 .1 .1 .1 .1 .1 .1 .0 .now) (record { κ = y .0 .0 .1 .1 .1 .1 .1 .1 .0; q = y .0 .1 .1 .1 .1 .1 .1 .1 .0; γ = y .0 .3 .1 .1 .1 .1 .1 .1 .1 .1 .1 .1 .1 .1 .1 .0 .name; b = y .0 .3 .1 .1 .1 .1 .1 .1 .1 .1 .1 .1 .1 .1 .1 .0 .ptr .0; o = y .0 .3 .1 .1 .1 .1 .1 .1 .1 .1 .1 .1 .1 .1 .1 .0 .ptr .1; n = length (y .0 .3 .1 .1 .1 .1 .1 .1 .1 .1 .1 .1 .1 .1 .1 .0 .now) }) (y .0 .3 .1 .1 .1 .1 .1 .1 .1 .1 .1 .1 .1 .1 .1 .0 .now) (record { κ = y .0 .0 .1 .1 .1 .1 .1 .1 .1 .0; q = y .0 .1 .1 .1 .1 .1 .1 .1 .1 .0; γ = y .0 .3 .1 .1 .1 .1 .1 .1 .1 .1 .1 .1 .1 .1 .1 .1 .0 .name; b = y .0 .3 .1 .1 .1 .1 .1 .1 .1 .1 .1 .1 .1 .1 .1 .1 .0 .ptr .0; o = y .0 .3 .1 .1 .1 .1 .1 .1 .1 .1 .1 .1 .1 .1 .1 .1 .0 .ptr .1; n = length (y .0 .3 .1 .1 .1 .1 .1 .1 .1 .1 .1 .1 .1 .1 .1 .1 .0 .now) }) (y .0 .3 .1 .1 .1 .1 .1 .1 .1 .1 .1 .1 .1 .1 .1 .1 .0 .now) (are .0 .0 .1) refl (are .1 .0 .0 .1) refl (are .1 .1 .0 .1) (are .1 .1 .1 .0 .0 .1) refl (are .1 .1 .1 .1 .0 .0 .1) refl (are .1 .1 .1 .1 .1 .0 .1) (are .1 .1 .1 .1 .1 .1 .0 .1) (are .1 .1 .1 .1 .1 .1 .1 .0 .1) (are .1 .1 .1 .1 .1 .1 .1 .1 .0) (are .1 .1 .1 .1 .1 .1 .1 .1 .1 .0) (are .1 .1 .1 .1 .1 .1 .1 .1 .1 .1 .0) (are .1 .1 .1 .1 .1 .1 .1 .1 .1 .1 .1 .1 .0 .0 .1) refl (are .1 .1 .1 .1 .1 .1 .1 .1 .1 .1 .1 .1 .1 .0 .0 .1) refl (are .1 .1 .1 .1 .1 .1 .1 .1 .1 .1 .1 .1 .1 .1 .0 .0 .1) refl req (tablesOf 𝓤 H 𝓜 (tables 𝓤 H 𝓜 𝓡 code.env)) (cited 𝓤 H (is-calm-C.Con 𝓤 H (𝓖 .A) (𝓜 .mem) (𝓡 .run)) 𝓜 𝓡 code.env #opens·is-calm is-calm-def.routine code.calls-opens·is-calm (is-calm-thm.met 𝓤 H 𝓜 𝓖 𝓡)) (cited 𝓤 H (visit-marker-C.Con 𝓤 H (𝓖 .A) (𝓜 .mem) (𝓡 .run)) 𝓜 𝓡 code.env #opens·visit-marker visit-marker-def.routine code.calls-opens·visit-marker (visit-marker-thm.met 𝓤 H 𝓜 𝓖 𝓡)) (cited 𝓤 H (milestone-C.Con 𝓤 H (𝓖 .A) (𝓜 .mem) (𝓡 .run)) 𝓜 𝓡 code.env #milestones·milestone milestone-def.routine code.calls-milestones·milestone (milestone-thm.met 𝓤 H 𝓜 𝓖 𝓡)) (cited 𝓤 H (link-at-C.Con 𝓤 H (𝓖 .A) (𝓜 .mem) (𝓡 .run)) 𝓜 𝓡 code.env #tape·link-at link-at-def.routine code.calls-tape·link-at (link-at-thm.met 𝓤 H 𝓜 𝓖 𝓡)) (cited 𝓤 H (is-quiet-C.Con 𝓤 H (𝓖 .A) (𝓜 .mem) (𝓡 .run)) 𝓜 𝓡 code.env #checker·is-quiet is-quiet-def.routine code.calls-checker·is-quiet (is-quiet-thm.met 𝓤 H 𝓜 𝓖 𝓡)) (cited 𝓤 H (with-anchor-C.Con 𝓤 H (𝓖 .A) (𝓜 .mem) (𝓡 .run)) 𝓜 𝓡 code.env #running·with-anchor with-anchor-def.routine code.calls-running·with-anchor (with-anchor-thm.met 𝓤 H 𝓜 𝓖 𝓡)) (cited 𝓤 H (inside-C.Con 𝓤 H (𝓖 .A) (𝓜 .mem) (𝓡 .run)) 𝓜 𝓡 code.env #running·inside inside-def.routine code.calls-running·inside (inside-thm.met 𝓤 H 𝓜 𝓖 𝓡)) (λ y′ lt. below .1 ((μ-walk 𝓤 H (𝓖 .A) (𝓜 .mem) (𝓡 .run)) y′) (subst (λ (s : ℕ). (μ-walk 𝓤 H (𝓖 .A) (𝓜 .mem) (𝓡 .run)) y′ < s) e lt) y′ refl))))))
     (λ t below. at-on 𝓤 H (𝓖 .A) walk-F.signature (walk-F.spec 𝓤 H (𝓖 .A) (𝓜 .mem) (𝓡 .run)) (WpFn 𝓤 H ((tablesOf 𝓤 H 𝓜 (tables 𝓤 H 𝓜 𝓡 code.env)) .C) ((tablesOf 𝓤 H 𝓜 (tables 𝓤 H 𝓜 𝓡 code.env)) .Λ) code.walk-function) ((tablesOf 𝓤 H 𝓜 (tables 𝓤 H 𝓜 𝓡 code.env)) .C #checker·walk) (code.walk-unfolded 𝓤 H 𝓜 𝓡) (μ-walk 𝓤 H (𝓖 .A) (𝓜 .mem) (𝓡 .run)) t (λ y e.
     walk-meets-at 𝓤 H (𝓖 .A) walk-F.ended walk-W.stayed (givenOf 𝓤 H 𝓜 𝓖) (goes-none-slice 𝓤 H (𝓖 .A) (givenOf 𝓤 H 𝓜 𝓖) 8 (0 ∷ []) tt (plain (λ _. u8)) yes, (goes-none-slice 𝓤 H (𝓖 .A) (givenOf 𝓤 H 𝓜 𝓖) 8 (1 ∷ []) tt (plain (λ _. u64)) yes, (goes-none 𝓤 H (𝓖 .A) (givenOf 𝓤 H 𝓜 𝓖) 8 (λ _. usize) yes (λ κs x f. refl), (goes-none-slice 𝓤 H (𝓖 .A) (givenOf 𝓤 H 𝓜 𝓖) 8 (2 ∷ []) tt (plain (λ _. u8)) yes, (goes-none-slice 𝓤 H (𝓖 .A) (givenOf 𝓤 H 𝓜 𝓖) 8 (3 ∷ []) tt (plain (λ _. u8)) yes, (goes-none 𝓤 H (𝓖 .A) (givenOf 𝓤 H 𝓜 𝓖) 8 (λ _. usize) yes (λ κs x f. refl), (goes-none 𝓤 H (𝓖 .A) (givenOf 𝓤 H 𝓜 𝓖) 8 (λ _. usize) yes (λ κs x f. refl), (goes-none 𝓤 H (𝓖 .A) (givenOf 𝓤 H 𝓜 𝓖) 8 (λ _. usize) yes (λ κs x f. refl), (goes-none 𝓤 H (𝓖 .A) (givenOf 𝓤 H 𝓜 𝓖) 8 (λ _. Around-T.the-row) yes (λ κs x f. refl), (goes-ref 𝓤 H (𝓖 .A) (givenOf 𝓤 H 𝓜 𝓖) 8 4 tt (plain (λ _. Record-T.the-row)), (goes-slice 𝓤 H (𝓖 .A) (givenOf 𝓤 H 𝓜 𝓖) 8 5 tt (plain (λ _. u32)), (goes-slice 𝓤 H (𝓖 .A) (givenOf 𝓤 H 𝓜 𝓖) 8 6 tt (plain (λ _. OpenStart-T.the-row)), (goes-slice 𝓤 H (𝓖 .A) (givenOf 𝓤 H 𝓜 𝓖) 8 7 tt (plain (λ _. u64)), tt))))))))))))) (walk-F.clauses 𝓤 H (𝓖 .A) (𝓜 .mem) (𝓡 .run)) (WpFn 𝓤 H ((tablesOf 𝓤 H 𝓜 (tables 𝓤 H 𝓜 𝓡 code.env)) .C) ((tablesOf 𝓤 H 𝓜 (tables 𝓤 H 𝓜 𝓡 code.env)) .Λ) code.walk-function) (WpFn-mono 𝓤 H ((givenOf 𝓤 H 𝓜 𝓖) .laws) (tablesOf 𝓤 H 𝓜 (tables 𝓤 H 𝓜 𝓡 code.env)) code.walk-function) y
     (walked-at 𝓤 H (𝓖 .A) walk-F.ended walk-W.stayed (walk-F.clauses 𝓤 H (𝓖 .A) (𝓜 .mem) (𝓡 .run)) (WpFn 𝓤 H ((tablesOf 𝓤 H 𝓜 (tables 𝓤 H 𝓜 𝓡 code.env)) .C) ((tablesOf 𝓤 H 𝓜 (tables 𝓤 H 𝓜 𝓡 code.env)) .Λ) code.walk-function) y (slice-vals, (slice-vals, ((uint-vals w64), (slice-vals, (slice-vals, ((uint-vals w64), ((uint-vals w64), ((uint-vals w64), ((LL.vals Around-T.the-type Around-L.the-laws), (ptr-vals, (slice-vals, (slice-vals, (slice-vals, tt))))))))))))) (shr-slice-tells (named 0) (y .0 .0 .0) u8, (shr-slice-tells (named 1) (y .0 .0 .1 .0) u64, ((uint-tells w64), (shr-slice-tells (named 2) (y .0 .0 .1 .1 .0) u8, (shr-slice-tells (named 3) (y .0 .0 .1 .1 .1 .0) u8, ((uint-tells w64), ((uint-tells w64), ((uint-tells w64), ((LL.tells Around-T.the-type Around-L.the-laws), (mut-tells (named 4) (y .0 .0 .1 .1 .1 .1 .0) Record-T.the-row, (mut-slice-tells (named 5) (y .0 .0 .1 .1 .1 .1 .1 .0) u32, (mut-slice-tells (named 6) (y .0 .0 .1 .1 .1 .1 .1 .1 .0) OpenStart-T.the-row, (mut-slice-tells (named 7) (y .0 .0 .1 .1 .1 .1 .1 .1 .1 .0) u64, tt))))))))))))) (λ are. needs 𝓤 ((Ready (y .0 .3 .0 .now) (y .0 .3 .1 .0 .now) (y .0 .3 .1 .1 .0) (y .0 .3 .1 .1 .1 .0 .now) (y .0 .3 .1 .1 .1 .1 .0 .now) (y .0 .3 .1 .1 .1 .1 .1 .1 .1 .0) (y .0 .3 .1 .1 .1 .1 .1 .0) (y .0 .3 .1 .1 .1 .1 .1 .1 .0) (y .0 .3 .1 .1 .1 .1 .1 .1 .1 .1 .1 .1 .0 .now) (y .0 .3 .1 .1 .1 .1 .1 .1 .1 .1 .1 .1 .1 .0 .now) (y .0 .3 .1 .1 .1 .1 .1 .1 .1 .1 .1 .0 .now)) × Room (countsOf (y .0 .3 .1 .1 .1 .1 .1 .1 .1 .1 .1 .0 .now)) (walkAt (y .0 .3 .0 .now) (y .0 .3 .1 .1 .1 .0 .now) (y .0 .3 .1 .1 .1 .1 .0 .now) (aroundOf (y .0 .3 .1 .1 .1 .1 .1 .1 .1 .1 .0)) (y .0 .3 .1 .1 .1 .1 .1 .0) (y .0 .3 .1 .1 .1 .1 .1 .1 .0) (y .0 .3 .1 .1 .1 .1 .1 .1 .1 .1 .1 .1 .0 .now) (y .0 .3 .1 .1 .1 .1 .1 .1 .1 .1 .1 .1 .1 .0 .now) (y .0 .3 .1 .1 .1 .1 .1 .1 .1 .1 .1 .0 .now) .findings)) _ (λ req. walk-W.walk 𝓤 H (𝓖 .A) (givenOf 𝓤 H 𝓜 𝓖) (𝓜 .mem) (𝓡 .run) (record { κ = y .0 .0 .0; q = y .0 .1 .0; γ = y .0 .3 .0 .name; b = y .0 .3 .0 .ptr .0; o = y .0 .3 .0 .ptr .1; n = length (y .0 .3 .0 .now) }) (y .0 .3 .0 .now) (record { κ = y .0 .0 .1 .0; q = y .0 .1 .1 .0; γ = y .0 .3 .1 .0 .name; b = y .0 .3 .1 .0 .ptr .0; o = y .0 .3 .1 .0 .ptr .1; n = length (y .0 .3 .1 .0 .now) }) (y .0 .3 .1 .0 .now) (y .0 .3 .1 .1 .0) (record { κ = y .0 .0 .1 .1 .0; q = y .0 .1 .1 .1 .0; γ = y .0 .3 .1 .1 .1 .0 .name; b = y .0 .3 .1 .1 .1 .0 .ptr .0; o = y .0 .3 .1 .1 .1 .0 .ptr .1; n = length (y .0 .3 .1 .1 .1 .0 .now) }) (y .0 .3 .1 .1 .1 .0 .now) (record { κ = y .0 .0 .1 .1 .1 .0; q = y .0 .1 .1 .1 .1 .0; γ = y .0 .3 .1 .1 .1 .1 .0 .name; b = y .0 .3 .1 .1 .1 .1 .0 .ptr .0; o = y .0 .3 .1 .1 .1 .1 .0 .ptr .1; n = length (y .0 .3 .1 .1 .1 .1 .0 .now) }) (y .0 .3 .1 .1 .1 .1 .0 .now) (y .0 .3 .1 .1 .1 .1 .1 .0) (y .0 .3 .1 .1 .1 .1 .1 .1 .0) (y .0 .3 .1 .1 .1 .1 .1 .1 .1 .0) (y .0 .3 .1 .1 .1 .1 .1 .1 .1 .1 .0) (record { κ = y .0 .0 .1 .1 .1 .1 .0; q = y .0 .1 .1 .1 .1 .1 .0; γ = y .0 .3 .1 .1 .1 .1 .1 .1 .1 .1 .1 .0 .name; b = y .0 .3 .1 .1 .1 .1 .1 .1 .1 .1 .1 .0 .ptr .0; o = y .0 .3 .1 .1 .1 .1 .1 .1 .1 .1 .1 .0 .ptr .1; n = 0 }) (y .0 .3 .1 .1 .1 .1 .1 .1 .1 .1 .1 .0 .now) (record { κ = y .0 .0 .1 .1 .1 .1 .1 .0; q = y .0 .1 .1 .1 .1 .1 .1 .0; γ = y .0 .3 .1 .1 .1 .1 .1 .1 .1 .1 .1 .1 .0 .name; b = y .0 .3 .1 .1 .1 .1 .1 .1 .1 .1 .1 .1 .0 .ptr .0; o = y .0 .3 .1 .1 .1 .1 .1 .1 .1 .1 .1 .1 .0 .ptr .1; n = length (y .0 .3 .1 .1 .1 .1 .1 .1 .1 .1 .1 .1 .0 .now) }) (y .0 .3 .1 .1 .1 .1 .1 .1 .1 .1 .1 .1 .0 .now) (record { κ = y .0 .0 .1 .1 .1 .1 .1 .1 .0; q = y .0 .1 .1 .1 .1 .1 .1 .1 .0; γ = y .0 .3 .1 .1 .1 .1 .1 .1 .1 .1 .1 .1 .1 .0 .name; b = y .0 .3 .1 .1 .1 .1 .1 .1 .1 .1 .1 .1 .1 .0 .ptr .0; o = y .0 .3 .1 .1 .1 .1 .1 .1 .1 .1 .1 .1 .1 .0 .ptr .1; n = length (y .0 .3 .1 .1 .1 .1 .1 .1 .1 .1 .1 .1 .1 .0 .now) }) (y .0 .3 .1 .1 .1 .1 .1 .1 .1 .1 .1 .1 .1 .0 .now) (record { κ = y .0 .0 .1 .1 .1 .1 .1 .1 .1 .0; q = y .0 .1 .1 .1 .1 .1 .1 .1 .1 .0; γ = y .0 .3 .1 .1 .1 .1 .1 .1 .1 .1 .1 .1 .1 .1 .0 .name; b = y .0 .3 .1 .1 .1 .1 .1 .1 .1 .1 .1 .1 .1 .1 .0 .ptr .0; o = y .0 .3 .1 .1 .1 .1 .1 .1 .1 .1 .1 .1 .1 .1 .0 .ptr .1; n = length (y .0 .3 .1 .1 .1 .1 .1 .1 .1 .1 .1 .1 .1 .1 .0 .now) }) (y .0 .3 .1 .1 .1 .1 .1 .1 .1 .1 .1 .1 .1 .1 .0 .now) (are .0 .0 .1) refl (are .1 .0 .0 .1) refl (are .1 .1 .0 .1) (are .1 .1 .1 .0 .0 .1) refl (are .1 .1 .1 .1 .0 .0 .1) refl (are .1 .1 .1 .1 .1 .0 .1) (are .1 .1 .1 .1 .1 .1 .0 .1) (are .1 .1 .1 .1 .1 .1 .1 .0 .1) (are .1 .1 .1 .1 .1 .1 .1 .1 .0) (are .1 .1 .1 .1 .1 .1 .1 .1 .1 .1 .0 .0 .1) refl (are .1 .1 .1 .1 .1 .1 .1 .1 .1 .1 .1 .0 .0 .1) refl (are .1 .1 .1 .1 .1 .1 .1 .1 .1 .1 .1 .1 .0 .0 .1) refl req (tablesOf 𝓤 H 𝓜 (tables 𝓤 H 𝓜 𝓡 code.env)) (cited 𝓤 H (anchored-C.Con 𝓤 H (𝓖 .A) (𝓜 .mem) (𝓡 .run)) 𝓜 𝓡 code.env #checker·anchored anchored-def.routine code.calls-checker·anchored (anchored-thm.met 𝓤 H 𝓜 𝓖 𝓡)) (cited 𝓤 H (past-node-C.Con 𝓤 H (𝓖 .A) (𝓜 .mem) (𝓡 .run)) 𝓜 𝓡 code.env #cursor·past-node past-node-def.routine code.calls-cursor·past-node (past-node-thm.met 𝓤 H 𝓜 𝓖 𝓡)) (cited 𝓤 H (visit-leaf-C.Con 𝓤 H (𝓖 .A) (𝓜 .mem) (𝓡 .run)) 𝓜 𝓡 code.env #checker·visit-leaf visit-leaf-def.routine code.calls-checker·visit-leaf (visit-leaf-thm.met 𝓤 H 𝓜 𝓖 𝓡)) (cited 𝓤 H (marker-C.Con 𝓤 H (𝓖 .A) (𝓜 .mem) (𝓡 .run)) 𝓜 𝓡 code.env #checker·marker marker-def.routine code.calls-checker·marker (marker-thm.met 𝓤 H 𝓜 𝓖 𝓡)) (λ y′ lt. below .0 ((μ-visit 𝓤 H (𝓖 .A) (𝓜 .mem) (𝓡 .run)) y′) (subst (λ (s : ℕ). (μ-visit 𝓤 H (𝓖 .A) (𝓜 .mem) (𝓡 .run)) y′ < s) e lt) y′ refl))))))

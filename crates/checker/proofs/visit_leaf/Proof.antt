@@ -52,7 +52,6 @@ use Rattle.references.proofs.Hand.{At, lent as relent, ptrVal, fatVal, ref, Has
 use Rattle.attachment.specs.declared.Attached.{Attached}
 use Rattle.attachment.proofs.Attached as Attached-T
 use Rattle.attachment.proofs.Attached.Laws as Attached-L
-use Rattle.attachment.specs.declared.Attached.the-variants as Attached-V
 use Rattle.running.specs.declared.Record.{Record}
 use Rattle.running.proofs.Record as Record-T
 use Rattle.running.proofs.Record.Laws as Record-L
@@ -184,20 +183,20 @@ abbrev τ20 : Ty
 τ20 = sliceTy (tyRef erased mut (tyInt w64))
 
 module _ {M : Type 1} (𝓤 : URA M) (H : Heap 𝓤) (A : Atoms 𝓤) (W : Given 𝓤 H A) (at-mem : Memory → SProp 𝓤) (run : Routine → Fun 𝓤) (table-at : At) (table₀ : List ℕ) (words-at : At) (words₀ : List ℕ) (count₀ : ℕ) (source-at : At) (source₀ : List ℕ) (tape-at : At) (tape₀ : List ℕ) (i₀ : ℕ) (next₀ : ℕ) (to₀ : ℕ) (around₀ : Around) (numbers₀ : Attached) (rec-at : At) (rec₀ : Record) (seen-at : At) (seen₀ : List ℕ) (list-at : At) (list₀ : List ℕ)
-    (table-room : SizeOf u8 (table-at .n)) (table-n : table-at .n ≡ length table₀) (words-room : SizeOf u64 (words-at .n)) (words-n : words-at .n ≡ length words₀) (count₀-is : count₀ < 2 ^ 64) (source-room : SizeOf u8 (source-at .n)) (source-n : source-at .n ≡ length source₀) (tape-room : SizeOf u8 (tape-at .n)) (tape-n : tape-at .n ≡ length tape₀) (i₀-is : i₀ < 2 ^ 64) (next₀-is : next₀ < 2 ^ 64) (to₀-is : to₀ < 2 ^ 64) (around₀-is : Is Around-T.the-row around₀ (LL.val Around-T.the-type Around-L.the-laws around₀ ∷ [])) (numbers₀-is : Is Attached-T.the-row numbers₀ (EL.val Attached-T.the-type Attached-L.the-laws numbers₀ ∷ [])) (seen-room : SizeOf u32 (seen-at .n)) (seen-n : seen-at .n ≡ length seen₀) (list-room : SizeOf u64 (list-at .n)) (list-n : list-at .n ≡ length list₀) (req : Passable table₀ words₀ count₀ source₀ tape₀ (aroundOf around₀) i₀ next₀ to₀ seen₀ rec₀) where
+    (table-room : SizeOf u8 (table-at .n)) (table-n : table-at .n ≡ length table₀) (words-room : SizeOf u64 (words-at .n)) (words-n : words-at .n ≡ length words₀) (count₀-is : count₀ < 2 ^ 64) (source-room : SizeOf u8 (source-at .n)) (source-n : source-at .n ≡ length source₀) (tape-room : SizeOf u8 (tape-at .n)) (tape-n : tape-at .n ≡ length tape₀) (i₀-is : i₀ < 2 ^ 64) (next₀-is : next₀ < 2 ^ 64) (to₀-is : to₀ < 2 ^ 64) (around₀-is : Is Around-T.the-row around₀ (LL.val Around-T.the-type Around-L.the-laws around₀ ∷ [])) (numbers₀-is : Is Attached-T.the-row numbers₀ (LL.val Attached-T.the-type Attached-L.the-laws numbers₀ ∷ [])) (seen-room : SizeOf u32 (seen-at .n)) (seen-n : seen-at .n ≡ length seen₀) (list-room : SizeOf u64 (list-at .n)) (list-n : list-at .n ≡ length list₀) (req : Passable table₀ words₀ count₀ source₀ tape₀ (aroundOf around₀) i₀ next₀ to₀ seen₀ rec₀) where
   abbrev Y : walkOf 𝓤 H A visit-leaf-F.ended stayed (visit-leaf-F.clauses 𝓤 H A at-mem run) .Ghost
-  Y = (((table-at .κ, (words-at .κ, (source-at .κ, (tape-at .κ, (rec-at .κ, (seen-at .κ, (list-at .κ, tt))))))), (table-at .q, (words-at .q, (source-at .q, (tape-at .q, (rec-at .q, (seen-at .q, (list-at .q, tt))))))), tt, (ref table-at table₀, (ref words-at words₀, (count₀, (ref source-at source₀, (ref tape-at tape₀, (i₀, (next₀, (to₀, (around₀, (numbers₀, (ref rec-at rec₀, (ref seen-at seen₀, (ref list-at list₀, tt))))))))))))), (fatVal table-at ∷ [], (fatVal words-at ∷ [], (vint w64 count₀ ∷ [], (fatVal source-at ∷ [], (fatVal tape-at ∷ [], (vint w64 i₀ ∷ [], (vint w64 next₀ ∷ [], (vint w64 to₀ ∷ [], (LL.val Around-T.the-type Around-L.the-laws around₀ ∷ [], (EL.val Attached-T.the-type Attached-L.the-laws numbers₀ ∷ [], (ptrVal rec-at ∷ [], (fatVal seen-at ∷ [], (fatVal list-at ∷ [], tt)))))))))))))), tt)
+  Y = (((table-at .κ, (words-at .κ, (source-at .κ, (tape-at .κ, (rec-at .κ, (seen-at .κ, (list-at .κ, tt))))))), (table-at .q, (words-at .q, (source-at .q, (tape-at .q, (rec-at .q, (seen-at .q, (list-at .q, tt))))))), tt, (ref table-at table₀, (ref words-at words₀, (count₀, (ref source-at source₀, (ref tape-at tape₀, (i₀, (next₀, (to₀, (around₀, (numbers₀, (ref rec-at rec₀, (ref seen-at seen₀, (ref list-at list₀, tt))))))))))))), (fatVal table-at ∷ [], (fatVal words-at ∷ [], (vint w64 count₀ ∷ [], (fatVal source-at ∷ [], (fatVal tape-at ∷ [], (vint w64 i₀ ∷ [], (vint w64 next₀ ∷ [], (vint w64 to₀ ∷ [], (LL.val Around-T.the-type Around-L.the-laws around₀ ∷ [], (LL.val Attached-T.the-type Attached-L.the-laws numbers₀ ∷ [], (ptrVal rec-at ∷ [], (fatVal seen-at ∷ [], (fatVal list-at ∷ [], tt)))))))))))))), tt)
 
   abbrev pub Post : Val → SProp 𝓤
   Post = walkOf 𝓤 H A visit-leaf-F.ended stayed (visit-leaf-F.clauses 𝓤 H A at-mem run) .post Y
 
-  exits : (r : Attached) (rec₁ : Record) (seen₁ : List ℕ) (list₁ : List ℕ) (r-is : Is Attached-T.the-row r (EL.val Attached-T.the-type Attached-L.the-laws r ∷ [])) (len-seen : length seen₁ ≡ length seen₀) (len-list : length list₁ ≡ length list₀) (e : PassedBy table₀ source₀ tape₀ (aroundOf around₀) i₀ next₀ to₀ numbers₀ seen₀ list₀ rec₀ seen₁ list₁ rec₁ r) → ent 𝓤 (⋆ 𝓤 H A (‵ (HasShr u8 table-at table₀) ∷ ‵ (HasShr u64 words-at words₀) ∷ ‵ (HasShr u8 source-at source₀) ∷ ‵ (HasShr u8 tape-at tape₀) ∷ ‵ (HasRef Record-T.the-row rec-at rec₁) ∷ ‵ (HasMut u32 seen-at seen₁) ∷ ‵ (HasMut u64 list-at list₁) ∷ [])) (Post (EL.val Attached-T.the-type Attached-L.the-laws r))
+  exits : (r : Attached) (rec₁ : Record) (seen₁ : List ℕ) (list₁ : List ℕ) (r-is : Is Attached-T.the-row r (LL.val Attached-T.the-type Attached-L.the-laws r ∷ [])) (len-seen : length seen₁ ≡ length seen₀) (len-list : length list₁ ≡ length list₀) (e : PassedBy table₀ source₀ tape₀ (aroundOf around₀) i₀ next₀ to₀ numbers₀ seen₀ list₀ rec₀ seen₁ list₁ rec₁ r) → ent 𝓤 (⋆ 𝓤 H A (‵ (HasShr u8 table-at table₀) ∷ ‵ (HasShr u64 words-at words₀) ∷ ‵ (HasShr u8 source-at source₀) ∷ ‵ (HasShr u8 tape-at tape₀) ∷ ‵ (HasRef Record-T.the-row rec-at rec₁) ∷ ‵ (HasMut u32 seen-at seen₁) ∷ ‵ (HasMut u64 list-at list₁) ∷ [])) (Post (LL.val Attached-T.the-type Attached-L.the-laws r))
   exits r rec₁ seen₁ list₁ r-is len-seen len-list e =
-      qed W (‵ (HasShr u8 table-at table₀) ∷ ‵ (HasShr u64 words-at words₀) ∷ ‵ (HasShr u8 source-at source₀) ∷ ‵ (HasShr u8 tape-at tape₀) ∷ ‵ (HasRef Record-T.the-row rec-at rec₁) ∷ ‵ (HasMut u32 seen-at seen₁) ∷ ‵ (HasMut u64 list-at list₁) ∷ []) ∵ suffices ! _ (exit-at 𝓤 H A visit-leaf-F.ended stayed (visit-leaf-F.clauses 𝓤 H A at-mem run) W Y (EL.val Attached-T.the-type Attached-L.the-laws r) r (tt, (tt, (tt, (tt, (tt, (tt, (tt, (tt, (tt, (tt, (rec₁, (seen₁, (list₁, tt))))))))))))) (tt, (tt, (tt, (tt, (tt, (tt, (tt, (tt, (tt, (tt, (tt, (len-seen, (len-list, tt)))))))))))))) $ says ! e $ fsplit ! $ move ! (2 ∷ []) $ fsplit ! $ move ! (4 ∷ []) $ fsplit ! $ move ! (6 ∷ []) $ fsplit ! $ move ! (8 ∷ []) $ fsplit ! $ move ! (10 ∷ []) $ fsplit ! $ move ! (12 ∷ []) $ fsplit ! $ nothing ! $ move ! (2 ∷ 0 ∷ []) $ join ! $ move ! (3 ∷ 0 ∷ []) $ join ! $ move ! (4 ∷ 0 ∷ []) $ join ! $ move ! (5 ∷ 0 ∷ []) $ join ! $ move ! (6 ∷ 0 ∷ []) $ join ! $ move ! (7 ∷ 0 ∷ []) $ join ! $ move ! (8 ∷ 0 ∷ []) $ join ! $ frame ! $ nothing ! $ move ! (1 ∷ 0 ∷ []) $ fjoin ! $ move ! (1 ∷ 0 ∷ []) $ fjoin ! $ move ! (1 ∷ 0 ∷ []) $ fjoin ! $ owned ! Attached-T.the-row (Is Attached-T.the-row) (EL.makes Attached-T.the-type Attached-L.the-plain 𝓤 H A) numbers₀ _ numbers₀-is $ fjoin ! $ owned ! Around-T.the-row (Is Around-T.the-row) (LL.makes Around-T.the-type Around-L.the-plain 𝓤 H A) around₀ _ around₀-is $ fjoin ! $ owned ! usize (Is usize) (uint-makes 𝓤 H A W w64) to₀ _ (refl, to₀-is) $ fjoin ! $ owned ! usize (Is usize) (uint-makes 𝓤 H A W w64) next₀ _ (refl, next₀-is) $ fjoin ! $ owned ! usize (Is usize) (uint-makes 𝓤 H A W w64) i₀ _ (refl, i₀-is) $ fjoin ! $ move ! (1 ∷ 0 ∷ []) $ fjoin ! $ move ! (1 ∷ 0 ∷ []) $ fjoin ! $ owned ! usize (Is usize) (uint-makes 𝓤 H A W w64) count₀ _ (refl, count₀-is) $ fjoin ! $ move ! (1 ∷ 0 ∷ []) $ fjoin ! $ move ! (1 ∷ 0 ∷ []) $ fjoin ! $ owned ! Attached-T.the-row (Is Attached-T.the-row) (EL.makes Attached-T.the-type Attached-L.the-plain 𝓤 H A) r _ r-is $ move ! (1 ∷ 0 ∷ []) $ done !
+      qed W (‵ (HasShr u8 table-at table₀) ∷ ‵ (HasShr u64 words-at words₀) ∷ ‵ (HasShr u8 source-at source₀) ∷ ‵ (HasShr u8 tape-at tape₀) ∷ ‵ (HasRef Record-T.the-row rec-at rec₁) ∷ ‵ (HasMut u32 seen-at seen₁) ∷ ‵ (HasMut u64 list-at list₁) ∷ []) ∵ suffices ! _ (exit-at 𝓤 H A visit-leaf-F.ended stayed (visit-leaf-F.clauses 𝓤 H A at-mem run) W Y (LL.val Attached-T.the-type Attached-L.the-laws r) r (tt, (tt, (tt, (tt, (tt, (tt, (tt, (tt, (tt, (tt, (rec₁, (seen₁, (list₁, tt))))))))))))) (tt, (tt, (tt, (tt, (tt, (tt, (tt, (tt, (tt, (tt, (tt, (len-seen, (len-list, tt)))))))))))))) $ says ! e $ fsplit ! $ move ! (2 ∷ []) $ fsplit ! $ move ! (4 ∷ []) $ fsplit ! $ move ! (6 ∷ []) $ fsplit ! $ move ! (8 ∷ []) $ fsplit ! $ move ! (10 ∷ []) $ fsplit ! $ move ! (12 ∷ []) $ fsplit ! $ nothing ! $ move ! (2 ∷ 0 ∷ []) $ join ! $ move ! (3 ∷ 0 ∷ []) $ join ! $ move ! (4 ∷ 0 ∷ []) $ join ! $ move ! (5 ∷ 0 ∷ []) $ join ! $ move ! (6 ∷ 0 ∷ []) $ join ! $ move ! (7 ∷ 0 ∷ []) $ join ! $ move ! (8 ∷ 0 ∷ []) $ join ! $ frame ! $ nothing ! $ move ! (1 ∷ 0 ∷ []) $ fjoin ! $ move ! (1 ∷ 0 ∷ []) $ fjoin ! $ move ! (1 ∷ 0 ∷ []) $ fjoin ! $ owned ! Attached-T.the-row (Is Attached-T.the-row) (LL.makes Attached-T.the-type Attached-L.the-plain 𝓤 H A) numbers₀ _ numbers₀-is $ fjoin ! $ owned ! Around-T.the-row (Is Around-T.the-row) (LL.makes Around-T.the-type Around-L.the-plain 𝓤 H A) around₀ _ around₀-is $ fjoin ! $ owned ! usize (Is usize) (uint-makes 𝓤 H A W w64) to₀ _ (refl, to₀-is) $ fjoin ! $ owned ! usize (Is usize) (uint-makes 𝓤 H A W w64) next₀ _ (refl, next₀-is) $ fjoin ! $ owned ! usize (Is usize) (uint-makes 𝓤 H A W w64) i₀ _ (refl, i₀-is) $ fjoin ! $ move ! (1 ∷ 0 ∷ []) $ fjoin ! $ move ! (1 ∷ 0 ∷ []) $ fjoin ! $ owned ! usize (Is usize) (uint-makes 𝓤 H A W w64) count₀ _ (refl, count₀-is) $ fjoin ! $ move ! (1 ∷ 0 ∷ []) $ fjoin ! $ move ! (1 ∷ 0 ∷ []) $ fjoin ! $ owned ! Attached-T.the-row (Is Attached-T.the-row) (LL.makes Attached-T.the-type Attached-L.the-plain 𝓤 H A) r _ r-is $ move ! (1 ∷ 0 ∷ []) $ done !
 
-  entry : ent 𝓤 (onEntry 𝓤 H A visit-leaf-F.signature (table-at .κ, (words-at .κ, (source-at .κ, (tape-at .κ, (rec-at .κ, (seen-at .κ, (list-at .κ, tt))))))) (table-at .q, (words-at .q, (source-at .q, (tape-at .q, (rec-at .q, (seen-at .q, (list-at .q, tt))))))) (ref table-at table₀, (ref words-at words₀, (count₀, (ref source-at source₀, (ref tape-at tape₀, (i₀, (next₀, (to₀, (around₀, (numbers₀, (ref rec-at rec₀, (ref seen-at seen₀, (ref list-at list₀, tt))))))))))))) (fatVal table-at ∷ [], (fatVal words-at ∷ [], (vint w64 count₀ ∷ [], (fatVal source-at ∷ [], (fatVal tape-at ∷ [], (vint w64 i₀ ∷ [], (vint w64 next₀ ∷ [], (vint w64 to₀ ∷ [], (LL.val Around-T.the-type Around-L.the-laws around₀ ∷ [], (EL.val Attached-T.the-type Attached-L.the-laws numbers₀ ∷ [], (ptrVal rec-at ∷ [], (fatVal seen-at ∷ [], (fatVal list-at ∷ [], tt)))))))))))))) (⋆ 𝓤 H A (‵ (HasShr u8 table-at table₀) ∷ ‵ (HasShr u64 words-at words₀) ∷ ‵ (HasShr u8 source-at source₀) ∷ ‵ (HasShr u8 tape-at tape₀) ∷ ‵ (HasRef Record-T.the-row rec-at rec₀) ∷ ‵ (HasMut u32 seen-at seen₀) ∷ ‵ (HasMut u64 list-at list₀) ∷ []))
+  entry : ent 𝓤 (onEntry 𝓤 H A visit-leaf-F.signature (table-at .κ, (words-at .κ, (source-at .κ, (tape-at .κ, (rec-at .κ, (seen-at .κ, (list-at .κ, tt))))))) (table-at .q, (words-at .q, (source-at .q, (tape-at .q, (rec-at .q, (seen-at .q, (list-at .q, tt))))))) (ref table-at table₀, (ref words-at words₀, (count₀, (ref source-at source₀, (ref tape-at tape₀, (i₀, (next₀, (to₀, (around₀, (numbers₀, (ref rec-at rec₀, (ref seen-at seen₀, (ref list-at list₀, tt))))))))))))) (fatVal table-at ∷ [], (fatVal words-at ∷ [], (vint w64 count₀ ∷ [], (fatVal source-at ∷ [], (fatVal tape-at ∷ [], (vint w64 i₀ ∷ [], (vint w64 next₀ ∷ [], (vint w64 to₀ ∷ [], (LL.val Around-T.the-type Around-L.the-laws around₀ ∷ [], (LL.val Attached-T.the-type Attached-L.the-laws numbers₀ ∷ [], (ptrVal rec-at ∷ [], (fatVal seen-at ∷ [], (fatVal list-at ∷ [], tt)))))))))))))) (⋆ 𝓤 H A (‵ (HasShr u8 table-at table₀) ∷ ‵ (HasShr u64 words-at words₀) ∷ ‵ (HasShr u8 source-at source₀) ∷ ‵ (HasShr u8 tape-at tape₀) ∷ ‵ (HasRef Record-T.the-row rec-at rec₀) ∷ ‵ (HasMut u32 seen-at seen₀) ∷ ‵ (HasMut u64 list-at list₀) ∷ []))
   entry =
-      qed W ((‵ (flft (table-at .κ) (table-at .q)) ⊛ (‵ (flft (words-at .κ) (words-at .q)) ⊛ (‵ (flft (source-at .κ) (source-at .q)) ⊛ (‵ (flft (tape-at .κ) (tape-at .q)) ⊛ (‵ (flft (rec-at .κ) (rec-at .q)) ⊛ (‵ (flft (seen-at .κ) (seen-at .q)) ⊛ (‵ (flft (list-at .κ) (list-at .q)) ⊛ ‵ ftrue))))))) ∷ ‵ (owns (ShrSlice (named 0) (table-at .κ) u8 ∷ ShrSlice (named 1) (words-at .κ) u64 ∷ usize ∷ ShrSlice (named 2) (source-at .κ) u8 ∷ ShrSlice (named 3) (tape-at .κ) u8 ∷ usize ∷ usize ∷ usize ∷ Around-T.the-row ∷ Attached-T.the-row ∷ MutRef (named 4) (rec-at .κ) Record-T.the-row ∷ MutSlice (named 5) (seen-at .κ) u32 ∷ MutSlice (named 6) (list-at .κ) u64 ∷ []) (ref table-at table₀, (ref words-at words₀, (count₀, (ref source-at source₀, (ref tape-at tape₀, (i₀, (next₀, (to₀, (around₀, (numbers₀, (ref rec-at rec₀, (ref seen-at seen₀, (ref list-at list₀, tt))))))))))))) (fatVal table-at ∷ [], (fatVal words-at ∷ [], (vint w64 count₀ ∷ [], (fatVal source-at ∷ [], (fatVal tape-at ∷ [], (vint w64 i₀ ∷ [], (vint w64 next₀ ∷ [], (vint w64 to₀ ∷ [], (LL.val Around-T.the-type Around-L.the-laws around₀ ∷ [], (EL.val Attached-T.the-type Attached-L.the-laws numbers₀ ∷ [], (ptrVal rec-at ∷ [], (fatVal seen-at ∷ [], (fatVal list-at ∷ [], tt)))))))))))))) ∷ []) ∵ split ! $ move ! (1 ∷ []) $ split ! $ move ! (1 ∷ []) $ split ! $ move ! (1 ∷ []) $ split ! $ move ! (1 ∷ []) $ split ! $ move ! (1 ∷ []) $ split ! $ move ! (1 ∷ []) $ split ! $ move ! (8 ∷ []) $ fsplit ! $ move ! (1 ∷ []) $ fsplit ! $ move ! (1 ∷ []) $ fsplit ! $ move ! (1 ∷ []) $ fsplit ! $ move ! (1 ∷ []) $ fsplit ! $ move ! (1 ∷ []) $ fsplit ! $ move ! (1 ∷ []) $ fsplit ! $ move ! (1 ∷ []) $ fsplit ! $ move ! (1 ∷ []) $ fsplit ! $ move ! (1 ∷ []) $ fsplit ! $ move ! (1 ∷ []) $ fsplit ! $ move ! (1 ∷ []) $ fsplit ! $ move ! (1 ∷ []) $ fsplit ! $ move ! (13 ∷ 21 ∷ []) $ fjoin ! $ move ! (13 ∷ 20 ∷ []) $ fjoin ! $ move ! (12 ∷ 19 ∷ []) $ fjoin ! $ move ! (12 ∷ 18 ∷ []) $ fjoin ! $ move ! (7 ∷ 17 ∷ []) $ fjoin ! $ move ! (7 ∷ 16 ∷ []) $ fjoin ! $ move ! (6 ∷ 14 ∷ []) $ fjoin ! $ keep ! (6 ∷ 5 ∷ 4 ∷ 3 ∷ 2 ∷ 1 ∷ 0 ∷ []) $ done !
+      qed W ((‵ (flft (table-at .κ) (table-at .q)) ⊛ (‵ (flft (words-at .κ) (words-at .q)) ⊛ (‵ (flft (source-at .κ) (source-at .q)) ⊛ (‵ (flft (tape-at .κ) (tape-at .q)) ⊛ (‵ (flft (rec-at .κ) (rec-at .q)) ⊛ (‵ (flft (seen-at .κ) (seen-at .q)) ⊛ (‵ (flft (list-at .κ) (list-at .q)) ⊛ ‵ ftrue))))))) ∷ ‵ (owns (ShrSlice (named 0) (table-at .κ) u8 ∷ ShrSlice (named 1) (words-at .κ) u64 ∷ usize ∷ ShrSlice (named 2) (source-at .κ) u8 ∷ ShrSlice (named 3) (tape-at .κ) u8 ∷ usize ∷ usize ∷ usize ∷ Around-T.the-row ∷ Attached-T.the-row ∷ MutRef (named 4) (rec-at .κ) Record-T.the-row ∷ MutSlice (named 5) (seen-at .κ) u32 ∷ MutSlice (named 6) (list-at .κ) u64 ∷ []) (ref table-at table₀, (ref words-at words₀, (count₀, (ref source-at source₀, (ref tape-at tape₀, (i₀, (next₀, (to₀, (around₀, (numbers₀, (ref rec-at rec₀, (ref seen-at seen₀, (ref list-at list₀, tt))))))))))))) (fatVal table-at ∷ [], (fatVal words-at ∷ [], (vint w64 count₀ ∷ [], (fatVal source-at ∷ [], (fatVal tape-at ∷ [], (vint w64 i₀ ∷ [], (vint w64 next₀ ∷ [], (vint w64 to₀ ∷ [], (LL.val Around-T.the-type Around-L.the-laws around₀ ∷ [], (LL.val Attached-T.the-type Attached-L.the-laws numbers₀ ∷ [], (ptrVal rec-at ∷ [], (fatVal seen-at ∷ [], (fatVal list-at ∷ [], tt)))))))))))))) ∷ []) ∵ split ! $ move ! (1 ∷ []) $ split ! $ move ! (1 ∷ []) $ split ! $ move ! (1 ∷ []) $ split ! $ move ! (1 ∷ []) $ split ! $ move ! (1 ∷ []) $ split ! $ move ! (1 ∷ []) $ split ! $ move ! (8 ∷ []) $ fsplit ! $ move ! (1 ∷ []) $ fsplit ! $ move ! (1 ∷ []) $ fsplit ! $ move ! (1 ∷ []) $ fsplit ! $ move ! (1 ∷ []) $ fsplit ! $ move ! (1 ∷ []) $ fsplit ! $ move ! (1 ∷ []) $ fsplit ! $ move ! (1 ∷ []) $ fsplit ! $ move ! (1 ∷ []) $ fsplit ! $ move ! (1 ∷ []) $ fsplit ! $ move ! (1 ∷ []) $ fsplit ! $ move ! (1 ∷ []) $ fsplit ! $ move ! (1 ∷ []) $ fsplit ! $ move ! (13 ∷ 21 ∷ []) $ fjoin ! $ move ! (13 ∷ 20 ∷ []) $ fjoin ! $ move ! (12 ∷ 19 ∷ []) $ fjoin ! $ move ! (12 ∷ 18 ∷ []) $ fjoin ! $ move ! (7 ∷ 17 ∷ []) $ fjoin ! $ move ! (7 ∷ 16 ∷ []) $ fjoin ! $ move ! (6 ∷ 14 ∷ []) $ fjoin ! $ keep ! (6 ∷ 5 ∷ 4 ∷ 3 ∷ 2 ∷ 1 ∷ 0 ∷ []) $ done !
 
   abbrev Envs : ℕ → ℕ → ℕ → ℕ → ℕ → ℕ → ℕ → ℕ → ℕ → ℕ → ℕ → ℕ → ℕ → ℕ → ℕ → ℕ → ℕ → ℕ → ℕ → ℕ → ℕ → Env 𝓤 H
   Envs l0 l1 l2 l3 l4 l5 l6 l7 l8 l9 l10 l11 l12 l13 l14 l15 l16 l17 l18 l19 l20 = (τ0, l0) ∷ (τ1, l1) ∷ (τ2, l2) ∷ (τ3, l3) ∷ (τ4, l4) ∷ (τ5, l5) ∷ (τ6, l6) ∷ (τ7, l7) ∷ (τ8, l8) ∷ (τ9, l9) ∷ (τ10, l10) ∷ (τ11, l11) ∷ (τ12, l12) ∷ (τ13, l13) ∷ (τ14, l14) ∷ (τ15, l15) ∷ (τ16, l16) ∷ (τ17, l17) ∷ (τ18, l18) ∷ (τ19, l19) ∷ (τ20, l20) ∷ []
@@ -209,11 +208,11 @@ module _ {M : Type 1} (𝓤 : URA M) (H : Heap 𝓤) (A : Atoms 𝓤) (W : Given
     abbrev fm : FmC 𝓤 H (W .laws) (𝓣 .C)
     fm = fmOf 𝓤 H (W .laws) 𝓣
 
-    pub walk : ent 𝓤 (onEntry 𝓤 H A visit-leaf-F.signature (table-at .κ, (words-at .κ, (source-at .κ, (tape-at .κ, (rec-at .κ, (seen-at .κ, (list-at .κ, tt))))))) (table-at .q, (words-at .q, (source-at .q, (tape-at .q, (rec-at .q, (seen-at .q, (list-at .q, tt))))))) (ref table-at table₀, (ref words-at words₀, (count₀, (ref source-at source₀, (ref tape-at tape₀, (i₀, (next₀, (to₀, (around₀, (numbers₀, (ref rec-at rec₀, (ref seen-at seen₀, (ref list-at list₀, tt))))))))))))) (fatVal table-at ∷ [], (fatVal words-at ∷ [], (vint w64 count₀ ∷ [], (fatVal source-at ∷ [], (fatVal tape-at ∷ [], (vint w64 i₀ ∷ [], (vint w64 next₀ ∷ [], (vint w64 to₀ ∷ [], (LL.val Around-T.the-type Around-L.the-laws around₀ ∷ [], (EL.val Attached-T.the-type Attached-L.the-laws numbers₀ ∷ [], (ptrVal rec-at ∷ [], (fatVal seen-at ∷ [], (fatVal list-at ∷ [], tt)))))))))))))) (WpFn 𝓤 H (𝓣 .C) (𝓣 .Λ) code.function (fatVal table-at ∷ fatVal words-at ∷ vint w64 count₀ ∷ fatVal source-at ∷ fatVal tape-at ∷ vint w64 i₀ ∷ vint w64 next₀ ∷ vint w64 to₀ ∷ LL.val Around-T.the-type Around-L.the-laws around₀ ∷ EL.val Attached-T.the-type Attached-L.the-laws numbers₀ ∷ ptrVal rec-at ∷ fatVal seen-at ∷ fatVal list-at ∷ []) Post)
+    pub walk : ent 𝓤 (onEntry 𝓤 H A visit-leaf-F.signature (table-at .κ, (words-at .κ, (source-at .κ, (tape-at .κ, (rec-at .κ, (seen-at .κ, (list-at .κ, tt))))))) (table-at .q, (words-at .q, (source-at .q, (tape-at .q, (rec-at .q, (seen-at .q, (list-at .q, tt))))))) (ref table-at table₀, (ref words-at words₀, (count₀, (ref source-at source₀, (ref tape-at tape₀, (i₀, (next₀, (to₀, (around₀, (numbers₀, (ref rec-at rec₀, (ref seen-at seen₀, (ref list-at list₀, tt))))))))))))) (fatVal table-at ∷ [], (fatVal words-at ∷ [], (vint w64 count₀ ∷ [], (fatVal source-at ∷ [], (fatVal tape-at ∷ [], (vint w64 i₀ ∷ [], (vint w64 next₀ ∷ [], (vint w64 to₀ ∷ [], (LL.val Around-T.the-type Around-L.the-laws around₀ ∷ [], (LL.val Attached-T.the-type Attached-L.the-laws numbers₀ ∷ [], (ptrVal rec-at ∷ [], (fatVal seen-at ∷ [], (fatVal list-at ∷ [], tt)))))))))))))) (WpFn 𝓤 H (𝓣 .C) (𝓣 .Λ) code.function (fatVal table-at ∷ fatVal words-at ∷ vint w64 count₀ ∷ fatVal source-at ∷ fatVal tape-at ∷ vint w64 i₀ ∷ vint w64 next₀ ∷ vint w64 to₀ ∷ LL.val Around-T.the-type Around-L.the-laws around₀ ∷ LL.val Attached-T.the-type Attached-L.the-laws numbers₀ ∷ ptrVal rec-at ∷ fatVal seen-at ∷ fatVal list-at ∷ []) Post)
     unfolding afterTurn
     walk =
-        via 𝓤 (⋆ 𝓤 H A (‵ (HasShr u8 table-at table₀) ∷ ‵ (HasShr u64 words-at words₀) ∷ ‵ (HasShr u8 source-at source₀) ∷ ‵ (HasShr u8 tape-at tape₀) ∷ ‵ (HasRef Record-T.the-row rec-at rec₀) ∷ ‵ (HasMut u32 seen-at seen₀) ∷ ‵ (HasMut u64 list-at list₀) ∷ [])) entry (qed W (‵ (HasShr u8 table-at table₀) ∷ ‵ (HasShr u64 words-at words₀) ∷ ‵ (HasShr u8 source-at source₀) ∷ ‵ (HasShr u8 tape-at tape₀) ∷ ‵ (HasRef Record-T.the-row rec-at rec₀) ∷ ‵ (HasMut u32 seen-at seen₀) ∷ ‵ (HasMut u64 list-at list₀) ∷ []) ∵ enter ! (𝓣 .C) (𝓣 .Λ) code.function (fatVal table-at ∷ fatVal words-at ∷ vint w64 count₀ ∷ fatVal source-at ∷ fatVal tape-at ∷ vint w64 i₀ ∷ vint w64 next₀ ∷ vint w64 to₀ ∷ LL.val Around-T.the-type Around-L.the-laws around₀ ∷ EL.val Attached-T.the-type Attached-L.the-laws numbers₀ ∷ ptrVal rec-at ∷ fatVal seen-at ∷ fatVal list-at ∷ []) _ $
-        alloc1 ! (λ l0. alloc1 ! (λ l1. alloc1 ! (λ l2. alloc1 ! (λ l3. alloc1 ! (λ l4. alloc1 ! (λ l5. alloc1 ! (λ l6. alloc1 ! (λ l7. alloc1 ! (λ l8. alloc1 ! (λ l9. alloc1 ! (λ l10. alloc1 ! (λ l11. alloc1 ! (λ l12. alloc1 ! (λ l13. alloc1 ! (λ l14. alloc1 ! (λ l15. alloc1 ! (λ l16. alloc1 ! (λ l17. alloc1 ! (λ l18. alloc1 ! (λ l19. alloc1 ! (λ l20. alloc0 ! $ params1 ! $ pass1 ! (init ! 38 refl (tt, (tt, (record { fits = (table-room .0) }, tt)))) $ pass1 ! (init ! 36 refl (tt, (tt, (record { fits = (words-room .0) }, tt)))) $ pass1 ! (init ! 34 refl (tt, record { fits = count₀-is })) $ pass1 ! (init ! 32 refl (tt, (tt, (record { fits = (source-room .0) }, tt)))) $ pass1 ! (init ! 30 refl (tt, (tt, (record { fits = (tape-room .0) }, tt)))) $ pass1 ! (init ! 28 refl (tt, record { fits = i₀-is })) $ pass1 ! (init ! 26 refl (tt, record { fits = next₀-is })) $ pass1 ! (init ! 24 refl (tt, record { fits = to₀-is })) $ pass1 ! (init ! 22 refl (LL.lawful Around-T.the-type Around-L.the-laws 𝓤 H A W .typed around₀ _ around₀-is .0)) $ pass1 ! (init ! 20 refl (EL.lawful Attached-T.the-type Attached-L.the-laws 𝓤 H A W tt .typed numbers₀ _ numbers₀-is .0)) $ pass1 ! (init ! 18 refl (tt, tt)) $ pass1 ! (init ! 16 refl (tt, (tt, (record { fits = (seen-room .0) }, tt)))) $ pass1 ! (init ! 14 refl (tt, (tt, (record { fits = (list-room .0) }, tt)))) $ pass0 ! $
+        via 𝓤 (⋆ 𝓤 H A (‵ (HasShr u8 table-at table₀) ∷ ‵ (HasShr u64 words-at words₀) ∷ ‵ (HasShr u8 source-at source₀) ∷ ‵ (HasShr u8 tape-at tape₀) ∷ ‵ (HasRef Record-T.the-row rec-at rec₀) ∷ ‵ (HasMut u32 seen-at seen₀) ∷ ‵ (HasMut u64 list-at list₀) ∷ [])) entry (qed W (‵ (HasShr u8 table-at table₀) ∷ ‵ (HasShr u64 words-at words₀) ∷ ‵ (HasShr u8 source-at source₀) ∷ ‵ (HasShr u8 tape-at tape₀) ∷ ‵ (HasRef Record-T.the-row rec-at rec₀) ∷ ‵ (HasMut u32 seen-at seen₀) ∷ ‵ (HasMut u64 list-at list₀) ∷ []) ∵ enter ! (𝓣 .C) (𝓣 .Λ) code.function (fatVal table-at ∷ fatVal words-at ∷ vint w64 count₀ ∷ fatVal source-at ∷ fatVal tape-at ∷ vint w64 i₀ ∷ vint w64 next₀ ∷ vint w64 to₀ ∷ LL.val Around-T.the-type Around-L.the-laws around₀ ∷ LL.val Attached-T.the-type Attached-L.the-laws numbers₀ ∷ ptrVal rec-at ∷ fatVal seen-at ∷ fatVal list-at ∷ []) _ $
+        alloc1 ! (λ l0. alloc1 ! (λ l1. alloc1 ! (λ l2. alloc1 ! (λ l3. alloc1 ! (λ l4. alloc1 ! (λ l5. alloc1 ! (λ l6. alloc1 ! (λ l7. alloc1 ! (λ l8. alloc1 ! (λ l9. alloc1 ! (λ l10. alloc1 ! (λ l11. alloc1 ! (λ l12. alloc1 ! (λ l13. alloc1 ! (λ l14. alloc1 ! (λ l15. alloc1 ! (λ l16. alloc1 ! (λ l17. alloc1 ! (λ l18. alloc1 ! (λ l19. alloc1 ! (λ l20. alloc0 ! $ params1 ! $ pass1 ! (init ! 38 refl (tt, (tt, (record { fits = (table-room .0) }, tt)))) $ pass1 ! (init ! 36 refl (tt, (tt, (record { fits = (words-room .0) }, tt)))) $ pass1 ! (init ! 34 refl (tt, record { fits = count₀-is })) $ pass1 ! (init ! 32 refl (tt, (tt, (record { fits = (source-room .0) }, tt)))) $ pass1 ! (init ! 30 refl (tt, (tt, (record { fits = (tape-room .0) }, tt)))) $ pass1 ! (init ! 28 refl (tt, record { fits = i₀-is })) $ pass1 ! (init ! 26 refl (tt, record { fits = next₀-is })) $ pass1 ! (init ! 24 refl (tt, record { fits = to₀-is })) $ pass1 ! (init ! 22 refl (LL.lawful Around-T.the-type Around-L.the-laws 𝓤 H A W .typed around₀ _ around₀-is .0)) $ pass1 ! (init ! 20 refl (LL.lawful Attached-T.the-type Attached-L.the-laws 𝓤 H A W .typed numbers₀ _ numbers₀-is .0)) $ pass1 ! (init ! 18 refl (tt, tt)) $ pass1 ! (init ! 16 refl (tt, (tt, (record { fits = (seen-room .0) }, tt)))) $ pass1 ! (init ! 14 refl (tt, (tt, (record { fits = (list-room .0) }, tt)))) $ pass0 ! $
         move ! (41 ∷ 39 ∷ 37 ∷ 35 ∷ 33 ∷ 31 ∷ 29 ∷ 27 ∷ 25 ∷ 23 ∷ 21 ∷ 19 ∷ 17 ∷ 15 ∷ 13 ∷ 11 ∷ 9 ∷ 7 ∷ 5 ∷ 3 ∷ 1 ∷ 40 ∷ 38 ∷ 36 ∷ 34 ∷ 32 ∷ 30 ∷ 28 ∷ 26 ∷ 24 ∷ 22 ∷ 20 ∷ 18 ∷ 16 ∷ 14 ∷ 12 ∷ 10 ∷ 8 ∷ 6 ∷ 4 ∷ 2 ∷ 0 ∷ []) $ group ! 21 $
         move ! (25 ∷ []) $ let req-is-number : i₀ < nodes tape₀ = req .inside in
         is-number-C.calls-is-number ! at-mem run fm tape-at tape₀ i₀ i₀-is req-is-number (known-is-number (is-number-C.to 𝓤 H A at-mem run tape-at tape₀ i₀ tape-at))
@@ -243,19 +242,19 @@ module _ {M : Type 1} (𝓤 : URA M) (H : Heap 𝓤) (A : Atoms 𝓤) (W : Given
         numbers-after-C.calls-numbers-after ! at-mem run fm source-at source₀ tape-at tape₀ i₀ next₀ to₀ numbers₀ i₀-is next₀-is to₀-is numbers₀-is req-numbers-after (known-numbers-after (numbers-after-C.to 𝓤 H A at-mem run source-at source₀ tape-at tape₀ i₀ next₀ to₀ numbers₀ source-at tape-at))
         (and-then ! (load ! (from ! (stop !)) (look ! 11 refl)) (and-then ! (load ! (from ! (stop !)) (look ! 12 refl)) (and-then ! (load ! (from ! (stop !)) (look ! 13 refl)) (and-then ! (load ! (from ! (stop !)) (look ! 14 refl)) (and-then ! (load ! (from ! (stop !)) (look ! 15 refl)) (and-then ! (load ! (from ! (stop !)) (look ! 17 refl)) (no-more !))))))) (λ z-numbers-after s-numbers-after.
         let says-numbers-after : startsOf (z-numbers-after .0) ≡ numbersAfter source₀ tape₀ i₀ next₀ to₀ (startsOf numbers₀) = s-numbers-after .1 in
-        land ! (from ! (stop !)) (init ! 8 refl (EL.lawful Attached-T.the-type Attached-L.the-laws 𝓤 H A W tt .typed (z-numbers-after .0) _ (s-numbers-after .0) .0)) $
+        land ! (from ! (stop !)) (init ! 8 refl (LL.lawful Attached-T.the-type Attached-L.the-laws 𝓤 H A W .typed (z-numbers-after .0) _ (s-numbers-after .0) .0)) $
         first ! $ returns-within ! Post refl (look ! 8 refl) $ move ! (7 ∷ 8 ∷ 9 ∷ 10 ∷ 11 ∷ 12 ∷ 13 ∷ 14 ∷ 15 ∷ 16 ∷ 17 ∷ 18 ∷ 19 ∷ 20 ∷ 21 ∷ 22 ∷ 23 ∷ 24 ∷ 25 ∷ 26 ∷ 27 ∷ 28 ∷ []) $ frees-any ! (full _ ∷ full _ ∷ full _ ∷ full _ ∷ full _ ∷ full _ ∷ full _ ∷ full _ ∷ full _ ∷ full _ ∷ full _ ∷ full _ ∷ full _ ∷ full _ ∷ full _ ∷ full _ ∷ full _ ∷ full _ ∷ full _ ∷ full _ ∷ full _ ∷ []) $ keep ! (3 ∷ 4 ∷ 0 ∷ 1 ∷ 2 ∷ 5 ∷ 6 ∷ []) $
         by ! (exits (z-numbers-after .0) (z-leaf .0) (z-leaf .1 .0) (z-leaf .1 .1 .0) (s-numbers-after .0) len-leaf-seen len-leaf-list (was-number (sym says-is-number ∙ test-0) (record { leaf = says-leaf; attached = says-numbers-after }))))))))
         (λ h0. let test-0 : z-is-number .0 ≡ false = is-false (z-is-number .0) h0 in
         skip-then ! $
-        assigns ! (of-opd ! (load ! (from ! (stop !)) (look ! 12 refl))) (from ! (stop !)) (init ! 2 refl (EL.lawful Attached-T.the-type Attached-L.the-laws 𝓤 H A W tt .typed numbers₀ _ numbers₀-is .0)) $
+        assigns ! (of-opd ! (load ! (from ! (stop !)) (look ! 12 refl))) (from ! (stop !)) (init ! 2 refl (LL.lawful Attached-T.the-type Attached-L.the-laws 𝓤 H A W .typed numbers₀ _ numbers₀-is .0)) $
         returns-within ! Post refl (look ! 2 refl) $ move ! (1 ∷ 2 ∷ 3 ∷ 4 ∷ 5 ∷ 6 ∷ 7 ∷ 8 ∷ 9 ∷ 10 ∷ 11 ∷ 12 ∷ 13 ∷ 14 ∷ 15 ∷ 16 ∷ 17 ∷ 18 ∷ 19 ∷ 20 ∷ 21 ∷ 22 ∷ []) $ frees-any ! (full _ ∷ full _ ∷ full _ ∷ full _ ∷ full _ ∷ full _ ∷ full _ ∷ full _ ∷ full _ ∷ full _ ∷ full _ ∷ full _ ∷ full _ ∷ full _ ∷ empty ∷ full _ ∷ empty ∷ empty ∷ empty ∷ empty ∷ empty ∷ []) $ keep ! (1 ∷ 2 ∷ 3 ∷ 0 ∷ 4 ∷ 5 ∷ 6 ∷ []) $
         by ! (exits numbers₀ rec₀ seen₀ list₀ numbers₀-is refl refl (was-other (sym says-is-number ∙ test-0)))))))))))))))))))))))))))
 
 visit-leaf-meets : {M : Type 1} (𝓤 : URA M) (H : Heap 𝓤) (A : Atoms 𝓤) (W : Given 𝓤 H A) (at-mem : Memory → SProp 𝓤) (run : Routine → Fun 𝓤) (𝓣 : Tables 𝓤 H) → Triple 𝓤 (𝓣 .C #checker·is-number) (is-number-C.Con 𝓤 H A at-mem run) → Triple 𝓤 (𝓣 .C #checker·leaf) (leaf-C.Con 𝓤 H A at-mem run) → Triple 𝓤 (𝓣 .C #checker·numbers-after) (numbers-after-C.Con 𝓤 H A at-mem run) → Meets 𝓤 H A visit-leaf-F.signature (WpFn 𝓤 H (𝓣 .C) (𝓣 .Λ) code.function) (visit-leaf-F.spec 𝓤 H A at-mem run)
 visit-leaf-meets 𝓤 H A W at-mem run 𝓣 known-is-number known-leaf known-numbers-after y =
     walk-meets-at 𝓤 H A visit-leaf-F.ended stayed W (goes-none-slice 𝓤 H A W 7 (0 ∷ []) tt (plain (λ _. u8)) yes, (goes-none-slice 𝓤 H A W 7 (1 ∷ []) tt (plain (λ _. u64)) yes, (goes-none 𝓤 H A W 7 (λ _. usize) yes (λ κs x f. refl), (goes-none-slice 𝓤 H A W 7 (2 ∷ []) tt (plain (λ _. u8)) yes, (goes-none-slice 𝓤 H A W 7 (3 ∷ []) tt (plain (λ _. u8)) yes, (goes-none 𝓤 H A W 7 (λ _. usize) yes (λ κs x f. refl), (goes-none 𝓤 H A W 7 (λ _. usize) yes (λ κs x f. refl), (goes-none 𝓤 H A W 7 (λ _. usize) yes (λ κs x f. refl), (goes-none 𝓤 H A W 7 (λ _. Around-T.the-row) yes (λ κs x f. refl), (goes-none 𝓤 H A W 7 (λ _. Attached-T.the-row) yes (λ κs x f. refl), (goes-ref 𝓤 H A W 7 4 tt (plain (λ _. Record-T.the-row)), (goes-slice 𝓤 H A W 7 5 tt (plain (λ _. u32)), (goes-slice 𝓤 H A W 7 6 tt (plain (λ _. u64)), tt))))))))))))) (visit-leaf-F.clauses 𝓤 H A at-mem run) (WpFn 𝓤 H (𝓣 .C) (𝓣 .Λ) code.function) (WpFn-mono 𝓤 H (W .laws) 𝓣 code.function) y
-    (walked-at 𝓤 H A visit-leaf-F.ended stayed (visit-leaf-F.clauses 𝓤 H A at-mem run) (WpFn 𝓤 H (𝓣 .C) (𝓣 .Λ) code.function) y (slice-vals, (slice-vals, ((uint-vals w64), (slice-vals, (slice-vals, ((uint-vals w64), ((uint-vals w64), ((uint-vals w64), ((LL.vals Around-T.the-type Around-L.the-laws), ((EL.vals Attached-T.the-type Attached-L.the-laws), (ptr-vals, (slice-vals, (slice-vals, tt))))))))))))) (shr-slice-tells (named 0) (y .0 .0 .0) u8, (shr-slice-tells (named 1) (y .0 .0 .1 .0) u64, ((uint-tells w64), (shr-slice-tells (named 2) (y .0 .0 .1 .1 .0) u8, (shr-slice-tells (named 3) (y .0 .0 .1 .1 .1 .0) u8, ((uint-tells w64), ((uint-tells w64), ((uint-tells w64), ((LL.tells Around-T.the-type Around-L.the-laws), ((EL.tells Attached-T.the-type Attached-L.the-laws), (mut-tells (named 4) (y .0 .0 .1 .1 .1 .1 .0) Record-T.the-row, (mut-slice-tells (named 5) (y .0 .0 .1 .1 .1 .1 .1 .0) u32, (mut-slice-tells (named 6) (y .0 .0 .1 .1 .1 .1 .1 .1 .0) u64, tt))))))))))))) (λ are. needs 𝓤 (Passable (y .0 .3 .0 .now) (y .0 .3 .1 .0 .now) (y .0 .3 .1 .1 .0) (y .0 .3 .1 .1 .1 .0 .now) (y .0 .3 .1 .1 .1 .1 .0 .now) (aroundOf (y .0 .3 .1 .1 .1 .1 .1 .1 .1 .1 .0)) (y .0 .3 .1 .1 .1 .1 .1 .0) (y .0 .3 .1 .1 .1 .1 .1 .1 .0) (y .0 .3 .1 .1 .1 .1 .1 .1 .1 .0) (y .0 .3 .1 .1 .1 .1 .1 .1 .1 .1 .1 .1 .1 .0 .now) (y .0 .3 .1 .1 .1 .1 .1 .1 .1 .1 .1 .1 .0 .now)) _ (λ req. walk 𝓤 H A W at-mem run (record { κ = y .0 .0 .0; q = y .0 .1 .0; γ = y .0 .3 .0 .name; b = y .0 .3 .0 .ptr .0; o = y .0 .3 .0 .ptr .1; n = length (y .0 .3 .0 .now) }) (y .0 .3 .0 .now) (record { κ = y .0 .0 .1 .0; q = y .0 .1 .1 .0; γ = y .0 .3 .1 .0 .name; b = y .0 .3 .1 .0 .ptr .0; o = y .0 .3 .1 .0 .ptr .1; n = length (y .0 .3 .1 .0 .now) }) (y .0 .3 .1 .0 .now) (y .0 .3 .1 .1 .0) (record { κ = y .0 .0 .1 .1 .0; q = y .0 .1 .1 .1 .0; γ = y .0 .3 .1 .1 .1 .0 .name; b = y .0 .3 .1 .1 .1 .0 .ptr .0; o = y .0 .3 .1 .1 .1 .0 .ptr .1; n = length (y .0 .3 .1 .1 .1 .0 .now) }) (y .0 .3 .1 .1 .1 .0 .now) (record { κ = y .0 .0 .1 .1 .1 .0; q = y .0 .1 .1 .1 .1 .0; γ = y .0 .3 .1 .1 .1 .1 .0 .name; b = y .0 .3 .1 .1 .1 .1 .0 .ptr .0; o = y .0 .3 .1 .1 .1 .1 .0 .ptr .1; n = length (y .0 .3 .1 .1 .1 .1 .0 .now) }) (y .0 .3 .1 .1 .1 .1 .0 .now) (y .0 .3 .1 .1 .1 .1 .1 .0) (y .0 .3 .1 .1 .1 .1 .1 .1 .0) (y .0 .3 .1 .1 .1 .1 .1 .1 .1 .0) (y .0 .3 .1 .1 .1 .1 .1 .1 .1 .1 .0) (y .0 .3 .1 .1 .1 .1 .1 .1 .1 .1 .1 .0) (record { κ = y .0 .0 .1 .1 .1 .1 .0; q = y .0 .1 .1 .1 .1 .1 .0; γ = y .0 .3 .1 .1 .1 .1 .1 .1 .1 .1 .1 .1 .0 .name; b = y .0 .3 .1 .1 .1 .1 .1 .1 .1 .1 .1 .1 .0 .ptr .0; o = y .0 .3 .1 .1 .1 .1 .1 .1 .1 .1 .1 .1 .0 .ptr .1; n = 0 }) (y .0 .3 .1 .1 .1 .1 .1 .1 .1 .1 .1 .1 .0 .now) (record { κ = y .0 .0 .1 .1 .1 .1 .1 .0; q = y .0 .1 .1 .1 .1 .1 .1 .0; γ = y .0 .3 .1 .1 .1 .1 .1 .1 .1 .1 .1 .1 .1 .0 .name; b = y .0 .3 .1 .1 .1 .1 .1 .1 .1 .1 .1 .1 .1 .0 .ptr .0; o = y .0 .3 .1 .1 .1 .1 .1 .1 .1 .1 .1 .1 .1 .0 .ptr .1; n = length (y .0 .3 .1 .1 .1 .1 .1 .1 .1 .1 .1 .1 .1 .0 .now) }) (y .0 .3 .1 .1 .1 .1 .1 .1 .1 .1 .1 .1 .1 .0 .now) (record { κ = y .0 .0 .1 .1 .1 .1 .1 .1 .0; q = y .0 .1 .1 .1 .1 .1 .1 .1 .0; γ = y .0 .3 .1 .1 .1 .1 .1 .1 .1 .1 .1 .1 .1 .1 .0 .name; b = y .0 .3 .1 .1 .1 .1 .1 .1 .1 .1 .1 .1 .1 .1 .0 .ptr .0; o = y .0 .3 .1 .1 .1 .1 .1 .1 .1 .1 .1 .1 .1 .1 .0 .ptr .1; n = length (y .0 .3 .1 .1 .1 .1 .1 .1 .1 .1 .1 .1 .1 .1 .0 .now) }) (y .0 .3 .1 .1 .1 .1 .1 .1 .1 .1 .1 .1 .1 .1 .0 .now) (are .0 .0 .1) refl (are .1 .0 .0 .1) refl (are .1 .1 .0 .1) (are .1 .1 .1 .0 .0 .1) refl (are .1 .1 .1 .1 .0 .0 .1) refl (are .1 .1 .1 .1 .1 .0 .1) (are .1 .1 .1 .1 .1 .1 .0 .1) (are .1 .1 .1 .1 .1 .1 .1 .0 .1) (are .1 .1 .1 .1 .1 .1 .1 .1 .0) (are .1 .1 .1 .1 .1 .1 .1 .1 .1 .0) (are .1 .1 .1 .1 .1 .1 .1 .1 .1 .1 .1 .0 .0 .1) refl (are .1 .1 .1 .1 .1 .1 .1 .1 .1 .1 .1 .1 .0 .0 .1) refl req 𝓣 known-is-number known-leaf known-numbers-after)))
+    (walked-at 𝓤 H A visit-leaf-F.ended stayed (visit-leaf-F.clauses 𝓤 H A at-mem run) (WpFn 𝓤 H (𝓣 .C) (𝓣 .Λ) code.function) y (slice-vals, (slice-vals, ((uint-vals w64), (slice-vals, (slice-vals, ((uint-vals w64), ((uint-vals w64), ((uint-vals w64), ((LL.vals Around-T.the-type Around-L.the-laws), ((LL.vals Attached-T.the-type Attached-L.the-laws), (ptr-vals, (slice-vals, (slice-vals, tt))))))))))))) (shr-slice-tells (named 0) (y .0 .0 .0) u8, (shr-slice-tells (named 1) (y .0 .0 .1 .0) u64, ((uint-tells w64), (shr-slice-tells (named 2) (y .0 .0 .1 .1 .0) u8, (shr-slice-tells (named 3) (y .0 .0 .1 .1 .1 .0) u8, ((uint-tells w64), ((uint-tells w64), ((uint-tells w64), ((LL.tells Around-T.the-type Around-L.the-laws), ((LL.tells Attached-T.the-type Attached-L.the-laws), (mut-tells (named 4) (y .0 .0 .1 .1 .1 .1 .0) Record-T.the-row, (mut-slice-tells (named 5) (y .0 .0 .1 .1 .1 .1 .1 .0) u32, (mut-slice-tells (named 6) (y .0 .0 .1 .1 .1 .1 .1 .1 .0) u64, tt))))))))))))) (λ are. needs 𝓤 (Passable (y .0 .3 .0 .now) (y .0 .3 .1 .0 .now) (y .0 .3 .1 .1 .0) (y .0 .3 .1 .1 .1 .0 .now) (y .0 .3 .1 .1 .1 .1 .0 .now) (aroundOf (y .0 .3 .1 .1 .1 .1 .1 .1 .1 .1 .0)) (y .0 .3 .1 .1 .1 .1 .1 .0) (y .0 .3 .1 .1 .1 .1 .1 .1 .0) (y .0 .3 .1 .1 .1 .1 .1 .1 .1 .0) (y .0 .3 .1 .1 .1 .1 .1 .1 .1 .1 .1 .1 .1 .0 .now) (y .0 .3 .1 .1 .1 .1 .1 .1 .1 .1 .1 .1 .0 .now)) _ (λ req. walk 𝓤 H A W at-mem run (record { κ = y .0 .0 .0; q = y .0 .1 .0; γ = y .0 .3 .0 .name; b = y .0 .3 .0 .ptr .0; o = y .0 .3 .0 .ptr .1; n = length (y .0 .3 .0 .now) }) (y .0 .3 .0 .now) (record { κ = y .0 .0 .1 .0; q = y .0 .1 .1 .0; γ = y .0 .3 .1 .0 .name; b = y .0 .3 .1 .0 .ptr .0; o = y .0 .3 .1 .0 .ptr .1; n = length (y .0 .3 .1 .0 .now) }) (y .0 .3 .1 .0 .now) (y .0 .3 .1 .1 .0) (record { κ = y .0 .0 .1 .1 .0; q = y .0 .1 .1 .1 .0; γ = y .0 .3 .1 .1 .1 .0 .name; b = y .0 .3 .1 .1 .1 .0 .ptr .0; o = y .0 .3 .1 .1 .1 .0 .ptr .1; n = length (y .0 .3 .1 .1 .1 .0 .now) }) (y .0 .3 .1 .1 .1 .0 .now) (record { κ = y .0 .0 .1 .1 .1 .0; q = y .0 .1 .1 .1 .1 .0; γ = y .0 .3 .1 .1 .1 .1 .0 .name; b = y .0 .3 .1 .1 .1 .1 .0 .ptr .0; o = y .0 .3 .1 .1 .1 .1 .0 .ptr .1; n = length (y .0 .3 .1 .1 .1 .1 .0 .now) }) (y .0 .3 .1 .1 .1 .1 .0 .now) (y .0 .3 .1 .1 .1 .1 .1 .0) (y .0 .3 .1 .1 .1 .1 .1 .1 .0) (y .0 .3 .1 .1 .1 .1 .1 .1 .1 .0) (y .0 .3 .1 .1 .1 .1 .1 .1 .1 .1 .0) (y .0 .3 .1 .1 .1 .1 .1 .1 .1 .1 .1 .0) (record { κ = y .0 .0 .1 .1 .1 .1 .0; q = y .0 .1 .1 .1 .1 .1 .0; γ = y .0 .3 .1 .1 .1 .1 .1 .1 .1 .1 .1 .1 .0 .name; b = y .0 .3 .1 .1 .1 .1 .1 .1 .1 .1 .1 .1 .0 .ptr .0; o = y .0 .3 .1 .1 .1 .1 .1 .1 .1 .1 .1 .1 .0 .ptr .1; n = 0 }) (y .0 .3 .1 .1 .1 .1 .1 .1 .1 .1 .1 .1 .0 .now) (record { κ = y .0 .0 .1 .1 .1 .1 .1 .0; q = y .0 .1 .1 .1 .1 .1 .1 .0; γ = y .0 .3 .1 .1 .1 .1 .1 .1 .1 .1 .1 .1 .1 .0 .name; b = y .0 .3 .1 .1 .1 .1 .1 .1 .1 .1 .1 .1 .1 .0 .ptr .0; o = y .0 .3 .1 .1 .1 .1 .1 .1 .1 .1 .1 .1 .1 .0 .ptr .1; n = length (y .0 .3 .1 .1 .1 .1 .1 .1 .1 .1 .1 .1 .1 .0 .now) }) (y .0 .3 .1 .1 .1 .1 .1 .1 .1 .1 .1 .1 .1 .0 .now) (record { κ = y .0 .0 .1 .1 .1 .1 .1 .1 .0; q = y .0 .1 .1 .1 .1 .1 .1 .1 .0; γ = y .0 .3 .1 .1 .1 .1 .1 .1 .1 .1 .1 .1 .1 .1 .0 .name; b = y .0 .3 .1 .1 .1 .1 .1 .1 .1 .1 .1 .1 .1 .1 .0 .ptr .0; o = y .0 .3 .1 .1 .1 .1 .1 .1 .1 .1 .1 .1 .1 .1 .0 .ptr .1; n = length (y .0 .3 .1 .1 .1 .1 .1 .1 .1 .1 .1 .1 .1 .1 .0 .now) }) (y .0 .3 .1 .1 .1 .1 .1 .1 .1 .1 .1 .1 .1 .1 .0 .now) (are .0 .0 .1) refl (are .1 .0 .0 .1) refl (are .1 .1 .0 .1) (are .1 .1 .1 .0 .0 .1) refl (are .1 .1 .1 .1 .0 .0 .1) refl (are .1 .1 .1 .1 .1 .0 .1) (are .1 .1 .1 .1 .1 .1 .0 .1) (are .1 .1 .1 .1 .1 .1 .1 .0 .1) (are .1 .1 .1 .1 .1 .1 .1 .1 .0) (are .1 .1 .1 .1 .1 .1 .1 .1 .1 .0) (are .1 .1 .1 .1 .1 .1 .1 .1 .1 .1 .1 .0 .0 .1) refl (are .1 .1 .1 .1 .1 .1 .1 .1 .1 .1 .1 .1 .0 .0 .1) refl req 𝓣 known-is-number known-leaf known-numbers-after)))
 
 pub visit-leaf-spec : {M : Type 1} → stated.statement M
 unfolding code.routine tablesOf

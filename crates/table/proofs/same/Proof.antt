@@ -9,8 +9,8 @@ use Rattle.table.proofs.same.Tie as tie
 returns : tie.Need-returns
 returns c = sym (equal-apart _ _ (c .if1 .taken))
 
-same-short-requires : tie.Need-same-short-requires
-same-short-requires c κs = search needs
+same-from-requires : tie.Need-same-from-requires
+same-from-requires c κs = search needs
 
 returns-2 : tie.Need-returns-2
 returns-2 c = search needs
@@ -22,4 +22,4 @@ returns-3 : tie.Need-returns-3
 returns-3 c = search needs
 
 pub same-spec : {M : Type 1} → statement M
-same-spec = tie.close (tie.spec returns same-short-requires returns-2 same-long-requires returns-3)
+same-spec = tie.close (tie.spec returns same-from-requires returns-2 same-long-requires returns-3)

@@ -52,7 +52,6 @@ use Rattle.references.proofs.Hand.{At, lent as relent, ptrVal, fatVal, ref, Has
 use Rattle.attachment.specs.declared.Attached.{Attached}
 use Rattle.attachment.proofs.Attached as Attached-T
 use Rattle.attachment.proofs.Attached.Laws as Attached-L
-use Rattle.attachment.specs.declared.Attached.the-variants as Attached-V
 use Rattle.running.specs.declared.Record.{Record}
 use Rattle.running.proofs.Record as Record-T
 use Rattle.running.proofs.Record.Laws as Record-L
@@ -249,17 +248,17 @@ module _ {M : Type 1} (𝓤 : URA M) (H : Heap 𝓤) (A : Atoms 𝓤) (W : Given
     abbrev fm : FmC 𝓤 H (W .laws) (𝓣 .C)
     fm = fmOf 𝓤 H (W .laws) 𝓣
 
-    cut-3 : (l0 l1 l2 l3 l4 l5 l6 l7 l8 l9 l10 l11 l12 l13 l14 l15 l16 l17 l18 l19 l20 l21 l22 l23 l24 l25 l26 l27 l28 l29 l30 l31 l32 l33 : ℕ) (xc3 : Attached × Unit {0}) → Sq W (raw (fact 𝓤 ((Is Attached-T.the-row (xc3 .0) (EL.val Attached-T.the-type Attached-L.the-laws (xc3 .0) ∷ [])) × ((startsOf (xc3 .0) ≡ startsFor (anchorOf source₀ tape₀ (rec₀ .anchor) from₀) (forest source₀ tape₀ from₀ to₀))))) ∷ Dead l0 l1 l2 l3 l4 l5 l6 l7 l8 l9 l10 l11 l12 l13 l14 l15 l16 l17 l18 l19 l20 l21 l22 l23 l24 l25 l26 l27 l28 l29 l30 l31 l32 l33 ∷ ‵ (froom τ0 l0 0) ∷ ‵ (fat fullShare τ1 l1 0 (fatVal table-at)) ∷ ‵ (fat fullShare τ2 l2 0 (fatVal words-at)) ∷ ‵ (fat fullShare τ3 l3 0 (vint w64 count₀)) ∷ ‵ (fat fullShare τ4 l4 0 (fatVal source-at)) ∷ ‵ (fat fullShare τ5 l5 0 (fatVal tape-at)) ∷ ‵ (fat fullShare τ6 l6 0 (vint w64 from₀)) ∷ ‵ (fat fullShare τ7 l7 0 (vint w64 to₀)) ∷ ‵ (fat fullShare τ8 l8 0 (vint w64 depth₀)) ∷ ‵ (fat fullShare τ9 l9 0 (LL.val Around-T.the-type Around-L.the-laws around₀)) ∷ ‵ (fat fullShare τ10 l10 0 (ptrVal rec-at)) ∷ ‵ (fat fullShare τ11 l11 0 (fatVal seen-at)) ∷ ‵ (fat fullShare τ12 l12 0 (fatVal opens-at)) ∷ ‵ (fat fullShare τ13 l13 0 (fatVal list-at)) ∷ ‵ (fat fullShare τ14 l14 0 (EL.val Attached-T.the-type Attached-L.the-laws (xc3 .0))) ∷ ‵ (froom τ15 l15 0) ∷ ‵ (froom τ16 l16 0) ∷ ‵ (froom τ17 l17 0) ∷ ‵ (froom τ18 l18 0) ∷ ‵ (froom τ19 l19 0) ∷ ‵ (froom τ20 l20 0) ∷ ‵ (froom τ21 l21 0) ∷ ‵ (froom τ22 l22 0) ∷ ‵ (froom τ23 l23 0) ∷ ‵ (froom τ24 l24 0) ∷ ‵ (froom τ25 l25 0) ∷ ‵ (froom τ26 l26 0) ∷ ‵ (froom τ27 l27 0) ∷ ‵ (froom τ28 l28 0) ∷ ‵ (froom τ29 l29 0) ∷ ‵ (froom τ30 l30 0) ∷ ‵ (froom τ31 l31 0) ∷ ‵ (froom τ32 l32 0) ∷ ‵ (froom τ33 l33 0) ∷ ‵ (HasShr u8 table-at table₀) ∷ ‵ (HasShr u64 words-at words₀) ∷ ‵ (HasShr u8 source-at source₀) ∷ ‵ (HasShr u8 tape-at tape₀) ∷ ‵ (HasRef Record-T.the-row rec-at rec₀) ∷ ‵ (HasMut u32 seen-at seen₀) ∷ ‵ (HasMut OpenStart-T.the-row opens-at opens₀) ∷ ‵ (HasMut u64 list-at list₀) ∷ []) (runs (𝓣 .C) (𝓣 .Λ) (Envs l0 l1 l2 l3 l4 l5 l6 l7 l8 l9 l10 l11 l12 l13 l14 l15 l16 l17 l18 l19 l20 l21 l22 l23 l24 l25 l26 l27 l28 l29 l30 l31 l32 l33) mir-of.t-3 (atRet (Envs l0 l1 l2 l3 l4 l5 l6 l7 l8 l9 l10 l11 l12 l13 l14 l15 l16 l17 l18 l19 l20 l21 l22 l23 l24 l25 l26 l27 l28 l29 l30 l31 l32 l33) Post))
+    cut-3 : (l0 l1 l2 l3 l4 l5 l6 l7 l8 l9 l10 l11 l12 l13 l14 l15 l16 l17 l18 l19 l20 l21 l22 l23 l24 l25 l26 l27 l28 l29 l30 l31 l32 l33 : ℕ) (xc3 : Attached × Unit {0}) → Sq W (raw (fact 𝓤 ((Is Attached-T.the-row (xc3 .0) (LL.val Attached-T.the-type Attached-L.the-laws (xc3 .0) ∷ [])) × ((startsOf (xc3 .0) ≡ startsFor (anchorOf source₀ tape₀ (rec₀ .anchor) from₀) (forest source₀ tape₀ from₀ to₀))))) ∷ Dead l0 l1 l2 l3 l4 l5 l6 l7 l8 l9 l10 l11 l12 l13 l14 l15 l16 l17 l18 l19 l20 l21 l22 l23 l24 l25 l26 l27 l28 l29 l30 l31 l32 l33 ∷ ‵ (froom τ0 l0 0) ∷ ‵ (fat fullShare τ1 l1 0 (fatVal table-at)) ∷ ‵ (fat fullShare τ2 l2 0 (fatVal words-at)) ∷ ‵ (fat fullShare τ3 l3 0 (vint w64 count₀)) ∷ ‵ (fat fullShare τ4 l4 0 (fatVal source-at)) ∷ ‵ (fat fullShare τ5 l5 0 (fatVal tape-at)) ∷ ‵ (fat fullShare τ6 l6 0 (vint w64 from₀)) ∷ ‵ (fat fullShare τ7 l7 0 (vint w64 to₀)) ∷ ‵ (fat fullShare τ8 l8 0 (vint w64 depth₀)) ∷ ‵ (fat fullShare τ9 l9 0 (LL.val Around-T.the-type Around-L.the-laws around₀)) ∷ ‵ (fat fullShare τ10 l10 0 (ptrVal rec-at)) ∷ ‵ (fat fullShare τ11 l11 0 (fatVal seen-at)) ∷ ‵ (fat fullShare τ12 l12 0 (fatVal opens-at)) ∷ ‵ (fat fullShare τ13 l13 0 (fatVal list-at)) ∷ ‵ (fat fullShare τ14 l14 0 (LL.val Attached-T.the-type Attached-L.the-laws (xc3 .0))) ∷ ‵ (froom τ15 l15 0) ∷ ‵ (froom τ16 l16 0) ∷ ‵ (froom τ17 l17 0) ∷ ‵ (froom τ18 l18 0) ∷ ‵ (froom τ19 l19 0) ∷ ‵ (froom τ20 l20 0) ∷ ‵ (froom τ21 l21 0) ∷ ‵ (froom τ22 l22 0) ∷ ‵ (froom τ23 l23 0) ∷ ‵ (froom τ24 l24 0) ∷ ‵ (froom τ25 l25 0) ∷ ‵ (froom τ26 l26 0) ∷ ‵ (froom τ27 l27 0) ∷ ‵ (froom τ28 l28 0) ∷ ‵ (froom τ29 l29 0) ∷ ‵ (froom τ30 l30 0) ∷ ‵ (froom τ31 l31 0) ∷ ‵ (froom τ32 l32 0) ∷ ‵ (froom τ33 l33 0) ∷ ‵ (HasShr u8 table-at table₀) ∷ ‵ (HasShr u64 words-at words₀) ∷ ‵ (HasShr u8 source-at source₀) ∷ ‵ (HasShr u8 tape-at tape₀) ∷ ‵ (HasRef Record-T.the-row rec-at rec₀) ∷ ‵ (HasMut u32 seen-at seen₀) ∷ ‵ (HasMut OpenStart-T.the-row opens-at opens₀) ∷ ‵ (HasMut u64 list-at list₀) ∷ []) (runs (𝓣 .C) (𝓣 .Λ) (Envs l0 l1 l2 l3 l4 l5 l6 l7 l8 l9 l10 l11 l12 l13 l14 l15 l16 l17 l18 l19 l20 l21 l22 l23 l24 l25 l26 l27 l28 l29 l30 l31 l32 l33) mir-of.t-3 (atRet (Envs l0 l1 l2 l3 l4 l5 l6 l7 l8 l9 l10 l11 l12 l13 l14 l15 l16 l17 l18 l19 l20 l21 l22 l23 l24 l25 l26 l27 l28 l29 l30 l31 l32 l33) Post))
     unfolding afterTurn
-    cut-3 l0 l1 l2 l3 l4 l5 l6 l7 l8 l9 l10 l11 l12 l13 l14 l15 l16 l17 l18 l19 l20 l21 l22 l23 l24 l25 l26 l27 l28 l29 l30 l31 l32 l33 xc3 = heard ! ((Is Attached-T.the-row (xc3 .0) (EL.val Attached-T.the-type Attached-L.the-laws (xc3 .0) ∷ [])) × ((startsOf (xc3 .0) ≡ startsFor (anchorOf source₀ tape₀ (rec₀ .anchor) from₀) (forest source₀ tape₀ from₀ to₀)))) (λ jc3.
-        let is-n-c3 : Is Attached-T.the-row (xc3 .0) (EL.val Attached-T.the-type Attached-L.the-laws (xc3 .0) ∷ []) = jc3 .0 in
+    cut-3 l0 l1 l2 l3 l4 l5 l6 l7 l8 l9 l10 l11 l12 l13 l14 l15 l16 l17 l18 l19 l20 l21 l22 l23 l24 l25 l26 l27 l28 l29 l30 l31 l32 l33 xc3 = heard ! ((Is Attached-T.the-row (xc3 .0) (LL.val Attached-T.the-type Attached-L.the-laws (xc3 .0) ∷ [])) × ((startsOf (xc3 .0) ≡ startsFor (anchorOf source₀ tape₀ (rec₀ .anchor) from₀) (forest source₀ tape₀ from₀ to₀)))) (λ jc3.
+        let is-n-c3 : Is Attached-T.the-row (xc3 .0) (LL.val Attached-T.the-type Attached-L.the-laws (xc3 .0) ∷ []) = jc3 .0 in
         let inv-c3 : startsOf (xc3 .0) ≡ startsFor (anchorOf source₀ tape₀ (rec₀ .anchor) from₀) (forest source₀ tape₀ from₀ to₀) = jc3 .1 in
         assigns ! (of-opd ! (load ! (from ! (stop !)) (look ! 7 refl))) (from ! (stop !)) (init ! 16 refl (tt, record { fits = from₀-is })) $
-        use0 W (raw (fact 𝓤 ((from₀ < 2 ^ 64) × ((Is Attached-T.the-row (xc3 .0) (EL.val Attached-T.the-type Attached-L.the-laws (xc3 .0) ∷ [])) × ((length seen₀ ≡ length seen₀) × ((length opens₀ ≡ length opens₀) × ((length list₀ ≡ length list₀) × ((Going table₀ words₀ count₀ source₀ tape₀ depth₀ (aroundOf around₀) from₀ to₀ (walkAt table₀ source₀ tape₀ (aroundOf around₀) from₀ to₀ seen₀ opens₀ rec₀) list₀ rec₀ seen₀ opens₀ list₀ rec₀ (xc3 .0) from₀))))))))) (factI 𝓤 ((from₀ < 2 ^ 64) × ((Is Attached-T.the-row (xc3 .0) (EL.val Attached-T.the-type Attached-L.the-laws (xc3 .0) ∷ [])) × ((length seen₀ ≡ length seen₀) × ((length opens₀ ≡ length opens₀) × ((length list₀ ≡ length list₀) × ((Going table₀ words₀ count₀ source₀ tape₀ depth₀ (aroundOf around₀) from₀ to₀ (walkAt table₀ source₀ tape₀ (aroundOf around₀) from₀ to₀ seen₀ opens₀ rec₀) list₀ rec₀ seen₀ opens₀ list₀ rec₀ (xc3 .0) from₀))))))) (emp 𝓤) (from₀-is, (is-n-c3, (refl, (refl, (refl, (going-start table₀ words₀ count₀ source₀ tape₀ depth₀ (aroundOf around₀) from₀ to₀ seen₀ opens₀ list₀ rec₀ _ (req .0) (req .1) inv-c3))))))) $
+        use0 W (raw (fact 𝓤 ((from₀ < 2 ^ 64) × ((Is Attached-T.the-row (xc3 .0) (LL.val Attached-T.the-type Attached-L.the-laws (xc3 .0) ∷ [])) × ((length seen₀ ≡ length seen₀) × ((length opens₀ ≡ length opens₀) × ((length list₀ ≡ length list₀) × ((Going table₀ words₀ count₀ source₀ tape₀ depth₀ (aroundOf around₀) from₀ to₀ (walkAt table₀ source₀ tape₀ (aroundOf around₀) from₀ to₀ seen₀ opens₀ rec₀) list₀ rec₀ seen₀ opens₀ list₀ rec₀ (xc3 .0) from₀))))))))) (factI 𝓤 ((from₀ < 2 ^ 64) × ((Is Attached-T.the-row (xc3 .0) (LL.val Attached-T.the-type Attached-L.the-laws (xc3 .0) ∷ [])) × ((length seen₀ ≡ length seen₀) × ((length opens₀ ≡ length opens₀) × ((length list₀ ≡ length list₀) × ((Going table₀ words₀ count₀ source₀ tape₀ depth₀ (aroundOf around₀) from₀ to₀ (walkAt table₀ source₀ tape₀ (aroundOf around₀) from₀ to₀ seen₀ opens₀ rec₀) list₀ rec₀ seen₀ opens₀ list₀ rec₀ (xc3 .0) from₀))))))) (emp 𝓤) (from₀-is, (is-n-c3, (refl, (refl, (refl, (going-start table₀ words₀ count₀ source₀ tape₀ depth₀ (aroundOf around₀) from₀ to₀ seen₀ opens₀ list₀ rec₀ _ (req .0) (req .1) inv-c3))))))) $
         keep ! (0 ∷ 1 ∷ 2 ∷ 3 ∷ 4 ∷ 5 ∷ 6 ∷ 7 ∷ 8 ∷ 9 ∷ 10 ∷ 11 ∷ 12 ∷ 13 ∷ 14 ∷ 15 ∷ 16 ∷ 17 ∷ 18 ∷ 19 ∷ 20 ∷ 21 ∷ 22 ∷ 23 ∷ 24 ∷ 25 ∷ 26 ∷ 27 ∷ 28 ∷ 29 ∷ 30 ∷ 31 ∷ 32 ∷ 33 ∷ 34 ∷ 35 ∷ 36 ∷ 37 ∷ 38 ∷ 39 ∷ 40 ∷ 41 ∷ 42 ∷ 43 ∷ []) $
-        loop-then ! 𝓣 (λ (a b : ℕ × (Attached × (Record × ((List ℕ) × ((List OpenStart) × ((List ℕ) × Unit {0})))))). μ-loop-0 a < μ-loop-0 b) (InvImage·wf (μ-loop-0) (Nat·lt-wfRel .wf)) (λ (y100 : ℕ × (Attached × (Record × ((List ℕ) × ((List OpenStart) × ((List ℕ) × Unit {0})))))). raw (fact 𝓤 (((y100 .0) < 2 ^ 64) × ((Is Attached-T.the-row (y100 .1 .0) (EL.val Attached-T.the-type Attached-L.the-laws (y100 .1 .0) ∷ [])) × ((length (y100 .1 .1 .1 .0) ≡ length seen₀) × ((length (y100 .1 .1 .1 .1 .0) ≡ length opens₀) × ((length (y100 .1 .1 .1 .1 .1 .0) ≡ length list₀) × ((Going table₀ words₀ count₀ source₀ tape₀ depth₀ (aroundOf around₀) from₀ to₀ (walkAt table₀ source₀ tape₀ (aroundOf around₀) from₀ to₀ seen₀ opens₀ rec₀) list₀ rec₀ (y100 .1 .1 .1 .0) (y100 .1 .1 .1 .1 .0) (y100 .1 .1 .1 .1 .1 .0) (y100 .1 .1 .0) (y100 .1 .0) (y100 .0))))))))) ∷ Dead l0 l1 l2 l3 l4 l5 l6 l7 l8 l9 l10 l11 l12 l13 l14 l15 l16 l17 l18 l19 l20 l21 l22 l23 l24 l25 l26 l27 l28 l29 l30 l31 l32 l33 ∷ ‵ (froom τ0 l0 0) ∷ ‵ (fat fullShare τ1 l1 0 (fatVal table-at)) ∷ ‵ (fat fullShare τ2 l2 0 (fatVal words-at)) ∷ ‵ (fat fullShare τ3 l3 0 (vint w64 count₀)) ∷ ‵ (fat fullShare τ4 l4 0 (fatVal source-at)) ∷ ‵ (fat fullShare τ5 l5 0 (fatVal tape-at)) ∷ ‵ (fat fullShare τ6 l6 0 (vint w64 from₀)) ∷ ‵ (fat fullShare τ7 l7 0 (vint w64 to₀)) ∷ ‵ (fat fullShare τ8 l8 0 (vint w64 depth₀)) ∷ ‵ (fat fullShare τ9 l9 0 (LL.val Around-T.the-type Around-L.the-laws around₀)) ∷ ‵ (fat fullShare τ10 l10 0 (ptrVal rec-at)) ∷ ‵ (fat fullShare τ11 l11 0 (fatVal seen-at)) ∷ ‵ (fat fullShare τ12 l12 0 (fatVal opens-at)) ∷ ‵ (fat fullShare τ13 l13 0 (fatVal list-at)) ∷ ‵ (fat fullShare τ14 l14 0 (EL.val Attached-T.the-type Attached-L.the-laws (y100 .1 .0))) ∷ ‵ (fat fullShare τ15 l15 0 (vint w64 (y100 .0))) ∷ ‵ (froom τ16 l16 0) ∷ ‵ (froom τ17 l17 0) ∷ ‵ (froom τ18 l18 0) ∷ ‵ (froom τ19 l19 0) ∷ ‵ (froom τ20 l20 0) ∷ ‵ (froom τ21 l21 0) ∷ ‵ (froom τ22 l22 0) ∷ ‵ (froom τ23 l23 0) ∷ ‵ (froom τ24 l24 0) ∷ ‵ (froom τ25 l25 0) ∷ ‵ (froom τ26 l26 0) ∷ ‵ (froom τ27 l27 0) ∷ ‵ (froom τ28 l28 0) ∷ ‵ (froom τ29 l29 0) ∷ ‵ (froom τ30 l30 0) ∷ ‵ (froom τ31 l31 0) ∷ ‵ (froom τ32 l32 0) ∷ ‵ (froom τ33 l33 0) ∷ ‵ (HasShr u8 table-at table₀) ∷ ‵ (HasShr u64 words-at words₀) ∷ ‵ (HasShr u8 source-at source₀) ∷ ‵ (HasShr u8 tape-at tape₀) ∷ ‵ (HasRef Record-T.the-row rec-at (y100 .1 .1 .0)) ∷ ‵ (HasMut u32 seen-at (y100 .1 .1 .1 .0)) ∷ ‵ (HasMut OpenStart-T.the-row opens-at (y100 .1 .1 .1 .1 .0)) ∷ ‵ (HasMut u64 list-at (y100 .1 .1 .1 .1 .1 .0)) ∷ []) (λ y100 leave-0. heard ! (((y100 .0) < 2 ^ 64) × ((Is Attached-T.the-row (y100 .1 .0) (EL.val Attached-T.the-type Attached-L.the-laws (y100 .1 .0) ∷ [])) × ((length (y100 .1 .1 .1 .0) ≡ length seen₀) × ((length (y100 .1 .1 .1 .1 .0) ≡ length opens₀) × ((length (y100 .1 .1 .1 .1 .1 .0) ≡ length list₀) × ((Going table₀ words₀ count₀ source₀ tape₀ depth₀ (aroundOf around₀) from₀ to₀ (walkAt table₀ source₀ tape₀ (aroundOf around₀) from₀ to₀ seen₀ opens₀ rec₀) list₀ rec₀ (y100 .1 .1 .1 .0) (y100 .1 .1 .1 .1 .0) (y100 .1 .1 .1 .1 .1 .0) (y100 .1 .1 .0) (y100 .1 .0) (y100 .0)))))))) (λ j100.
+        loop-then ! 𝓣 (λ (a b : ℕ × (Attached × (Record × ((List ℕ) × ((List OpenStart) × ((List ℕ) × Unit {0})))))). μ-loop-0 a < μ-loop-0 b) (InvImage·wf (μ-loop-0) (Nat·lt-wfRel .wf)) (λ (y100 : ℕ × (Attached × (Record × ((List ℕ) × ((List OpenStart) × ((List ℕ) × Unit {0})))))). raw (fact 𝓤 (((y100 .0) < 2 ^ 64) × ((Is Attached-T.the-row (y100 .1 .0) (LL.val Attached-T.the-type Attached-L.the-laws (y100 .1 .0) ∷ [])) × ((length (y100 .1 .1 .1 .0) ≡ length seen₀) × ((length (y100 .1 .1 .1 .1 .0) ≡ length opens₀) × ((length (y100 .1 .1 .1 .1 .1 .0) ≡ length list₀) × ((Going table₀ words₀ count₀ source₀ tape₀ depth₀ (aroundOf around₀) from₀ to₀ (walkAt table₀ source₀ tape₀ (aroundOf around₀) from₀ to₀ seen₀ opens₀ rec₀) list₀ rec₀ (y100 .1 .1 .1 .0) (y100 .1 .1 .1 .1 .0) (y100 .1 .1 .1 .1 .1 .0) (y100 .1 .1 .0) (y100 .1 .0) (y100 .0))))))))) ∷ Dead l0 l1 l2 l3 l4 l5 l6 l7 l8 l9 l10 l11 l12 l13 l14 l15 l16 l17 l18 l19 l20 l21 l22 l23 l24 l25 l26 l27 l28 l29 l30 l31 l32 l33 ∷ ‵ (froom τ0 l0 0) ∷ ‵ (fat fullShare τ1 l1 0 (fatVal table-at)) ∷ ‵ (fat fullShare τ2 l2 0 (fatVal words-at)) ∷ ‵ (fat fullShare τ3 l3 0 (vint w64 count₀)) ∷ ‵ (fat fullShare τ4 l4 0 (fatVal source-at)) ∷ ‵ (fat fullShare τ5 l5 0 (fatVal tape-at)) ∷ ‵ (fat fullShare τ6 l6 0 (vint w64 from₀)) ∷ ‵ (fat fullShare τ7 l7 0 (vint w64 to₀)) ∷ ‵ (fat fullShare τ8 l8 0 (vint w64 depth₀)) ∷ ‵ (fat fullShare τ9 l9 0 (LL.val Around-T.the-type Around-L.the-laws around₀)) ∷ ‵ (fat fullShare τ10 l10 0 (ptrVal rec-at)) ∷ ‵ (fat fullShare τ11 l11 0 (fatVal seen-at)) ∷ ‵ (fat fullShare τ12 l12 0 (fatVal opens-at)) ∷ ‵ (fat fullShare τ13 l13 0 (fatVal list-at)) ∷ ‵ (fat fullShare τ14 l14 0 (LL.val Attached-T.the-type Attached-L.the-laws (y100 .1 .0))) ∷ ‵ (fat fullShare τ15 l15 0 (vint w64 (y100 .0))) ∷ ‵ (froom τ16 l16 0) ∷ ‵ (froom τ17 l17 0) ∷ ‵ (froom τ18 l18 0) ∷ ‵ (froom τ19 l19 0) ∷ ‵ (froom τ20 l20 0) ∷ ‵ (froom τ21 l21 0) ∷ ‵ (froom τ22 l22 0) ∷ ‵ (froom τ23 l23 0) ∷ ‵ (froom τ24 l24 0) ∷ ‵ (froom τ25 l25 0) ∷ ‵ (froom τ26 l26 0) ∷ ‵ (froom τ27 l27 0) ∷ ‵ (froom τ28 l28 0) ∷ ‵ (froom τ29 l29 0) ∷ ‵ (froom τ30 l30 0) ∷ ‵ (froom τ31 l31 0) ∷ ‵ (froom τ32 l32 0) ∷ ‵ (froom τ33 l33 0) ∷ ‵ (HasShr u8 table-at table₀) ∷ ‵ (HasShr u64 words-at words₀) ∷ ‵ (HasShr u8 source-at source₀) ∷ ‵ (HasShr u8 tape-at tape₀) ∷ ‵ (HasRef Record-T.the-row rec-at (y100 .1 .1 .0)) ∷ ‵ (HasMut u32 seen-at (y100 .1 .1 .1 .0)) ∷ ‵ (HasMut OpenStart-T.the-row opens-at (y100 .1 .1 .1 .1 .0)) ∷ ‵ (HasMut u64 list-at (y100 .1 .1 .1 .1 .1 .0)) ∷ []) (λ y100 leave-0. heard ! (((y100 .0) < 2 ^ 64) × ((Is Attached-T.the-row (y100 .1 .0) (LL.val Attached-T.the-type Attached-L.the-laws (y100 .1 .0) ∷ [])) × ((length (y100 .1 .1 .1 .0) ≡ length seen₀) × ((length (y100 .1 .1 .1 .1 .0) ≡ length opens₀) × ((length (y100 .1 .1 .1 .1 .1 .0) ≡ length list₀) × ((Going table₀ words₀ count₀ source₀ tape₀ depth₀ (aroundOf around₀) from₀ to₀ (walkAt table₀ source₀ tape₀ (aroundOf around₀) from₀ to₀ seen₀ opens₀ rec₀) list₀ rec₀ (y100 .1 .1 .1 .0) (y100 .1 .1 .1 .1 .0) (y100 .1 .1 .1 .1 .1 .0) (y100 .1 .1 .0) (y100 .1 .0) (y100 .0)))))))) (λ j100.
         let is-i-100 : (y100 .0) < 2 ^ 64 = j100 .0 in
-        let is-n-100 : Is Attached-T.the-row (y100 .1 .0) (EL.val Attached-T.the-type Attached-L.the-laws (y100 .1 .0) ∷ []) = j100 .1 .0 in
+        let is-n-100 : Is Attached-T.the-row (y100 .1 .0) (LL.val Attached-T.the-type Attached-L.the-laws (y100 .1 .0) ∷ []) = j100 .1 .0 in
         let len-sn-100 : length (y100 .1 .1 .1 .0) ≡ length seen₀ = j100 .1 .1 .0 in
         let len-ys-100 : length (y100 .1 .1 .1 .1 .0) ≡ length opens₀ = j100 .1 .1 .1 .0 in
         let len-l-100 : length (y100 .1 .1 .1 .1 .1 .0) ≡ length list₀ = j100 .1 .1 .1 .1 .0 in
@@ -285,7 +284,7 @@ module _ {M : Type 1} (𝓤 : URA M) (H : Heap 𝓤) (A : Atoms 𝓤) (W : Given
         let len-visit-leaf-seen : length (z-visit-leaf .1 .1 .0) ≡ length (y100 .1 .1 .1 .0) = s-visit-leaf .1 .0 in
         let len-visit-leaf-list : length (z-visit-leaf .1 .1 .1 .0) ≡ length (y100 .1 .1 .1 .1 .1 .0) = s-visit-leaf .1 .1 .0 in
         let says-visit-leaf : PassedBy table₀ source₀ tape₀ (aroundOf around₀) (y100 .0) (z-past-node .0) to₀ (y100 .1 .0) (y100 .1 .1 .1 .0) (y100 .1 .1 .1 .1 .1 .0) (y100 .1 .1 .0) (z-visit-leaf .1 .1 .0) (z-visit-leaf .1 .1 .1 .0) (z-visit-leaf .1 .0) (z-visit-leaf .0) = s-visit-leaf .1 .1 .1 in
-        land ! (from ! (stop !)) (store ! 22 refl (EL.lawful Attached-T.the-type Attached-L.the-laws 𝓤 H A W tt .typed (z-visit-leaf .0) _ (s-visit-leaf .0) .0)) $
+        land ! (from ! (stop !)) (store ! 22 refl (LL.lawful Attached-T.the-type Attached-L.the-laws 𝓤 H A W .typed (z-visit-leaf .0) _ (s-visit-leaf .0) .0)) $
         move ! (0 ∷ 1 ∷ 3 ∷ []) $ let req-marker : (Indexed table₀ words₀ count₀) × ((y100 .0) < nodes tape₀) = (inv-100 .ready .indexed, going-below inv-100 test-0) in
         marker-C.calls-marker ! at-mem run fm table-at table₀ words-at words₀ count₀ tape-at tape₀ (y100 .0) count₀-is is-i-100 req-marker (known-marker (marker-C.to 𝓤 H A at-mem run table-at table₀ words-at words₀ count₀ tape-at tape₀ (y100 .0) table-at words-at tape-at))
         (and-then ! (load ! (from ! (stop !)) (look ! 7 refl)) (and-then ! (load ! (from ! (stop !)) (look ! 8 refl)) (and-then ! (load ! (from ! (stop !)) (look ! 9 refl)) (and-then ! (load ! (from ! (stop !)) (look ! 11 refl)) (and-then ! (load ! (from ! (stop !)) (look ! 22 refl)) (no-more !)))))) (λ z-marker s-marker.
@@ -313,14 +312,14 @@ module _ {M : Type 1} (𝓤 : URA M) (H : Heap 𝓤) (A : Atoms 𝓤) (W : Given
               let len-visit-list : length (z-visit .1 .1 .1 .1 .0) ≡ length (z-visit-leaf .1 .1 .1 .0) = s-visit .1 .1 .1 .0 in
               let says-visit : Visited table₀ source₀ tape₀ (aroundOf around₀) (entryOfInfo (y1 .0)) (y100 .0) to₀ (z-visit-leaf .1 .1 .0) (y100 .1 .1 .1 .1 .0) (z-visit-leaf .1 .1 .1 .0) (z-visit-leaf .1 .0) (z-visit .1 .1 .0) (z-visit .1 .1 .1 .0) (z-visit .1 .1 .1 .1 .0) (z-visit .1 .0) = s-visit .1 .1 .1 .1 in
               land-last ! (from ! (stop !)) (init ! 35 refl (tt, tt)) $
-              forget ! 25 refl $ forget ! 26 refl $ forget ! 28 refl $ forget ! 29 refl $ forget ! 30 refl $ forget ! 31 refl $ forget ! 32 refl $ forget ! 33 refl $ forget ! 34 refl $ forget ! 35 refl $ forget ! 36 refl $ forget ! 37 refl $ forget ! 38 refl $ forget ! 39 refl $ forget ! 40 refl $ forget ! 41 refl $ forget ! 42 refl $ use0 W (raw (fact 𝓤 (((z-past-node .0) < 2 ^ 64) × ((Is Attached-T.the-row (z-visit-leaf .0) (EL.val Attached-T.the-type Attached-L.the-laws (z-visit-leaf .0) ∷ [])) × ((length (z-visit .1 .1 .0) ≡ length seen₀) × ((length (z-visit .1 .1 .1 .0) ≡ length opens₀) × ((length (z-visit .1 .1 .1 .1 .0) ≡ length list₀) × ((Going table₀ words₀ count₀ source₀ tape₀ depth₀ (aroundOf around₀) from₀ to₀ (walkAt table₀ source₀ tape₀ (aroundOf around₀) from₀ to₀ seen₀ opens₀ rec₀) list₀ rec₀ (z-visit .1 .1 .0) (z-visit .1 .1 .1 .0) (z-visit .1 .1 .1 .1 .0) (z-visit .1 .0) (z-visit-leaf .0) (z-past-node .0)))))))))) (factI 𝓤 (((z-past-node .0) < 2 ^ 64) × ((Is Attached-T.the-row (z-visit-leaf .0) (EL.val Attached-T.the-type Attached-L.the-laws (z-visit-leaf .0) ∷ [])) × ((length (z-visit .1 .1 .0) ≡ length seen₀) × ((length (z-visit .1 .1 .1 .0) ≡ length opens₀) × ((length (z-visit .1 .1 .1 .1 .0) ≡ length list₀) × ((Going table₀ words₀ count₀ source₀ tape₀ depth₀ (aroundOf around₀) from₀ to₀ (walkAt table₀ source₀ tape₀ (aroundOf around₀) from₀ to₀ seen₀ opens₀ rec₀) list₀ rec₀ (z-visit .1 .1 .0) (z-visit .1 .1 .1 .0) (z-visit .1 .1 .1 .1 .0) (z-visit .1 .0) (z-visit-leaf .0) (z-past-node .0)))))))) (emp 𝓤) (((s-past-node .0) .1), ((s-visit-leaf .0), ((len-visit-seen ∙ (len-visit-leaf-seen ∙ len-sn-100)), ((len-visit-opens ∙ len-ys-100), ((len-visit-list ∙ (len-visit-leaf-list ∙ len-l-100)), (going-visited inv-100 test-0 _ says-past-node _ _ _ _ len-visit-leaf-seen says-visit-leaf _ says-marker _ told-1 _ _ _ _ len-visit-seen len-visit-opens says-visit))))))) $
-              keep ! (0 ∷ 9 ∷ 10 ∷ 11 ∷ 12 ∷ 13 ∷ 14 ∷ 15 ∷ 16 ∷ 17 ∷ 18 ∷ 19 ∷ 20 ∷ 21 ∷ 22 ∷ 23 ∷ 24 ∷ 25 ∷ 26 ∷ 27 ∷ 28 ∷ 29 ∷ 30 ∷ 31 ∷ 32 ∷ 33 ∷ 34 ∷ 35 ∷ 36 ∷ 37 ∷ 38 ∷ 39 ∷ 40 ∷ 41 ∷ 42 ∷ 43 ∷ 1 ∷ 2 ∷ 3 ∷ 4 ∷ 5 ∷ 6 ∷ 7 ∷ 8 ∷ []) $ again ! (λ (a b : ℕ × (Attached × (Record × ((List ℕ) × ((List OpenStart) × ((List ℕ) × Unit {0})))))). μ-loop-0 a < μ-loop-0 b) (λ (y100 : ℕ × (Attached × (Record × ((List ℕ) × ((List OpenStart) × ((List ℕ) × Unit {0})))))). raw (fact 𝓤 (((y100 .0) < 2 ^ 64) × ((Is Attached-T.the-row (y100 .1 .0) (EL.val Attached-T.the-type Attached-L.the-laws (y100 .1 .0) ∷ [])) × ((length (y100 .1 .1 .1 .0) ≡ length seen₀) × ((length (y100 .1 .1 .1 .1 .0) ≡ length opens₀) × ((length (y100 .1 .1 .1 .1 .1 .0) ≡ length list₀) × ((Going table₀ words₀ count₀ source₀ tape₀ depth₀ (aroundOf around₀) from₀ to₀ (walkAt table₀ source₀ tape₀ (aroundOf around₀) from₀ to₀ seen₀ opens₀ rec₀) list₀ rec₀ (y100 .1 .1 .1 .0) (y100 .1 .1 .1 .1 .0) (y100 .1 .1 .1 .1 .1 .0) (y100 .1 .1 .0) (y100 .1 .0) (y100 .0))))))))) ∷ Dead l0 l1 l2 l3 l4 l5 l6 l7 l8 l9 l10 l11 l12 l13 l14 l15 l16 l17 l18 l19 l20 l21 l22 l23 l24 l25 l26 l27 l28 l29 l30 l31 l32 l33 ∷ ‵ (froom τ0 l0 0) ∷ ‵ (fat fullShare τ1 l1 0 (fatVal table-at)) ∷ ‵ (fat fullShare τ2 l2 0 (fatVal words-at)) ∷ ‵ (fat fullShare τ3 l3 0 (vint w64 count₀)) ∷ ‵ (fat fullShare τ4 l4 0 (fatVal source-at)) ∷ ‵ (fat fullShare τ5 l5 0 (fatVal tape-at)) ∷ ‵ (fat fullShare τ6 l6 0 (vint w64 from₀)) ∷ ‵ (fat fullShare τ7 l7 0 (vint w64 to₀)) ∷ ‵ (fat fullShare τ8 l8 0 (vint w64 depth₀)) ∷ ‵ (fat fullShare τ9 l9 0 (LL.val Around-T.the-type Around-L.the-laws around₀)) ∷ ‵ (fat fullShare τ10 l10 0 (ptrVal rec-at)) ∷ ‵ (fat fullShare τ11 l11 0 (fatVal seen-at)) ∷ ‵ (fat fullShare τ12 l12 0 (fatVal opens-at)) ∷ ‵ (fat fullShare τ13 l13 0 (fatVal list-at)) ∷ ‵ (fat fullShare τ14 l14 0 (EL.val Attached-T.the-type Attached-L.the-laws (y100 .1 .0))) ∷ ‵ (fat fullShare τ15 l15 0 (vint w64 (y100 .0))) ∷ ‵ (froom τ16 l16 0) ∷ ‵ (froom τ17 l17 0) ∷ ‵ (froom τ18 l18 0) ∷ ‵ (froom τ19 l19 0) ∷ ‵ (froom τ20 l20 0) ∷ ‵ (froom τ21 l21 0) ∷ ‵ (froom τ22 l22 0) ∷ ‵ (froom τ23 l23 0) ∷ ‵ (froom τ24 l24 0) ∷ ‵ (froom τ25 l25 0) ∷ ‵ (froom τ26 l26 0) ∷ ‵ (froom τ27 l27 0) ∷ ‵ (froom τ28 l28 0) ∷ ‵ (froom τ29 l29 0) ∷ ‵ (froom τ30 l30 0) ∷ ‵ (froom τ31 l31 0) ∷ ‵ (froom τ32 l32 0) ∷ ‵ (froom τ33 l33 0) ∷ ‵ (HasShr u8 table-at table₀) ∷ ‵ (HasShr u64 words-at words₀) ∷ ‵ (HasShr u8 source-at source₀) ∷ ‵ (HasShr u8 tape-at tape₀) ∷ ‵ (HasRef Record-T.the-row rec-at (y100 .1 .1 .0)) ∷ ‵ (HasMut u32 seen-at (y100 .1 .1 .1 .0)) ∷ ‵ (HasMut OpenStart-T.the-row opens-at (y100 .1 .1 .1 .1 .0)) ∷ ‵ (HasMut u64 list-at (y100 .1 .1 .1 .1 .1 .0)) ∷ []) y100 (z-past-node .0, (z-visit-leaf .0, ((z-visit .1 .0), ((z-visit .1 .1 .0), ((z-visit .1 .1 .1 .0), ((z-visit .1 .1 .1 .1 .0), tt)))))) (going-nearer inv-100 test-0 _ says-past-node))
+              forget ! 25 refl $ forget ! 26 refl $ forget ! 28 refl $ forget ! 29 refl $ forget ! 30 refl $ forget ! 31 refl $ forget ! 32 refl $ forget ! 33 refl $ forget ! 34 refl $ forget ! 35 refl $ forget ! 36 refl $ forget ! 37 refl $ forget ! 38 refl $ forget ! 39 refl $ forget ! 40 refl $ forget ! 41 refl $ forget ! 42 refl $ use0 W (raw (fact 𝓤 (((z-past-node .0) < 2 ^ 64) × ((Is Attached-T.the-row (z-visit-leaf .0) (LL.val Attached-T.the-type Attached-L.the-laws (z-visit-leaf .0) ∷ [])) × ((length (z-visit .1 .1 .0) ≡ length seen₀) × ((length (z-visit .1 .1 .1 .0) ≡ length opens₀) × ((length (z-visit .1 .1 .1 .1 .0) ≡ length list₀) × ((Going table₀ words₀ count₀ source₀ tape₀ depth₀ (aroundOf around₀) from₀ to₀ (walkAt table₀ source₀ tape₀ (aroundOf around₀) from₀ to₀ seen₀ opens₀ rec₀) list₀ rec₀ (z-visit .1 .1 .0) (z-visit .1 .1 .1 .0) (z-visit .1 .1 .1 .1 .0) (z-visit .1 .0) (z-visit-leaf .0) (z-past-node .0)))))))))) (factI 𝓤 (((z-past-node .0) < 2 ^ 64) × ((Is Attached-T.the-row (z-visit-leaf .0) (LL.val Attached-T.the-type Attached-L.the-laws (z-visit-leaf .0) ∷ [])) × ((length (z-visit .1 .1 .0) ≡ length seen₀) × ((length (z-visit .1 .1 .1 .0) ≡ length opens₀) × ((length (z-visit .1 .1 .1 .1 .0) ≡ length list₀) × ((Going table₀ words₀ count₀ source₀ tape₀ depth₀ (aroundOf around₀) from₀ to₀ (walkAt table₀ source₀ tape₀ (aroundOf around₀) from₀ to₀ seen₀ opens₀ rec₀) list₀ rec₀ (z-visit .1 .1 .0) (z-visit .1 .1 .1 .0) (z-visit .1 .1 .1 .1 .0) (z-visit .1 .0) (z-visit-leaf .0) (z-past-node .0)))))))) (emp 𝓤) (((s-past-node .0) .1), ((s-visit-leaf .0), ((len-visit-seen ∙ (len-visit-leaf-seen ∙ len-sn-100)), ((len-visit-opens ∙ len-ys-100), ((len-visit-list ∙ (len-visit-leaf-list ∙ len-l-100)), (going-visited inv-100 test-0 _ says-past-node _ _ _ _ len-visit-leaf-seen says-visit-leaf _ says-marker _ told-1 _ _ _ _ len-visit-seen len-visit-opens says-visit))))))) $
+              keep ! (0 ∷ 9 ∷ 10 ∷ 11 ∷ 12 ∷ 13 ∷ 14 ∷ 15 ∷ 16 ∷ 17 ∷ 18 ∷ 19 ∷ 20 ∷ 21 ∷ 22 ∷ 23 ∷ 24 ∷ 25 ∷ 26 ∷ 27 ∷ 28 ∷ 29 ∷ 30 ∷ 31 ∷ 32 ∷ 33 ∷ 34 ∷ 35 ∷ 36 ∷ 37 ∷ 38 ∷ 39 ∷ 40 ∷ 41 ∷ 42 ∷ 43 ∷ 1 ∷ 2 ∷ 3 ∷ 4 ∷ 5 ∷ 6 ∷ 7 ∷ 8 ∷ []) $ again ! (λ (a b : ℕ × (Attached × (Record × ((List ℕ) × ((List OpenStart) × ((List ℕ) × Unit {0})))))). μ-loop-0 a < μ-loop-0 b) (λ (y100 : ℕ × (Attached × (Record × ((List ℕ) × ((List OpenStart) × ((List ℕ) × Unit {0})))))). raw (fact 𝓤 (((y100 .0) < 2 ^ 64) × ((Is Attached-T.the-row (y100 .1 .0) (LL.val Attached-T.the-type Attached-L.the-laws (y100 .1 .0) ∷ [])) × ((length (y100 .1 .1 .1 .0) ≡ length seen₀) × ((length (y100 .1 .1 .1 .1 .0) ≡ length opens₀) × ((length (y100 .1 .1 .1 .1 .1 .0) ≡ length list₀) × ((Going table₀ words₀ count₀ source₀ tape₀ depth₀ (aroundOf around₀) from₀ to₀ (walkAt table₀ source₀ tape₀ (aroundOf around₀) from₀ to₀ seen₀ opens₀ rec₀) list₀ rec₀ (y100 .1 .1 .1 .0) (y100 .1 .1 .1 .1 .0) (y100 .1 .1 .1 .1 .1 .0) (y100 .1 .1 .0) (y100 .1 .0) (y100 .0))))))))) ∷ Dead l0 l1 l2 l3 l4 l5 l6 l7 l8 l9 l10 l11 l12 l13 l14 l15 l16 l17 l18 l19 l20 l21 l22 l23 l24 l25 l26 l27 l28 l29 l30 l31 l32 l33 ∷ ‵ (froom τ0 l0 0) ∷ ‵ (fat fullShare τ1 l1 0 (fatVal table-at)) ∷ ‵ (fat fullShare τ2 l2 0 (fatVal words-at)) ∷ ‵ (fat fullShare τ3 l3 0 (vint w64 count₀)) ∷ ‵ (fat fullShare τ4 l4 0 (fatVal source-at)) ∷ ‵ (fat fullShare τ5 l5 0 (fatVal tape-at)) ∷ ‵ (fat fullShare τ6 l6 0 (vint w64 from₀)) ∷ ‵ (fat fullShare τ7 l7 0 (vint w64 to₀)) ∷ ‵ (fat fullShare τ8 l8 0 (vint w64 depth₀)) ∷ ‵ (fat fullShare τ9 l9 0 (LL.val Around-T.the-type Around-L.the-laws around₀)) ∷ ‵ (fat fullShare τ10 l10 0 (ptrVal rec-at)) ∷ ‵ (fat fullShare τ11 l11 0 (fatVal seen-at)) ∷ ‵ (fat fullShare τ12 l12 0 (fatVal opens-at)) ∷ ‵ (fat fullShare τ13 l13 0 (fatVal list-at)) ∷ ‵ (fat fullShare τ14 l14 0 (LL.val Attached-T.the-type Attached-L.the-laws (y100 .1 .0))) ∷ ‵ (fat fullShare τ15 l15 0 (vint w64 (y100 .0))) ∷ ‵ (froom τ16 l16 0) ∷ ‵ (froom τ17 l17 0) ∷ ‵ (froom τ18 l18 0) ∷ ‵ (froom τ19 l19 0) ∷ ‵ (froom τ20 l20 0) ∷ ‵ (froom τ21 l21 0) ∷ ‵ (froom τ22 l22 0) ∷ ‵ (froom τ23 l23 0) ∷ ‵ (froom τ24 l24 0) ∷ ‵ (froom τ25 l25 0) ∷ ‵ (froom τ26 l26 0) ∷ ‵ (froom τ27 l27 0) ∷ ‵ (froom τ28 l28 0) ∷ ‵ (froom τ29 l29 0) ∷ ‵ (froom τ30 l30 0) ∷ ‵ (froom τ31 l31 0) ∷ ‵ (froom τ32 l32 0) ∷ ‵ (froom τ33 l33 0) ∷ ‵ (HasShr u8 table-at table₀) ∷ ‵ (HasShr u64 words-at words₀) ∷ ‵ (HasShr u8 source-at source₀) ∷ ‵ (HasShr u8 tape-at tape₀) ∷ ‵ (HasRef Record-T.the-row rec-at (y100 .1 .1 .0)) ∷ ‵ (HasMut u32 seen-at (y100 .1 .1 .1 .0)) ∷ ‵ (HasMut OpenStart-T.the-row opens-at (y100 .1 .1 .1 .1 .0)) ∷ ‵ (HasMut u64 list-at (y100 .1 .1 .1 .1 .1 .0)) ∷ []) y100 (z-past-node .0, (z-visit-leaf .0, ((z-visit .1 .0), ((z-visit .1 .1 .0), ((z-visit .1 .1 .1 .0), ((z-visit .1 .1 .1 .1 .0), tt)))))) (going-nearer inv-100 test-0 _ says-past-node))
           | inr y1 ↦ rewrite ! 33 (λ (u : Info). ‵ (fat fullShare τ25 l25 0 (EL.val Info-T.the-type Info-L.the-laws u))) (y1) refl $
               let told-1 : z-marker .0 ≡ Info-V.Missing = y1 in
               let is-1-1 : Is Info-T.the-row Info-V.Missing (EL.val Info-T.the-type Info-L.the-laws Info-V.Missing ∷ []) = subst (λ (u : Info). Is Info-T.the-row u (EL.val Info-T.the-type Info-L.the-laws u ∷ [])) (y1) (s-marker .0) in
               switch-then ! (load ! (from ! (vrt ! refl (fld ! refl (stop !)))) (look-tag ! 33 (whole !))) tt $
-              exit-then ! $ forget ! 24 refl $ forget ! 27 refl $ forget ! 28 refl $ forget ! 29 refl $ forget ! 30 refl $ forget ! 31 refl $ forget ! 32 refl $ forget ! 33 refl $ use0 W (raw (fact 𝓤 (((z-past-node .0) < 2 ^ 64) × ((Is Attached-T.the-row (z-visit-leaf .0) (EL.val Attached-T.the-type Attached-L.the-laws (z-visit-leaf .0) ∷ [])) × ((length (z-visit-leaf .1 .1 .0) ≡ length seen₀) × ((length (y100 .1 .1 .1 .1 .0) ≡ length opens₀) × ((length (z-visit-leaf .1 .1 .1 .0) ≡ length list₀) × ((Going table₀ words₀ count₀ source₀ tape₀ depth₀ (aroundOf around₀) from₀ to₀ (walkAt table₀ source₀ tape₀ (aroundOf around₀) from₀ to₀ seen₀ opens₀ rec₀) list₀ rec₀ (z-visit-leaf .1 .1 .0) (y100 .1 .1 .1 .1 .0) (z-visit-leaf .1 .1 .1 .0) (z-visit-leaf .1 .0) (z-visit-leaf .0) (z-past-node .0)))))))))) (factI 𝓤 (((z-past-node .0) < 2 ^ 64) × ((Is Attached-T.the-row (z-visit-leaf .0) (EL.val Attached-T.the-type Attached-L.the-laws (z-visit-leaf .0) ∷ [])) × ((length (z-visit-leaf .1 .1 .0) ≡ length seen₀) × ((length (y100 .1 .1 .1 .1 .0) ≡ length opens₀) × ((length (z-visit-leaf .1 .1 .1 .0) ≡ length list₀) × ((Going table₀ words₀ count₀ source₀ tape₀ depth₀ (aroundOf around₀) from₀ to₀ (walkAt table₀ source₀ tape₀ (aroundOf around₀) from₀ to₀ seen₀ opens₀ rec₀) list₀ rec₀ (z-visit-leaf .1 .1 .0) (y100 .1 .1 .1 .1 .0) (z-visit-leaf .1 .1 .1 .0) (z-visit-leaf .1 .0) (z-visit-leaf .0) (z-past-node .0)))))))) (emp 𝓤) (((s-past-node .0) .1), ((s-visit-leaf .0), ((len-visit-leaf-seen ∙ len-sn-100), (len-ys-100, ((len-visit-leaf-list ∙ len-l-100), (going-past inv-100 test-0 _ says-past-node _ _ _ _ len-visit-leaf-seen says-visit-leaf _ says-marker told-1))))))) $
-              keep ! (0 ∷ 8 ∷ 9 ∷ 10 ∷ 11 ∷ 12 ∷ 13 ∷ 14 ∷ 15 ∷ 16 ∷ 17 ∷ 18 ∷ 19 ∷ 20 ∷ 21 ∷ 22 ∷ 23 ∷ 24 ∷ 25 ∷ 26 ∷ 27 ∷ 28 ∷ 29 ∷ 30 ∷ 31 ∷ 32 ∷ 33 ∷ 34 ∷ 35 ∷ 36 ∷ 37 ∷ 38 ∷ 39 ∷ 40 ∷ 41 ∷ 42 ∷ 1 ∷ 2 ∷ 4 ∷ 3 ∷ 5 ∷ 6 ∷ 43 ∷ 7 ∷ []) $ again ! (λ (a b : ℕ × (Attached × (Record × ((List ℕ) × ((List OpenStart) × ((List ℕ) × Unit {0})))))). μ-loop-0 a < μ-loop-0 b) (λ (y100 : ℕ × (Attached × (Record × ((List ℕ) × ((List OpenStart) × ((List ℕ) × Unit {0})))))). raw (fact 𝓤 (((y100 .0) < 2 ^ 64) × ((Is Attached-T.the-row (y100 .1 .0) (EL.val Attached-T.the-type Attached-L.the-laws (y100 .1 .0) ∷ [])) × ((length (y100 .1 .1 .1 .0) ≡ length seen₀) × ((length (y100 .1 .1 .1 .1 .0) ≡ length opens₀) × ((length (y100 .1 .1 .1 .1 .1 .0) ≡ length list₀) × ((Going table₀ words₀ count₀ source₀ tape₀ depth₀ (aroundOf around₀) from₀ to₀ (walkAt table₀ source₀ tape₀ (aroundOf around₀) from₀ to₀ seen₀ opens₀ rec₀) list₀ rec₀ (y100 .1 .1 .1 .0) (y100 .1 .1 .1 .1 .0) (y100 .1 .1 .1 .1 .1 .0) (y100 .1 .1 .0) (y100 .1 .0) (y100 .0))))))))) ∷ Dead l0 l1 l2 l3 l4 l5 l6 l7 l8 l9 l10 l11 l12 l13 l14 l15 l16 l17 l18 l19 l20 l21 l22 l23 l24 l25 l26 l27 l28 l29 l30 l31 l32 l33 ∷ ‵ (froom τ0 l0 0) ∷ ‵ (fat fullShare τ1 l1 0 (fatVal table-at)) ∷ ‵ (fat fullShare τ2 l2 0 (fatVal words-at)) ∷ ‵ (fat fullShare τ3 l3 0 (vint w64 count₀)) ∷ ‵ (fat fullShare τ4 l4 0 (fatVal source-at)) ∷ ‵ (fat fullShare τ5 l5 0 (fatVal tape-at)) ∷ ‵ (fat fullShare τ6 l6 0 (vint w64 from₀)) ∷ ‵ (fat fullShare τ7 l7 0 (vint w64 to₀)) ∷ ‵ (fat fullShare τ8 l8 0 (vint w64 depth₀)) ∷ ‵ (fat fullShare τ9 l9 0 (LL.val Around-T.the-type Around-L.the-laws around₀)) ∷ ‵ (fat fullShare τ10 l10 0 (ptrVal rec-at)) ∷ ‵ (fat fullShare τ11 l11 0 (fatVal seen-at)) ∷ ‵ (fat fullShare τ12 l12 0 (fatVal opens-at)) ∷ ‵ (fat fullShare τ13 l13 0 (fatVal list-at)) ∷ ‵ (fat fullShare τ14 l14 0 (EL.val Attached-T.the-type Attached-L.the-laws (y100 .1 .0))) ∷ ‵ (fat fullShare τ15 l15 0 (vint w64 (y100 .0))) ∷ ‵ (froom τ16 l16 0) ∷ ‵ (froom τ17 l17 0) ∷ ‵ (froom τ18 l18 0) ∷ ‵ (froom τ19 l19 0) ∷ ‵ (froom τ20 l20 0) ∷ ‵ (froom τ21 l21 0) ∷ ‵ (froom τ22 l22 0) ∷ ‵ (froom τ23 l23 0) ∷ ‵ (froom τ24 l24 0) ∷ ‵ (froom τ25 l25 0) ∷ ‵ (froom τ26 l26 0) ∷ ‵ (froom τ27 l27 0) ∷ ‵ (froom τ28 l28 0) ∷ ‵ (froom τ29 l29 0) ∷ ‵ (froom τ30 l30 0) ∷ ‵ (froom τ31 l31 0) ∷ ‵ (froom τ32 l32 0) ∷ ‵ (froom τ33 l33 0) ∷ ‵ (HasShr u8 table-at table₀) ∷ ‵ (HasShr u64 words-at words₀) ∷ ‵ (HasShr u8 source-at source₀) ∷ ‵ (HasShr u8 tape-at tape₀) ∷ ‵ (HasRef Record-T.the-row rec-at (y100 .1 .1 .0)) ∷ ‵ (HasMut u32 seen-at (y100 .1 .1 .1 .0)) ∷ ‵ (HasMut OpenStart-T.the-row opens-at (y100 .1 .1 .1 .1 .0)) ∷ ‵ (HasMut u64 list-at (y100 .1 .1 .1 .1 .1 .0)) ∷ []) y100 (z-past-node .0, (z-visit-leaf .0, ((z-visit-leaf .1 .0), ((z-visit-leaf .1 .1 .0), ((y100 .1 .1 .1 .1 .0), ((z-visit-leaf .1 .1 .1 .0), tt)))))) (going-nearer inv-100 test-0 _ says-past-node)
+              exit-then ! $ forget ! 24 refl $ forget ! 27 refl $ forget ! 28 refl $ forget ! 29 refl $ forget ! 30 refl $ forget ! 31 refl $ forget ! 32 refl $ forget ! 33 refl $ use0 W (raw (fact 𝓤 (((z-past-node .0) < 2 ^ 64) × ((Is Attached-T.the-row (z-visit-leaf .0) (LL.val Attached-T.the-type Attached-L.the-laws (z-visit-leaf .0) ∷ [])) × ((length (z-visit-leaf .1 .1 .0) ≡ length seen₀) × ((length (y100 .1 .1 .1 .1 .0) ≡ length opens₀) × ((length (z-visit-leaf .1 .1 .1 .0) ≡ length list₀) × ((Going table₀ words₀ count₀ source₀ tape₀ depth₀ (aroundOf around₀) from₀ to₀ (walkAt table₀ source₀ tape₀ (aroundOf around₀) from₀ to₀ seen₀ opens₀ rec₀) list₀ rec₀ (z-visit-leaf .1 .1 .0) (y100 .1 .1 .1 .1 .0) (z-visit-leaf .1 .1 .1 .0) (z-visit-leaf .1 .0) (z-visit-leaf .0) (z-past-node .0)))))))))) (factI 𝓤 (((z-past-node .0) < 2 ^ 64) × ((Is Attached-T.the-row (z-visit-leaf .0) (LL.val Attached-T.the-type Attached-L.the-laws (z-visit-leaf .0) ∷ [])) × ((length (z-visit-leaf .1 .1 .0) ≡ length seen₀) × ((length (y100 .1 .1 .1 .1 .0) ≡ length opens₀) × ((length (z-visit-leaf .1 .1 .1 .0) ≡ length list₀) × ((Going table₀ words₀ count₀ source₀ tape₀ depth₀ (aroundOf around₀) from₀ to₀ (walkAt table₀ source₀ tape₀ (aroundOf around₀) from₀ to₀ seen₀ opens₀ rec₀) list₀ rec₀ (z-visit-leaf .1 .1 .0) (y100 .1 .1 .1 .1 .0) (z-visit-leaf .1 .1 .1 .0) (z-visit-leaf .1 .0) (z-visit-leaf .0) (z-past-node .0)))))))) (emp 𝓤) (((s-past-node .0) .1), ((s-visit-leaf .0), ((len-visit-leaf-seen ∙ len-sn-100), (len-ys-100, ((len-visit-leaf-list ∙ len-l-100), (going-past inv-100 test-0 _ says-past-node _ _ _ _ len-visit-leaf-seen says-visit-leaf _ says-marker told-1))))))) $
+              keep ! (0 ∷ 8 ∷ 9 ∷ 10 ∷ 11 ∷ 12 ∷ 13 ∷ 14 ∷ 15 ∷ 16 ∷ 17 ∷ 18 ∷ 19 ∷ 20 ∷ 21 ∷ 22 ∷ 23 ∷ 24 ∷ 25 ∷ 26 ∷ 27 ∷ 28 ∷ 29 ∷ 30 ∷ 31 ∷ 32 ∷ 33 ∷ 34 ∷ 35 ∷ 36 ∷ 37 ∷ 38 ∷ 39 ∷ 40 ∷ 41 ∷ 42 ∷ 1 ∷ 2 ∷ 4 ∷ 3 ∷ 5 ∷ 6 ∷ 43 ∷ 7 ∷ []) $ again ! (λ (a b : ℕ × (Attached × (Record × ((List ℕ) × ((List OpenStart) × ((List ℕ) × Unit {0})))))). μ-loop-0 a < μ-loop-0 b) (λ (y100 : ℕ × (Attached × (Record × ((List ℕ) × ((List OpenStart) × ((List ℕ) × Unit {0})))))). raw (fact 𝓤 (((y100 .0) < 2 ^ 64) × ((Is Attached-T.the-row (y100 .1 .0) (LL.val Attached-T.the-type Attached-L.the-laws (y100 .1 .0) ∷ [])) × ((length (y100 .1 .1 .1 .0) ≡ length seen₀) × ((length (y100 .1 .1 .1 .1 .0) ≡ length opens₀) × ((length (y100 .1 .1 .1 .1 .1 .0) ≡ length list₀) × ((Going table₀ words₀ count₀ source₀ tape₀ depth₀ (aroundOf around₀) from₀ to₀ (walkAt table₀ source₀ tape₀ (aroundOf around₀) from₀ to₀ seen₀ opens₀ rec₀) list₀ rec₀ (y100 .1 .1 .1 .0) (y100 .1 .1 .1 .1 .0) (y100 .1 .1 .1 .1 .1 .0) (y100 .1 .1 .0) (y100 .1 .0) (y100 .0))))))))) ∷ Dead l0 l1 l2 l3 l4 l5 l6 l7 l8 l9 l10 l11 l12 l13 l14 l15 l16 l17 l18 l19 l20 l21 l22 l23 l24 l25 l26 l27 l28 l29 l30 l31 l32 l33 ∷ ‵ (froom τ0 l0 0) ∷ ‵ (fat fullShare τ1 l1 0 (fatVal table-at)) ∷ ‵ (fat fullShare τ2 l2 0 (fatVal words-at)) ∷ ‵ (fat fullShare τ3 l3 0 (vint w64 count₀)) ∷ ‵ (fat fullShare τ4 l4 0 (fatVal source-at)) ∷ ‵ (fat fullShare τ5 l5 0 (fatVal tape-at)) ∷ ‵ (fat fullShare τ6 l6 0 (vint w64 from₀)) ∷ ‵ (fat fullShare τ7 l7 0 (vint w64 to₀)) ∷ ‵ (fat fullShare τ8 l8 0 (vint w64 depth₀)) ∷ ‵ (fat fullShare τ9 l9 0 (LL.val Around-T.the-type Around-L.the-laws around₀)) ∷ ‵ (fat fullShare τ10 l10 0 (ptrVal rec-at)) ∷ ‵ (fat fullShare τ11 l11 0 (fatVal seen-at)) ∷ ‵ (fat fullShare τ12 l12 0 (fatVal opens-at)) ∷ ‵ (fat fullShare τ13 l13 0 (fatVal list-at)) ∷ ‵ (fat fullShare τ14 l14 0 (LL.val Attached-T.the-type Attached-L.the-laws (y100 .1 .0))) ∷ ‵ (fat fullShare τ15 l15 0 (vint w64 (y100 .0))) ∷ ‵ (froom τ16 l16 0) ∷ ‵ (froom τ17 l17 0) ∷ ‵ (froom τ18 l18 0) ∷ ‵ (froom τ19 l19 0) ∷ ‵ (froom τ20 l20 0) ∷ ‵ (froom τ21 l21 0) ∷ ‵ (froom τ22 l22 0) ∷ ‵ (froom τ23 l23 0) ∷ ‵ (froom τ24 l24 0) ∷ ‵ (froom τ25 l25 0) ∷ ‵ (froom τ26 l26 0) ∷ ‵ (froom τ27 l27 0) ∷ ‵ (froom τ28 l28 0) ∷ ‵ (froom τ29 l29 0) ∷ ‵ (froom τ30 l30 0) ∷ ‵ (froom τ31 l31 0) ∷ ‵ (froom τ32 l32 0) ∷ ‵ (froom τ33 l33 0) ∷ ‵ (HasShr u8 table-at table₀) ∷ ‵ (HasShr u64 words-at words₀) ∷ ‵ (HasShr u8 source-at source₀) ∷ ‵ (HasShr u8 tape-at tape₀) ∷ ‵ (HasRef Record-T.the-row rec-at (y100 .1 .1 .0)) ∷ ‵ (HasMut u32 seen-at (y100 .1 .1 .1 .0)) ∷ ‵ (HasMut OpenStart-T.the-row opens-at (y100 .1 .1 .1 .1 .0)) ∷ ‵ (HasMut u64 list-at (y100 .1 .1 .1 .1 .1 .0)) ∷ []) y100 (z-past-node .0, (z-visit-leaf .0, ((z-visit-leaf .1 .0), ((z-visit-leaf .1 .1 .0), ((y100 .1 .1 .1 .1 .0), ((z-visit-leaf .1 .1 .1 .0), tt)))))) (going-nearer inv-100 test-0 _ says-past-node)
         ]))))
         (λ h0. let test-0 : to₀ ≤ (y100 .0) = nltb→le (y100 .0) to₀ h0 in
         exit-then ! $ leave-0 _ $
@@ -341,6 +340,6 @@ module _ {M : Type 1} (𝓤 : URA M) (H : Heap 𝓤) (A : Atoms 𝓤) (W : Given
         anchored-C.calls-anchored ! at-mem run fm source-at source₀ tape-at tape₀ depth₀ (rec₀ .anchor) from₀ to₀ depth₀-is ((LL.lawful Record-T.the-type Record-L.the-laws 𝓤 H A W .typed rec₀ _ open-1 .0) .1 .1 .1 .1 .1 .1 .1 .1 .1 .1 .1 .0 .fits) from₀-is to₀-is req-anchored (known-anchored (anchored-C.to 𝓤 H A at-mem run source-at source₀ tape-at tape₀ depth₀ (rec₀ .anchor) from₀ to₀ source-at tape-at))
         (and-then ! (load ! (from ! (stop !)) (look ! 7 refl)) (and-then ! (load ! (from ! (stop !)) (look ! 8 refl)) (and-then ! (load ! (from ! (stop !)) (look ! 11 refl)) (and-then ! (load ! (from ! (stop !)) (look ! 21 refl)) (and-then ! (load ! (from ! (stop !)) (look ! 9 refl)) (and-then ! (load ! (from ! (stop !)) (look ! 10 refl)) (no-more !))))))) (λ z-anchored s-anchored.
         let says-anchored : startsOf (z-anchored .0) ≡ startsFor (anchorOf source₀ tape₀ (rec₀ .anchor) from₀) (forest source₀ tape₀ from₀ to₀) = s-anchored .1 in
-        land ! (from ! (stop !)) (init ! 18 refl (EL.lawful Attached-T.the-type Attached-L.the-laws 𝓤 H A W tt .typed (z-anchored .0) _ (s-anchored .0) .0)) $
-        forget ! 22 refl $ use0 W (raw (fact 𝓤 ((Is Attached-T.the-row (z-anchored .0) (EL.val Attached-T.the-type Attached-L.the-laws (z-anchored .0) ∷ [])) × ((startsOf (z-anchored .0) ≡ startsFor (anchorOf source₀ tape₀ (rec₀ .anchor) from₀) (forest source₀ tape₀ from₀ to₀)))))) (factI 𝓤 ((Is Attached-T.the-row (z-anchored .0) (EL.val Attached-T.the-type Attached-L.the-laws (z-anchored .0) ∷ [])) × ((startsOf (z-anchored .0) ≡ startsFor (anchorOf source₀ tape₀ (rec₀ .anchor) from₀) (forest source₀ tape₀ from₀ to₀)))) (emp 𝓤) ((s-anchored .0), says-anchored)) $
+        land ! (from ! (stop !)) (init ! 18 refl (LL.lawful Attached-T.the-type Attached-L.the-laws 𝓤 H A W .typed (z-anchored .0) _ (s-anchored .0) .0)) $
+        forget ! 22 refl $ use0 W (raw (fact 𝓤 ((Is Attached-T.the-row (z-anchored .0) (LL.val Attached-T.the-type Attached-L.the-laws (z-anchored .0) ∷ [])) × ((startsOf (z-anchored .0) ≡ startsFor (anchorOf source₀ tape₀ (rec₀ .anchor) from₀) (forest source₀ tape₀ from₀ to₀)))))) (factI 𝓤 ((Is Attached-T.the-row (z-anchored .0) (LL.val Attached-T.the-type Attached-L.the-laws (z-anchored .0) ∷ [])) × ((startsOf (z-anchored .0) ≡ startsFor (anchorOf source₀ tape₀ (rec₀ .anchor) from₀) (forest source₀ tape₀ from₀ to₀)))) (emp 𝓤) ((s-anchored .0), says-anchored)) $
         keep ! (0 ∷ 4 ∷ 5 ∷ 6 ∷ 7 ∷ 8 ∷ 9 ∷ 10 ∷ 11 ∷ 12 ∷ 13 ∷ 14 ∷ 15 ∷ 16 ∷ 17 ∷ 18 ∷ 19 ∷ 20 ∷ 21 ∷ 22 ∷ 23 ∷ 24 ∷ 25 ∷ 26 ∷ 27 ∷ 28 ∷ 29 ∷ 30 ∷ 31 ∷ 32 ∷ 33 ∷ 34 ∷ 35 ∷ 36 ∷ 37 ∷ 38 ∷ 39 ∷ 40 ∷ 1 ∷ 2 ∷ 3 ∷ 41 ∷ 42 ∷ 43 ∷ []) $ cut-3 l0 l1 l2 l3 l4 l5 l6 l7 l8 l9 l10 l11 l12 l13 l14 l15 l16 l17 l18 l19 l20 l21 l22 l23 l24 l25 l26 l27 l28 l29 l30 l31 l32 l33 (z-anchored .0, tt))))))))))))))))))))))))))))))))))))))
