@@ -296,8 +296,8 @@ class Fn:
 
 class Crate:
 
-    def __init__(s, root, name, types=(), calls=(), hand=None):
-        """types: 'crate::Type' of other crates; calls: 'crate::fn' of other crates; hand: the crate that has Flow and Hand, else this one"""
+    def __init__(s, root, name, types=(), calls=(), hand=None, shared=None):
+        """types: 'crate::Type' of other crates; calls: 'crate::fn' of other crates; hand: the crate that has Flow and Hand, else this one; shared: {'f': 'crate'}, the rules that another crate has written"""
         s.root = root
         s.name = name
         s.dir = '%s/crates/%s' % (root, name)
@@ -305,6 +305,7 @@ class Crate:
         s.fns = {}
         s.ext = {}
         s.hand = hand or name
+        s.shared = shared or {}
         wanted = {}
         for t in types:
             wanted.setdefault(t.split('::')[0], set()).add(t.split('::')[1])
@@ -563,6 +564,10 @@ class Crate:
                 lib += line
         with open(path, 'w') as f:
             f.write(lib)
+
+    def rule(s, name):
+        at = 'Rattle.%s.proofs' % s.shared[name] if name in s.shared else 'Rattle.%s.proofs' % s.name
+        return '%s.Call%s' % (at, camel(name))
 
     def call_file(s, name, uses=()):
         f = s.by_name(name)
@@ -1943,7 +1948,7 @@ class Walk:
             gf_ = c.by_name(g)
             gm = c.mod(gf_)
             gk = dash(g)
-            us += ['use Rattle.%s.proofs.Call%s as %s-C' % (c.name, camel(g), gk), 'use %s.%s.{name as %s}' % (gm, 'Key' if s.cycle and g in s.cycle['members'] else 'Symbol', c.key(gf_))]
+            us += ['use %s as %s-C' % (c.rule(g), gk), 'use %s.%s.{name as %s}' % (gm, 'Key' if s.cycle and g in s.cycle['members'] else 'Symbol', c.key(gf_))]
         us += ['use %s as mir-of' % (codem + ('.' + s.name if s.cycle else '.Mir')), 'use types.Kit.{Sq}', 'use mathlib.Core.List.{_++_}', 'use lib.ListN.{take, drop as skip}', 'use lib.Seq.{length-take-le}', 'use %s.{part, KeptPart, lend-part, back-part, part-length, room-le}' % c.law('Hand'), 'use %s.{ne-of, is-true, is-false, Dies}' % c.law('Flow'), 'use denote.Index.{place}', 'use lib.Dec.{nleb→lt}'] + s.desc.get('uses', [])
         if any((s.locals[i] for i in range(s.n))) and s.desc.get('local'):
             us.append('use %s.{local, KeptLocal, lend-local, back-local}' % c.law('Hand'))
@@ -2251,7 +2256,7 @@ def write_cycle(cr, measures, descs):
     for g in outs:
         gm = cr.mod(cr.by_name(g))
         gk = dash(g)
-        us += ['use Rattle.%s.proofs.Call%s as %s-C' % (c, camel(g), gk), 'use %s.Symbol as %s-def' % (gm, gk), 'use %s.Symbol.{name as %s}' % (gm, cr.key(cr.by_name(g))), 'use %s.Met as %s-thm' % (gm, gk)]
+        us += ['use %s as %s-C' % (cr.rule(g), gk), 'use %s.Symbol as %s-def' % (gm, gk), 'use %s.Symbol.{name as %s}' % (gm, cr.key(cr.by_name(g))), 'use %s.Met as %s-thm' % (gm, gk)]
     for m in ms:
         us += descs[m].get('uses', [])
     us = list(dict.fromkeys(us))

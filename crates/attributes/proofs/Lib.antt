@@ -5,3 +5,4 @@ pub mod Bars
 pub mod Turns
 pub mod Whole
 pub mod Few
+pub mod Keys

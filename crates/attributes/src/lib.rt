@@ -63,13 +63,18 @@ fn ends_key(cp: u32) -> bool
     if cp == 0x3D { true } else { text::is_blank(cp) }
 }
 
-// The place of the first `=` or blank from a place on, or the length.
+// The place of the first `=` or blank from a place on, or the length. Most bytes of a key are small letters, which need no
+// decoding.
 fn key_end(s: &[u8], from: usize) -> usize
     requires { ⌜ from ≤ length (now s) ⌝ }
     ensures { λ r. ⌜ Ended (now (s .entry)) from (find endsKey (drop from (now (s .entry)))) r ⌝ }
 {
     let mut i = from;
     while i < s.len() {
+        if text::holds(s[i], b'a', b'z') {
+            i += 1;
+            continue;
+        }
         let d = text::decode_at(s, i);
         if ends_key(d.cp) {
             return i;

@@ -6,4 +6,3 @@ pub mod CallPutRecord
 pub mod CallReadRecords
 pub mod CallWriteRecords
 pub mod CallCheckWith
-pub mod CallCheck

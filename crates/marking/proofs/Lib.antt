@@ -3,9 +3,7 @@ pub mod Ending
 pub mod Whole
 pub mod Lists
 pub mod Course
-pub mod CallLinkAt
 pub mod CallBegun
-pub mod CallWalk
 pub mod CallUnclosed
 pub mod CallEnded
 pub mod CallRun
@@ -17,3 +15,4 @@ pub mod Through
 pub mod CallTableGate
 pub mod CallChecked
 pub mod CallPassed
+pub mod CallCheck

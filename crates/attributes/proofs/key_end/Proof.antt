@@ -1,6 +1,6 @@
 -- `attributes::key_end` meets its contract.
 -- Assumes nothing.
-use Prim.Native.Nat.{_≤_, _-_, _+_}
+use Prim.Native.Nat.{_<_, _≤_, _-_, _+_}
 use borrow.Author.Needs.{needs}
 use denote.Ref.{now}
 use lib.ListN.{length, drop}
@@ -10,6 +10,7 @@ use Rattle.attributes.specs.Inner.{endsKey}
 use Rattle.text.proofs.Chars.{tested-by, past, stops, ends, in-text}
 use Rattle.text.specs.Characters.{find}
 use Rattle.text.specs.declared.Decoded.{Decoded}
+use Rattle.attributes.proofs.Keys.{letter-past}
 use Rattle.attributes.proofs.key_end.Statement.{statement}
 use Rattle.attributes.proofs.key_end.Tie as tie
 
@@ -22,6 +23,23 @@ abbrev μ-loop : tie.MeasureT-loop
 loop-holds : tie.Need-loop-holds Inv-loop μ-loop
 loop-holds c = (omega arith, refl)
 
+shared-slice-read-holds : tie.Need-shared-slice-read-holds Inv-loop μ-loop
+shared-slice-read-holds c = search needs
+
+holds-requires : tie.Need-holds-requires Inv-loop μ-loop
+holds-requires c κs = search needs
+
+add-i : tie.Need-add-i Inv-loop μ-loop
+add-i c = search needs
+
+loop-less : tie.Need-loop-less Inv-loop μ-loop
+loop-less c = search needs
+
+loop-again : tie.Need-loop-again Inv-loop μ-loop
+loop-again c =
+    let l = c .before .before .before .before .loop in
+    (omega arith, l .inv .1 ∙ letter-past (now (c .before .before .before .before .before .before .args .s)) (l .i) (omega arith) (sym (c .before .holds .ensures) ∙ c .if1 .taken))
+
 decode-at-requires : tie.Need-decode-at-requires Inv-loop μ-loop
 decode-at-requires c κs = search needs
 
@@ -30,34 +48,36 @@ ends-key-requires c κs = search needs
 
 returns : tie.Need-returns Inv-loop μ-loop
 returns c =
-    let s = now (c .before .before .before .before .before .before .args .s) in
-    let l = c .before .before .before .before .loop in
+    let s = now (c .before .before .before .before .before .before .before .before .before .args .s) in
+    let l = c .before .before .before .before .before .before .before .loop in
     let d = c .before .before .decode-at in
     let x = c .before .ends-key in
-    let y = tested-by endsKey s (l .i) (d .result) (x .result) _ (d .ensures) (x .ensures) (c .if1 .taken) in
+    let y = tested-by endsKey s (l .i) (d .result) (x .result) _ (d .ensures) (x .ensures) (c .if2 .taken) in
     record { is = sym (l .inv .1 ∙ stops endsKey s (l .i) (omega arith) y); inside = omega arith }
 
-add-i : tie.Need-add-i Inv-loop μ-loop
-add-i c =
-    let s = c .before .before .before .before .before .before .before .args .s .now in
+-- the character that is passed lies in the text
+within-text : (c : tie.After-struct-known Inv-loop μ-loop) → (0 < c .before .before .before .decode-at .result .width) × (c .before .before .before .before .before .before .before .before .loop .i + c .before .before .before .decode-at .result .width ≤ length (now (c .before .before .before .before .before .before .before .before .before .before .args .s)))
+within-text c =
+    let s = now (c .before .before .before .before .before .before .before .before .before .before .args .s) in
+    let i = c .before .before .before .before .before .before .before .before .loop .i in
     let w = ap (λ (d : Decoded). d .width) (c .before .before .before .decode-at .ensures) in
-    omega (arith, in-text s (c .before .before .before .before .before .loop .i) (omega arith), w)
+    let t = in-text s i (omega arith) in
+    (omega (arith, t .0, w), omega (arith, t .1, w))
 
-loop-less : tie.Need-loop-less Inv-loop μ-loop
-loop-less c =
-    let s = c .before .before .before .before .before .before .before .args .s .now in
-    let w = ap (λ (d : Decoded). d .width) (c .before .before .before .decode-at .ensures) in
-    omega (arith, in-text s (c .before .before .before .before .before .loop .i) (omega arith), w)
+add-i-2 : tie.Need-add-i-2 Inv-loop μ-loop
+add-i-2 c = let t = within-text c in omega (arith, t .1)
 
-loop-again : tie.Need-loop-again Inv-loop μ-loop
-loop-again c =
-    let s = c .before .before .before .before .before .before .before .args .s .now in
-    let l = c .before .before .before .before .before .loop in
+loop-less-2 : tie.Need-loop-less-2 Inv-loop μ-loop
+loop-less-2 c = let t = within-text c in omega (arith, t .0, t .1)
+
+loop-again-2 : tie.Need-loop-again-2 Inv-loop μ-loop
+loop-again-2 c =
+    let s = now (c .before .before .before .before .before .before .before .before .before .before .args .s) in
+    let l = c .before .before .before .before .before .before .before .before .loop in
     let d = c .before .before .before .decode-at in
     let x = c .before .before .ends-key in
-    let w = ap (λ (d : Decoded). d .width) (d .ensures) in
-    let y = tested-by endsKey s (l .i) (d .result) (x .result) _ (d .ensures) (x .ensures) (c .before .if1 .left) in
-    (omega (arith, in-text s (l .i) (omega arith), w), l .inv .1 ∙ past endsKey s (l .i) (d .result .width) (omega arith) w y)
+    let y = tested-by endsKey s (l .i) (d .result) (x .result) _ (d .ensures) (x .ensures) (c .before .if2 .left) in
+    (within-text c .1, l .inv .1 ∙ past endsKey s (l .i) (d .result .width) (omega arith) (ap (λ (d : Decoded). d .width) (d .ensures)) y)
 
 returns-2 : tie.Need-returns-2 Inv-loop μ-loop
 returns-2 c =
@@ -71,10 +91,15 @@ key-end-spec =
     Inv-loop
     μ-loop
     loop-holds
-    decode-at-requires
-    ends-key-requires
-    returns
+    shared-slice-read-holds
+    holds-requires
     add-i
     loop-less
     loop-again
+    decode-at-requires
+    ends-key-requires
+    returns
+    add-i-2
+    loop-less-2
+    loop-again-2
     returns-2)

@@ -65,7 +65,7 @@ use Rattle.validate.proofs.OpenStart as OpenStart-T
 use Rattle.validate.proofs.OpenStart.Laws as OpenStart-L
 use Rattle.exports.proofs.harkoxin_check as harkoxin-check-F
 use Rattle.exports.proofs.harkoxin_check.Code as code
-use Rattle.exports.proofs.CallCheck as check-C
+use Rattle.marking.proofs.CallCheck as check-C
 use Rattle.marking.proofs.check.Symbol.{name as #marking·check}
 use Rattle.exports.proofs.CallLayAnswer as lay-answer-C
 use Rattle.exports.proofs.lay_answer.Symbol.{name as #exports·lay-answer}

@@ -69,11 +69,11 @@ use Rattle.validate.proofs.OpenStart as OpenStart-T
 use Rattle.validate.proofs.OpenStart.Laws as OpenStart-L
 use Rattle.exports.proofs.harkoxin_report as harkoxin-report-F
 use Rattle.exports.proofs.harkoxin_report.Code as code
-use Rattle.exports.proofs.CallTableGate as table-gate-C
+use Rattle.marking.proofs.CallTableGate as table-gate-C
 use Rattle.marking.proofs.table_gate.Symbol.{name as #marking·table-gate}
 use Rattle.exports.proofs.CallLayTurned as lay-turned-C
 use Rattle.exports.proofs.lay_turned.Symbol.{name as #exports·lay-turned}
-use Rattle.exports.proofs.CallPassed as passed-C
+use Rattle.marking.proofs.CallPassed as passed-C
 use Rattle.marking.proofs.passed.Symbol.{name as #marking·passed}
 use Rattle.exports.proofs.CallTellHeld as tell-held-C
 use Rattle.exports.proofs.tell_held.Symbol.{name as #exports·tell-held}

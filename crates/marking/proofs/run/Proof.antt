@@ -45,7 +45,7 @@ use denote.Triple.Entry.{onEntry}
 use denote.Triple.Spec.{Meets, tripleOf}
 use denote.Triple.Table.{entered, cited}
 use denote.Triple.Cycle.{measured, at-on, mutual-elim, AllBelow}
-use denote.Triple.Walked.{says, needs, Stays, stay-none, stay-none-slice, stay-ref, stay-slice, walkOf, goes-none, goes-none-slice, goes-ref, goes-slice, Walks, ends-at, walked, walk-meets, walked-at, walk-meets-at}
+use denote.Triple.Walked.{says, needs, Stays, stay-none, stay-none-slice, stay-ref, stay-slice, walkOf, goes-none, goes-none-slice, goes-ref, goes-slice, Walks, ends-at as exit-at, walked, walk-meets, walked-at, walk-meets-at}
 use denote.Exit.{yes}
 use Rattle.references.proofs.Flow.{if-then, skip-then, exit-then, switch-then, assoc-then, loop-then, meets-at, frees-any}
 use Rattle.references.proofs.Hand.{At, lent as relent, ptrVal, fatVal, ref, HasRef, HasMut, HasShr, KeptRef, KeptMut, KeptShr, OpenRef, OpenAt, lend-ref, back-ref, lend-mut, back-mut, lend-shr, back-shr, open-ref, shut-ref, open-at, shut-at, back-at}
@@ -74,11 +74,11 @@ use Rattle.validate.proofs.OpenStart as OpenStart-T
 use Rattle.validate.proofs.OpenStart.Laws as OpenStart-L
 use Rattle.marking.proofs.run as run-F
 use Rattle.marking.proofs.run.Code as code
-use Rattle.marking.proofs.CallLinkAt as link-at-C
+use Rattle.checker.proofs.CallLinkAt as link-at-C
 use Rattle.tape.proofs.link_at.Symbol.{name as #tape·link-at}
 use Rattle.marking.proofs.CallBegun as begun-C
 use Rattle.marking.proofs.begun.Symbol.{name as #marking·begun}
-use Rattle.marking.proofs.CallWalk as walk-C
+use Rattle.checker.proofs.CallWalk as walk-C
 use Rattle.checker.proofs.walk.Symbol.{name as #checker·walk}
 use Rattle.marking.proofs.CallUnclosed as unclosed-C
 use Rattle.closing.proofs.unclosed.Symbol.{name as #closing·unclosed}
@@ -232,7 +232,7 @@ module _ {M : Type 1} (𝓤 : URA M) (H : Heap 𝓤) (A : Atoms 𝓤) (W : Given
 
   exits : (r : Record) (seen₁ : List ℕ) (opens₁ : List OpenStart) (list₁ : List ℕ) (r-is : Is Record-T.the-row r (LL.val Record-T.the-type Record-L.the-laws r ∷ [])) (len-seen : length seen₁ ≡ length seen₀) (len-opens : length opens₁ ≡ length opens₀) (len-list : length list₁ ≡ length list₀) (e : Ran table₀ source₀ tape₀ list₀ list₁ r) → ent 𝓤 (⋆ 𝓤 H A (‵ (HasShr u8 table-at table₀) ∷ ‵ (HasShr u64 words-at words₀) ∷ ‵ (HasShr u8 source-at source₀) ∷ ‵ (HasShr u8 tape-at tape₀) ∷ ‵ (HasMut u32 seen-at seen₁) ∷ ‵ (HasMut OpenStart-T.the-row opens-at opens₁) ∷ ‵ (HasMut u64 list-at list₁) ∷ [])) (Post (LL.val Record-T.the-type Record-L.the-laws r))
   exits r seen₁ opens₁ list₁ r-is len-seen len-opens len-list e =
-      qed W (‵ (HasShr u8 table-at table₀) ∷ ‵ (HasShr u64 words-at words₀) ∷ ‵ (HasShr u8 source-at source₀) ∷ ‵ (HasShr u8 tape-at tape₀) ∷ ‵ (HasMut u32 seen-at seen₁) ∷ ‵ (HasMut OpenStart-T.the-row opens-at opens₁) ∷ ‵ (HasMut u64 list-at list₁) ∷ []) ∵ suffices ! _ (ends-at 𝓤 H A run-F.ended stayed (run-F.clauses 𝓤 H A at-mem run) W Y (LL.val Record-T.the-type Record-L.the-laws r) r (tt, (tt, (tt, (tt, (tt, (seen₁, (opens₁, (list₁, tt)))))))) (tt, (tt, (tt, (tt, (tt, (len-seen, (len-opens, (len-list, tt))))))))) $ says ! e $ fsplit ! $ move ! (2 ∷ []) $ fsplit ! $ move ! (4 ∷ []) $ fsplit ! $ move ! (6 ∷ []) $ fsplit ! $ move ! (8 ∷ []) $ fsplit ! $ move ! (10 ∷ []) $ fsplit ! $ move ! (12 ∷ []) $ fsplit ! $ nothing ! $ move ! (2 ∷ 0 ∷ []) $ join ! $ move ! (3 ∷ 0 ∷ []) $ join ! $ move ! (4 ∷ 0 ∷ []) $ join ! $ move ! (5 ∷ 0 ∷ []) $ join ! $ move ! (6 ∷ 0 ∷ []) $ join ! $ move ! (7 ∷ 0 ∷ []) $ join ! $ move ! (8 ∷ 0 ∷ []) $ join ! $ frame ! $ nothing ! $ move ! (1 ∷ 0 ∷ []) $ fjoin ! $ move ! (1 ∷ 0 ∷ []) $ fjoin ! $ move ! (1 ∷ 0 ∷ []) $ fjoin ! $ move ! (1 ∷ 0 ∷ []) $ fjoin ! $ move ! (1 ∷ 0 ∷ []) $ fjoin ! $ owned ! usize (Is usize) (uint-makes 𝓤 H A W w64) count₀ _ (refl, count₀-is) $ fjoin ! $ move ! (1 ∷ 0 ∷ []) $ fjoin ! $ move ! (1 ∷ 0 ∷ []) $ fjoin ! $ owned ! Record-T.the-row (Is Record-T.the-row) (LL.makes Record-T.the-type Record-L.the-plain 𝓤 H A) r _ r-is $ move ! (1 ∷ 0 ∷ []) $ done !
+      qed W (‵ (HasShr u8 table-at table₀) ∷ ‵ (HasShr u64 words-at words₀) ∷ ‵ (HasShr u8 source-at source₀) ∷ ‵ (HasShr u8 tape-at tape₀) ∷ ‵ (HasMut u32 seen-at seen₁) ∷ ‵ (HasMut OpenStart-T.the-row opens-at opens₁) ∷ ‵ (HasMut u64 list-at list₁) ∷ []) ∵ suffices ! _ (exit-at 𝓤 H A run-F.ended stayed (run-F.clauses 𝓤 H A at-mem run) W Y (LL.val Record-T.the-type Record-L.the-laws r) r (tt, (tt, (tt, (tt, (tt, (seen₁, (opens₁, (list₁, tt)))))))) (tt, (tt, (tt, (tt, (tt, (len-seen, (len-opens, (len-list, tt))))))))) $ says ! e $ fsplit ! $ move ! (2 ∷ []) $ fsplit ! $ move ! (4 ∷ []) $ fsplit ! $ move ! (6 ∷ []) $ fsplit ! $ move ! (8 ∷ []) $ fsplit ! $ move ! (10 ∷ []) $ fsplit ! $ move ! (12 ∷ []) $ fsplit ! $ nothing ! $ move ! (2 ∷ 0 ∷ []) $ join ! $ move ! (3 ∷ 0 ∷ []) $ join ! $ move ! (4 ∷ 0 ∷ []) $ join ! $ move ! (5 ∷ 0 ∷ []) $ join ! $ move ! (6 ∷ 0 ∷ []) $ join ! $ move ! (7 ∷ 0 ∷ []) $ join ! $ move ! (8 ∷ 0 ∷ []) $ join ! $ frame ! $ nothing ! $ move ! (1 ∷ 0 ∷ []) $ fjoin ! $ move ! (1 ∷ 0 ∷ []) $ fjoin ! $ move ! (1 ∷ 0 ∷ []) $ fjoin ! $ move ! (1 ∷ 0 ∷ []) $ fjoin ! $ move ! (1 ∷ 0 ∷ []) $ fjoin ! $ owned ! usize (Is usize) (uint-makes 𝓤 H A W w64) count₀ _ (refl, count₀-is) $ fjoin ! $ move ! (1 ∷ 0 ∷ []) $ fjoin ! $ move ! (1 ∷ 0 ∷ []) $ fjoin ! $ owned ! Record-T.the-row (Is Record-T.the-row) (LL.makes Record-T.the-type Record-L.the-plain 𝓤 H A) r _ r-is $ move ! (1 ∷ 0 ∷ []) $ done !
 
   entry : ent 𝓤 (onEntry 𝓤 H A run-F.signature (table-at .κ, (words-at .κ, (source-at .κ, (tape-at .κ, (seen-at .κ, (opens-at .κ, (list-at .κ, tt))))))) (table-at .q, (words-at .q, (source-at .q, (tape-at .q, (seen-at .q, (opens-at .q, (list-at .q, tt))))))) (ref table-at table₀, (ref words-at words₀, (count₀, (ref source-at source₀, (ref tape-at tape₀, (ref seen-at seen₀, (ref opens-at opens₀, (ref list-at list₀, tt)))))))) (fatVal table-at ∷ [], (fatVal words-at ∷ [], (vint w64 count₀ ∷ [], (fatVal source-at ∷ [], (fatVal tape-at ∷ [], (fatVal seen-at ∷ [], (fatVal opens-at ∷ [], (fatVal list-at ∷ [], tt))))))))) (⋆ 𝓤 H A (‵ (HasShr u8 table-at table₀) ∷ ‵ (HasShr u64 words-at words₀) ∷ ‵ (HasShr u8 source-at source₀) ∷ ‵ (HasShr u8 tape-at tape₀) ∷ ‵ (HasMut u32 seen-at seen₀) ∷ ‵ (HasMut OpenStart-T.the-row opens-at opens₀) ∷ ‵ (HasMut u64 list-at list₀) ∷ []))
   entry =

@@ -45,24 +45,50 @@ use denote.Triple.Entry.{onEntry}
 use denote.Triple.Spec.{Meets, tripleOf}
 use denote.Triple.Table.{entered, cited}
 use denote.Triple.Cycle.{measured, at-on, mutual-elim, AllBelow}
-use denote.Triple.Walked.{says, needs, Stays, stay-none, stay-none-slice, stay-ref, stay-slice, walkOf, goes-none, goes-none-slice, goes-ref, goes-slice, Walks, ends-at, walked, walk-meets, walked-at, walk-meets-at}
+use denote.Triple.Walked.{says, needs, Stays, stay-none, stay-none-slice, stay-ref, stay-slice, walkOf, goes-none, goes-none-slice, goes-ref, goes-slice, Walks, ends-at as exit-at, walked, walk-meets, walked-at, walk-meets-at}
 use denote.Exit.{yes}
 use Rattle.references.proofs.Flow.{if-then, skip-then, exit-then, switch-then, assoc-then, loop-then, meets-at, frees-any}
 use Rattle.references.proofs.Hand.{At, lent as relent, ptrVal, fatVal, ref, HasRef, HasMut, HasShr, KeptRef, KeptMut, KeptShr, OpenRef, OpenAt, lend-ref, back-ref, lend-mut, back-mut, lend-shr, back-shr, open-ref, shut-ref, open-at, shut-at, back-at}
 use Rattle.marking.specs.declared.Report.{Report}
 use Rattle.marking.proofs.Report as Report-T
 use Rattle.marking.proofs.Report.Laws as Report-L
 use Rattle.marking.specs.declared.Answer.{Answer}
 use Rattle.marking.proofs.Answer as Answer-T
 use Rattle.marking.proofs.Answer.Laws as Answer-L
 use Rattle.marking.specs.declared.Answer.the-variants as Answer-V
+use Rattle.marking.specs.declared.Gate.{Gate}
+use Rattle.marking.proofs.Gate as Gate-T
+use Rattle.marking.proofs.Gate.Laws as Gate-L
+use Rattle.marking.specs.declared.Gate.the-variants as Gate-V
+use Rattle.findings.specs.declared.Counts.{Counts}
+use Rattle.findings.proofs.Counts as Counts-T
+use Rattle.findings.proofs.Counts.Laws as Counts-L
+use Rattle.running.specs.declared.Record.{Record}
+use Rattle.running.proofs.Record as Record-T
+use Rattle.running.proofs.Record.Laws as Record-L
+use Rattle.running.specs.declared.Around.{Around}
+use Rattle.running.proofs.Around as Around-T
+use Rattle.running.proofs.Around.Laws as Around-L
 use Rattle.validate.specs.declared.OpenStart.{OpenStart}
 use Rattle.validate.proofs.OpenStart as OpenStart-T
 use Rattle.validate.proofs.OpenStart.Laws as OpenStart-L
-use Rattle.validate.specs.Outcome.{noStart, answer, listAfter, seenAfter, openAfter}
-use Rattle.marking.specs.Entry.{answerOf, lent}
+use Prim.Native.Nat.{_/_}
+use Rattle.tape.specs.Nodes.{count, linkAt}
+use Rattle.tape.specs.Nodes.{count as nodes}
+use Rattle.cursor.specs.Inner.{Run}
+use Rattle.findings.specs.Written.{Wrote, Room, total, limit}
+use Rattle.validate.specs.Document as Document
+use Rattle.validate.specs.Outcome.{noStart, cleared}
+use Rattle.running.specs.Running.{starts, countsOf, aroundOf}
+use Rattle.closing.specs.Ends.{Left}
+use Rattle.checker.specs.Walking.{Ready, Walked, walkAt}
+use Rattle.marking.specs.Entry.{Begun, Endable, Ended, Ran, Fit, Finished, answerOf, reported}
+use mathlib.Core.Option.{none}
+use Rattle.table.specs.Entries.{Indexed}
+use Rattle.validate.specs.Outcome.{answer, listAfter, seenAfter, openAfter}
+use Rattle.marking.specs.Entry.{gateOf, fromTable, Passed, lent}
 use Rattle.marking.proofs.check as check-F
 use Rattle.marking.proofs.check.Symbol.{name as #marking·check}
 
 module _ {M : Type 1} (𝓤 : URA M) (H : Heap 𝓤) (A : Atoms 𝓤) (at-mem : Memory → SProp 𝓤) (run : Routine → Fun 𝓤) where
   abbrev pub Con : Contract 𝓤

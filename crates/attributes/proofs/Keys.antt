@@ -1,0 +1,33 @@
+-- The letters of a key.
+-- Assumes nothing.
+use Prim.Native.Nat.{ℕ, _+_, _<_}
+use native.Mathlib.Omega.{arith}
+use mathlib.Core.Path.{_≡_, sym, ap, _∙_}
+use mathlib.Core.Bool.{true, false}
+use mathlib.Core.Logic.{inr}
+use lib.Dec.{eqb}
+use lib.ListN.{length, getD, drop}
+use mathlib.Core.List.{List}
+use borrow.Author.Tests.{ne-eqb}
+use Rattle.text.specs.Pick.{within}
+use Rattle.text.specs.Characters.{find}
+use Rattle.text.specs.declared.Decoded.{Decoded}
+use Rattle.text.proofs.Rows.{within-lo, within-hi}
+use Rattle.text.proofs.Blank.{low-not-blank}
+use Rattle.text.proofs.Scan.{ascii-one}
+use Rattle.text.proofs.Decode.{decode-1}
+use Rattle.text.proofs.Chars.{past}
+use Rattle.attributes.specs.Inner.{endsKey}
+
+-- a small letter ends no key
+letter-goes-on : (b : ℕ) → within 0x61 0x7A b ≡ true → endsKey b ≡ false
+letter-goes-on b h =
+    let lo = within-lo 0x61 0x7A b h in
+    let hi = within-hi 0x61 0x7A b h in
+    rw (ne-eqb b 0x3D (λ z. omega arith)) (low-not-blank b (omega arith) (λ z. omega arith) (inr (omega arith)))
+
+pub letter-past : (s : List ℕ) (i : ℕ) → i < length s → within 0x61 0x7A (getD s i 0) ≡ true → i + find endsKey (drop i s) ≡ i + 1 + find endsKey (drop (i + 1) s)
+letter-past s i h e =
+    let hi = within-hi 0x61 0x7A (getD s i 0) e in
+    let d = decode-1 s i h (ascii-one s i h (omega arith)) in
+    past endsKey s i 1 h (ap (λ (d : Decoded). d .width) d) (ap (λ (d : Decoded). endsKey (d .cp)) (sym d) ∙ letter-goes-on (getD s i 0) e)
