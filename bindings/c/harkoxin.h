@@ -205,7 +205,7 @@ enum {
 
 /*
  * Checks a document as harkoxin_check does, and lays the texts of the findings that `list` then holds as harkoxin_messages does,
- * by one reading of the document. Refused by numbers 1 to 10, which both answers say; then every list is as it was.
+ * by one reading of the document. Refused by numbers 1 to 10, which both answers say; then every list but `out` is as it was.
  */
 void harkoxin_report(
     const uint8_t *table, size_t table_len,

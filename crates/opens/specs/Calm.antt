@@ -1,4 +1,4 @@
--- A marker of which nothing is said and whose children change nothing. Most markers of a book are such.
+-- A test of a marker. Where it holds, nothing is said of the marker and its children change nothing, which `calm-marked` and, in `checker`, `visited-calm` prove; it holds of most markers of a book.
 use Prim.Native.Nat.{ℕ}
 use mathlib.Core.Bool.{Bool, true, false, not}
 use mathlib.Core.List.{List}
