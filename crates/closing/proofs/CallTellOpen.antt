@@ -33,7 +33,7 @@ use denote.Memory.{mem, cellAt, pointee}
 use denote.Plain.{uint-vals, uint-tells, uint-makes, bool-vals, bool-tells, bool-makes, nothing-vals, nothing-tells, nothing-makes}
 use denote.Builtin.{u8, u16, u32, u64, usize, bool, unit}
 use denote.Ref.{RefT, MutRef, ptr-vals, mut-tells}
-use denote.Slice.{Room, sliceTy, MutSlice, ShrSlice, slice-vals, mut-slice-tells, shr-slice-tells}
+use denote.Slice.{Room as SizeOf, sliceTy, MutSlice, ShrSlice, slice-vals, mut-slice-tells, shr-slice-tells}
 use denote.Signature.{plain}
 use denote.Index.{place-is}
 use denote.Steps.{only, owned, facts, heard, nothing}
@@ -45,10 +45,10 @@ use denote.Triple.Entry.{onEntry}
 use denote.Triple.Spec.{Meets, tripleOf}
 use denote.Triple.Table.{entered, cited}
 use denote.Triple.Cycle.{measured, at-on, mutual-elim, AllBelow}
-use denote.Triple.Walked.{says, needs, Stays, stay-none, stay-none-slice, stay-ref, stay-slice, walkOf, goes-none, goes-none-slice, goes-ref, goes-slice, Walks, ends-at, walked, walk-meets, walked-at, walk-meets-at}
+use denote.Triple.Walked.{says, needs, Stays, stay-none, stay-none-slice, stay-ref, stay-slice, walkOf, goes-none, goes-none-slice, goes-ref, goes-slice, Walks, ends-at as exit-at, walked, walk-meets, walked-at, walk-meets-at}
 use denote.Exit.{yes}
 use Rattle.references.proofs.Flow.{if-then, skip-then, exit-then, switch-then, assoc-then, loop-then, meets-at, frees-any}
-use Rattle.references.proofs.Hand.{At, lent, ptrVal, fatVal, ref, HasRef, HasMut, HasShr, KeptRef, KeptMut, KeptShr, OpenRef, OpenAt, lend-ref, back-ref, lend-mut, back-mut, lend-shr, back-shr, open-ref, shut-ref, open-at, shut-at, back-at}
+use Rattle.references.proofs.Hand.{At, lent as relent, ptrVal, fatVal, ref, HasRef, HasMut, HasShr, KeptRef, KeptMut, KeptShr, OpenRef, OpenAt, lend-ref, back-ref, lend-mut, back-mut, lend-shr, back-shr, open-ref, shut-ref, open-at, shut-at, back-at}
 use Rattle.findings.specs.declared.Counts.{Counts}
 use Rattle.findings.proofs.Counts as Counts-T
 use Rattle.findings.proofs.Counts.Laws as Counts-L
@@ -86,13 +86,13 @@ module _ {M : Type 1} (𝓤 : URA M) (H : Heap 𝓤) (A : Atoms 𝓤) (at-mem : 
     abbrev pub to : At → At → Con .Ghost
     to tape-at′ list-at′ = (((tape-at′ .κ, (list-at′ .κ, tt)), (tape-at′ .q, (list-at′ .q, tt)), tt, (ref tape-at′ tape₀, (o₀, (ref list-at′ list₀, (c₀, tt)))), (fatVal tape-at′ ∷ [], (LL.val OpenStart-T.the-type OpenStart-L.the-laws o₀ ∷ [], (fatVal list-at′ ∷ [], (LL.val Counts-T.the-type Counts-L.the-laws c₀ ∷ [], tt))))), tt)
 
-    module _ (W : Given 𝓤 H A) (C : Calls 𝓤 H) (fm : FmC 𝓤 H (W .laws) C) (o₀-is : Is OpenStart-T.the-row o₀ (LL.val OpenStart-T.the-type OpenStart-L.the-laws o₀ ∷ [])) (c₀-is : Is Counts-T.the-row c₀ (LL.val Counts-T.the-type Counts-L.the-laws c₀ ∷ [])) (req : Tellable tape₀ o₀ c₀) (met : ((ν-list : ℕ) → (δ-list : GName) → ent 𝓤 (Con .pre (to tape-at (lent list-at ν-list δ-list))) (C #closing·tell-open vs (Con .post (to tape-at (lent list-at ν-list δ-list)))))) where
+    module _ (W : Given 𝓤 H A) (C : Calls 𝓤 H) (fm : FmC 𝓤 H (W .laws) C) (o₀-is : Is OpenStart-T.the-row o₀ (LL.val OpenStart-T.the-type OpenStart-L.the-laws o₀ ∷ [])) (c₀-is : Is Counts-T.the-row c₀ (LL.val Counts-T.the-type Counts-L.the-laws c₀ ∷ [])) (req : Tellable tape₀ o₀ c₀) (met : ((ν-list : ℕ) → (δ-list : GName) → ent 𝓤 (Con .pre (to tape-at (relent list-at ν-list δ-list))) (C #closing·tell-open vs (Con .post (to tape-at (relent list-at ν-list δ-list)))))) where
       pub called : ent 𝓤 (⋆ 𝓤 H A (‵ (HasShr u8 tape-at tape₀) ∷ ‵ (HasMut u64 list-at list₀) ∷ [])) (H .⇛ (C #closing·tell-open vs (λ v. mean 𝓤 H A (After v))))
       called =
           qed W (‵ (HasShr u8 tape-at tape₀) ∷ ‵ (HasMut u64 list-at list₀) ∷ []) ∵ updating ! $
           use1 W (‵ (HasShr u8 tape-at tape₀) ⊛ ‵ (KeptShr u8 tape-at tape₀)) (lend-shr u8 𝓤 H A W tape-at tape₀) $ split ! $
           move ! (2 ∷ []) $
-          use1 W (later (some (λ (ν : ℕ). some (λ (δ : GName). ‵ (HasMut u64 (lent list-at ν δ) list₀) ⊛ ‵ (KeptMut u64 list-at ν δ list₀))))) (lend-mut u64 𝓤 H A W list-at list₀) $ await ! tt $ pick ! (λ ν-list. pick ! (λ δ-list. split ! $
+          use1 W (later (some (λ (ν : ℕ). some (λ (δ : GName). ‵ (HasMut u64 (relent list-at ν δ) list₀) ⊛ ‵ (KeptMut u64 list-at ν δ list₀))))) (lend-mut u64 𝓤 H A W list-at list₀) $ await ! tt $ pick ! (λ ν-list. pick ! (λ δ-list. split ! $
           move ! (2 ∷ []) $
           fsplit ! $
           move ! (2 ∷ []) $
@@ -114,14 +114,14 @@ module _ {M : Type 1} (𝓤 : URA M) (H : Heap 𝓤) (A : Atoms 𝓤) (at-mem : 
           use0 W (raw (fact 𝓤 (Tellable tape₀ o₀ c₀))) (factI 𝓤 (Tellable tape₀ o₀ c₀) (emp 𝓤) req) $
           move ! (1 ∷ 0 ∷ []) $
           join ! $
-          use1 W (raw (C #closing·tell-open vs (Con .post (to tape-at (lent list-at ν-list δ-list))))) (met ν-list δ-list) $
+          use1 W (raw (C #closing·tell-open vs (Con .post (to tape-at (relent list-at ν-list δ-list))))) (met ν-list δ-list) $
           nothing ! $
           at-once ! $ keep ! (1 ∷ 3 ∷ 2 ∷ 0 ∷ []) $
-          by ! (fm #closing·tell-open vs (Con .post (to tape-at (lent list-at ν-list δ-list))) (λ v. mean 𝓤 H A (After v)) (⋆ 𝓤 H A (‵ (KeptShr u8 tape-at tape₀) ∷ ‵ (KeptMut u64 list-at ν-list δ-list list₀) ∷ ‵ ftrue ∷ [])) (λ v.
-          qed W (raw (Con .post (to tape-at (lent list-at ν-list δ-list)) v) ∷ ‵ (KeptShr u8 tape-at tape₀) ∷ ‵ (KeptMut u64 list-at ν-list δ-list list₀) ∷ ‵ ftrue ∷ []) ∵ updating ! $
-          use1 W (later (some (λ (r : Counts). ((‵ (flft (tape-at .κ) (tape-at .q)) ⊛ (‵ (flft ((lent list-at ν-list δ-list) .κ) ((lent list-at ν-list δ-list) .q)) ⊛ ‵ ftrue)) ⊛ ‵ (Counts-T.the-row .own r (v ∷ []))) ⊛ raw (ensured 𝓤 H A tell-open-F.ended (tell-open-F.clauses 𝓤 H A at-mem run) (tape-at .κ, ((lent list-at ν-list δ-list) .κ, tt)) (ref tape-at tape₀, (o₀, (ref (lent list-at ν-list δ-list) list₀, (c₀, tt)))) tt r)))) (id⊢ 𝓤 _) $ await ! tt $ pick ! (λ r. split ! $
+          by ! (fm #closing·tell-open vs (Con .post (to tape-at (relent list-at ν-list δ-list))) (λ v. mean 𝓤 H A (After v)) (⋆ 𝓤 H A (‵ (KeptShr u8 tape-at tape₀) ∷ ‵ (KeptMut u64 list-at ν-list δ-list list₀) ∷ ‵ ftrue ∷ [])) (λ v.
+          qed W (raw (Con .post (to tape-at (relent list-at ν-list δ-list)) v) ∷ ‵ (KeptShr u8 tape-at tape₀) ∷ ‵ (KeptMut u64 list-at ν-list δ-list list₀) ∷ ‵ ftrue ∷ []) ∵ updating ! $
+          use1 W (later (some (λ (r : Counts). ((‵ (flft (tape-at .κ) (tape-at .q)) ⊛ (‵ (flft ((relent list-at ν-list δ-list) .κ) ((relent list-at ν-list δ-list) .q)) ⊛ ‵ ftrue)) ⊛ ‵ (Counts-T.the-row .own r (v ∷ []))) ⊛ raw (ensured 𝓤 H A tell-open-F.ended (tell-open-F.clauses 𝓤 H A at-mem run) (tape-at .κ, ((relent list-at ν-list δ-list) .κ, tt)) (ref tape-at tape₀, (o₀, (ref (relent list-at ν-list δ-list) list₀, (c₀, tt)))) tt r)))) (id⊢ 𝓤 _) $ await ! tt $ pick ! (λ r. split ! $
           move ! (1 ∷ []) $
-          use1 W (some (λ (ws : (Unit {0}) × ((Unit {0}) × ((List ℕ) × ((Unit {0}) × Unit {0})))). ‵ (lasts tell-open-F.ended (tape-at .κ, ((lent list-at ν-list δ-list) .κ, tt)) (ref tape-at tape₀, (o₀, (ref (lent list-at ν-list δ-list) list₀, (c₀, tt)))) ws) ⊛ raw (fact 𝓤 (Wrote (ofOpen tape₀ o₀) list₀ c₀ (ws .1 .1 .0) r)))) (id⊢ 𝓤 _) $ pick ! (λ ws. split ! $
+          use1 W (some (λ (ws : (Unit {0}) × ((Unit {0}) × ((List ℕ) × ((Unit {0}) × Unit {0})))). ‵ (lasts tell-open-F.ended (tape-at .κ, ((relent list-at ν-list δ-list) .κ, tt)) (ref tape-at tape₀, (o₀, (ref (relent list-at ν-list δ-list) list₀, (c₀, tt)))) ws) ⊛ raw (fact 𝓤 (Wrote (ofOpen tape₀ o₀) list₀ c₀ (ws .1 .1 .0) r)))) (id⊢ 𝓤 _) $ pick ! (λ ws. split ! $
           move ! (1 ∷ []) $
           heard ! (Wrote (ofOpen tape₀ o₀) list₀ c₀ (ws .1 .1 .0) r) (λ e.
           fsplit ! $
@@ -149,13 +149,13 @@ module _ {M : Type 1} (𝓤 : URA M) (H : Heap 𝓤) (A : Atoms 𝓤) (at-mem : 
           keep ! (1 ∷ 0 ∷ []) $ join ! $ done !)))))))))
 
 module _ {M : Type 1} {𝓤 : URA M} {H : Heap 𝓤} {A : Atoms 𝓤} {K : Type 0} {W : Given 𝓤 H A} {Γ : List (Item 𝓤)} {E : Env 𝓤 H} {C : Calls 𝓤 H} {Λ : Loops 𝓤 H} {q : PostOf 𝓤 H} {dst : Place} {xs : List Operand} where
-  pub calls-tell-open : K → (at-mem : Memory → SProp 𝓤) (run : Routine → Fun 𝓤) → FmC 𝓤 H (W .laws) C → {rest : Body} (tape-at : At) (tape₀ : List ℕ) (o₀ : OpenStart) (list-at : At) (list₀ : List ℕ) (c₀ : Counts) (o₀-is : Is OpenStart-T.the-row o₀ (LL.val OpenStart-T.the-type OpenStart-L.the-laws o₀ ∷ [])) (c₀-is : Is Counts-T.the-row c₀ (LL.val Counts-T.the-type Counts-L.the-laws c₀ ∷ [])) (req : Tellable tape₀ o₀ c₀) → ((ν-list : ℕ) → (δ-list : GName) → ent 𝓤 (Con 𝓤 H A at-mem run .pre (to 𝓤 H A at-mem run tape-at tape₀ o₀ list-at list₀ c₀ tape-at (lent list-at ν-list δ-list))) (C #closing·tell-open (vs 𝓤 H A at-mem run tape-at tape₀ o₀ list-at list₀ c₀) (Con 𝓤 H A at-mem run .post (to 𝓤 H A at-mem run tape-at tape₀ o₀ list-at list₀ c₀ tape-at (lent list-at ν-list δ-list))))) → Opds K W (raw (C #closing·tell-open (vs 𝓤 H A at-mem run tape-at tape₀ o₀ list-at list₀ c₀) (λ v. mean 𝓤 H A (After 𝓤 H A at-mem run tape-at tape₀ o₀ list-at list₀ c₀ v))) ∷ Γ) E xs (vs 𝓤 H A at-mem run tape-at tape₀ o₀ list-at list₀ c₀)
+  pub calls-tell-open : K → (at-mem : Memory → SProp 𝓤) (run : Routine → Fun 𝓤) → FmC 𝓤 H (W .laws) C → {rest : Body} (tape-at : At) (tape₀ : List ℕ) (o₀ : OpenStart) (list-at : At) (list₀ : List ℕ) (c₀ : Counts) (o₀-is : Is OpenStart-T.the-row o₀ (LL.val OpenStart-T.the-type OpenStart-L.the-laws o₀ ∷ [])) (c₀-is : Is Counts-T.the-row c₀ (LL.val Counts-T.the-type Counts-L.the-laws c₀ ∷ [])) (req : Tellable tape₀ o₀ c₀) → ((ν-list : ℕ) → (δ-list : GName) → ent 𝓤 (Con 𝓤 H A at-mem run .pre (to 𝓤 H A at-mem run tape-at tape₀ o₀ list-at list₀ c₀ tape-at (relent list-at ν-list δ-list))) (C #closing·tell-open (vs 𝓤 H A at-mem run tape-at tape₀ o₀ list-at list₀ c₀) (Con 𝓤 H A at-mem run .post (to 𝓤 H A at-mem run tape-at tape₀ o₀ list-at list₀ c₀ tape-at (relent list-at ν-list δ-list))))) → Opds K W (raw (C #closing·tell-open (vs 𝓤 H A at-mem run tape-at tape₀ o₀ list-at list₀ c₀) (λ v. mean 𝓤 H A (After 𝓤 H A at-mem run tape-at tape₀ o₀ list-at list₀ c₀ v))) ∷ Γ) E xs (vs 𝓤 H A at-mem run tape-at tape₀ o₀ list-at list₀ c₀)
       → ((z : Z 𝓤 H A at-mem run tape-at tape₀ o₀ list-at list₀ c₀) → Says 𝓤 H A at-mem run tape-at tape₀ o₀ list-at list₀ c₀ (LL.val Counts-T.the-type Counts-L.the-laws (z .0) ∷ []) z → Seq K W (‵ (HasShr u8 tape-at tape₀) ∷ ‵ (HasMut u64 list-at (z .1 .0)) ∷ Γ) (lands C Λ E dst (LL.val Counts-T.the-type Counts-L.the-laws (z .0)) rest q)) → Seq K W (‵ (HasShr u8 tape-at tape₀) ∷ ‵ (HasMut u64 list-at list₀) ∷ Γ) (runs C Λ E (seq (call #closing·tell-open xs dst) rest) q)
   calls-tell-open t at-mem run fm {rest} tape-at tape₀ o₀ list-at list₀ c₀ o₀-is c₀-is req met os k =
       cut (‵ (HasShr u8 tape-at tape₀) ∷ ‵ (HasMut u64 list-at list₀) ∷ []) (later (raw (C #closing·tell-open (vs 𝓤 H A at-mem run tape-at tape₀ o₀ list-at list₀ c₀) (λ v. mean 𝓤 H A (After 𝓤 H A at-mem run tape-at tape₀ o₀ list-at list₀ c₀ v)))) ∷ []) Γ (called 𝓤 H A at-mem run tape-at tape₀ o₀ list-at list₀ c₀ W C fm o₀-is c₀-is req met) $ await t tt $ calls t fm (After 𝓤 H A at-mem run tape-at tape₀ o₀ list-at list₀ c₀) os (λ v. await t tt $ pick t (λ z. learn t (λ s. split t $ subst (λ (u : Val). Seq K W (‵ (HasShr u8 tape-at tape₀) ∷ ‵ (HasMut u64 list-at (z .1 .0)) ∷ Γ) (lands C Λ E dst u rest q)) (sym (ap only ((LL.tells Counts-T.the-type Counts-L.the-laws) (z .0) (v ∷ []) (s .0)))) (k z (subst (Is Counts-T.the-row (z .0)) ((LL.tells Counts-T.the-type Counts-L.the-laws) (z .0) (v ∷ []) (s .0)) (s .0), (s .1 .0, s .1 .1))))))
 
 module _ {M : Type 1} {𝓤 : URA M} {H : Heap 𝓤} {A : Atoms 𝓤} {K : Type 0} {W : Given 𝓤 H A} {Γ : List (Item 𝓤)} {E : Env 𝓤 H} {C : Calls 𝓤 H} {Λ : Loops 𝓤 H} {q : PostOf 𝓤 H} {dst : Place} {xs : List Operand} where
-  pub calls-tell-open-last : K → (at-mem : Memory → SProp 𝓤) (run : Routine → Fun 𝓤) → FmC 𝓤 H (W .laws) C → (tape-at : At) (tape₀ : List ℕ) (o₀ : OpenStart) (list-at : At) (list₀ : List ℕ) (c₀ : Counts) (o₀-is : Is OpenStart-T.the-row o₀ (LL.val OpenStart-T.the-type OpenStart-L.the-laws o₀ ∷ [])) (c₀-is : Is Counts-T.the-row c₀ (LL.val Counts-T.the-type Counts-L.the-laws c₀ ∷ [])) (req : Tellable tape₀ o₀ c₀) → ((ν-list : ℕ) → (δ-list : GName) → ent 𝓤 (Con 𝓤 H A at-mem run .pre (to 𝓤 H A at-mem run tape-at tape₀ o₀ list-at list₀ c₀ tape-at (lent list-at ν-list δ-list))) (C #closing·tell-open (vs 𝓤 H A at-mem run tape-at tape₀ o₀ list-at list₀ c₀) (Con 𝓤 H A at-mem run .post (to 𝓤 H A at-mem run tape-at tape₀ o₀ list-at list₀ c₀ tape-at (lent list-at ν-list δ-list))))) → Opds K W (raw (C #closing·tell-open (vs 𝓤 H A at-mem run tape-at tape₀ o₀ list-at list₀ c₀) (λ v. mean 𝓤 H A (After 𝓤 H A at-mem run tape-at tape₀ o₀ list-at list₀ c₀ v))) ∷ Γ) E xs (vs 𝓤 H A at-mem run tape-at tape₀ o₀ list-at list₀ c₀)
+  pub calls-tell-open-last : K → (at-mem : Memory → SProp 𝓤) (run : Routine → Fun 𝓤) → FmC 𝓤 H (W .laws) C → (tape-at : At) (tape₀ : List ℕ) (o₀ : OpenStart) (list-at : At) (list₀ : List ℕ) (c₀ : Counts) (o₀-is : Is OpenStart-T.the-row o₀ (LL.val OpenStart-T.the-type OpenStart-L.the-laws o₀ ∷ [])) (c₀-is : Is Counts-T.the-row c₀ (LL.val Counts-T.the-type Counts-L.the-laws c₀ ∷ [])) (req : Tellable tape₀ o₀ c₀) → ((ν-list : ℕ) → (δ-list : GName) → ent 𝓤 (Con 𝓤 H A at-mem run .pre (to 𝓤 H A at-mem run tape-at tape₀ o₀ list-at list₀ c₀ tape-at (relent list-at ν-list δ-list))) (C #closing·tell-open (vs 𝓤 H A at-mem run tape-at tape₀ o₀ list-at list₀ c₀) (Con 𝓤 H A at-mem run .post (to 𝓤 H A at-mem run tape-at tape₀ o₀ list-at list₀ c₀ tape-at (relent list-at ν-list δ-list))))) → Opds K W (raw (C #closing·tell-open (vs 𝓤 H A at-mem run tape-at tape₀ o₀ list-at list₀ c₀) (λ v. mean 𝓤 H A (After 𝓤 H A at-mem run tape-at tape₀ o₀ list-at list₀ c₀ v))) ∷ Γ) E xs (vs 𝓤 H A at-mem run tape-at tape₀ o₀ list-at list₀ c₀)
       → ((z : Z 𝓤 H A at-mem run tape-at tape₀ o₀ list-at list₀ c₀) → Says 𝓤 H A at-mem run tape-at tape₀ o₀ list-at list₀ c₀ (LL.val Counts-T.the-type Counts-L.the-laws (z .0) ∷ []) z → Seq K W (‵ (HasShr u8 tape-at tape₀) ∷ ‵ (HasMut u64 list-at (z .1 .0)) ∷ Γ) (settles E dst (LL.val Counts-T.the-type Counts-L.the-laws (z .0)) q)) → Seq K W (‵ (HasShr u8 tape-at tape₀) ∷ ‵ (HasMut u64 list-at list₀) ∷ Γ) (runs C Λ E (call #closing·tell-open xs dst) q)
   calls-tell-open-last t at-mem run fm tape-at tape₀ o₀ list-at list₀ c₀ o₀-is c₀-is req met os k =
       cut (‵ (HasShr u8 tape-at tape₀) ∷ ‵ (HasMut u64 list-at list₀) ∷ []) (later (raw (C #closing·tell-open (vs 𝓤 H A at-mem run tape-at tape₀ o₀ list-at list₀ c₀) (λ v. mean 𝓤 H A (After 𝓤 H A at-mem run tape-at tape₀ o₀ list-at list₀ c₀ v)))) ∷ []) Γ (called 𝓤 H A at-mem run tape-at tape₀ o₀ list-at list₀ c₀ W C fm o₀-is c₀-is req met) $ await t tt $ calls-last t fm (After 𝓤 H A at-mem run tape-at tape₀ o₀ list-at list₀ c₀) os (λ v. await t tt $ pick t (λ z. learn t (λ s. split t $ subst (λ (u : Val). Seq K W (‵ (HasShr u8 tape-at tape₀) ∷ ‵ (HasMut u64 list-at (z .1 .0)) ∷ Γ) (settles E dst u q)) (sym (ap only ((LL.tells Counts-T.the-type Counts-L.the-laws) (z .0) (v ∷ []) (s .0)))) (k z (subst (Is Counts-T.the-row (z .0)) ((LL.tells Counts-T.the-type Counts-L.the-laws) (z .0) (v ∷ []) (s .0)) (s .0), (s .1 .0, s .1 .1))))))

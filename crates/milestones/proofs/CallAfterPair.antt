@@ -45,10 +45,10 @@ use denote.Triple.Entry.{onEntry}
 use denote.Triple.Spec.{Meets, tripleOf}
 use denote.Triple.Table.{entered, cited}
 use denote.Triple.Cycle.{measured, at-on, mutual-elim, AllBelow}
-use denote.Triple.Walked.{says, needs, Stays, stay-none, stay-none-slice, stay-ref, stay-slice, walkOf, goes-none, goes-none-slice, goes-ref, goes-slice, Walks, ends-at, walked, walk-meets, walked-at, walk-meets-at}
+use denote.Triple.Walked.{says, needs, Stays, stay-none, stay-none-slice, stay-ref, stay-slice, walkOf, goes-none, goes-none-slice, goes-ref, goes-slice, Walks, ends-at as exit-at, walked, walk-meets, walked-at, walk-meets-at}
 use denote.Exit.{yes}
 use Rattle.references.proofs.Flow.{if-then, skip-then, exit-then, switch-then, assoc-then, loop-then, meets-at, frees-any}
-use Rattle.references.proofs.Hand.{At, lent, ptrVal, fatVal, ref, HasRef, HasMut, HasShr, KeptRef, KeptMut, KeptShr, OpenRef, OpenAt, lend-ref, back-ref, lend-mut, back-mut, lend-shr, back-shr, open-ref, shut-ref, open-at, shut-at, back-at}
+use Rattle.references.proofs.Hand.{At, lent as relent, ptrVal, fatVal, ref, HasRef, HasMut, HasShr, KeptRef, KeptMut, KeptShr, OpenRef, OpenAt, lend-ref, back-ref, lend-mut, back-mut, lend-shr, back-shr, open-ref, shut-ref, open-at, shut-at, back-at}
 use Rattle.milestones.specs.declared.Found.{Found}
 use Rattle.milestones.proofs.Found as Found-T
 use Rattle.milestones.proofs.Found.Laws as Found-L
@@ -102,13 +102,13 @@ module _ {M : Type 1} (𝓤 : URA M) (H : Heap 𝓤) (A : Atoms 𝓤) (at-mem : 
     abbrev pub to : At → At → Con .Ghost
     to tape-at′ list-at′ = (((tape-at′ .κ, (list-at′ .κ, tt)), (tape-at′ .q, (list-at′ .q, tt)), tt, (ref tape-at′ tape₀, (i₀, (p₀, (rec₀, (ref list-at′ list₀, tt))))), (fatVal tape-at′ ∷ [], (vint w64 i₀ ∷ [], (EL.val Paired-T.the-type Paired-L.the-laws p₀ ∷ [], (LL.val Record-T.the-type Record-L.the-laws rec₀ ∷ [], (fatVal list-at′ ∷ [], tt)))))), tt)
 
-    module _ (W : Given 𝓤 H A) (C : Calls 𝓤 H) (fm : FmC 𝓤 H (W .laws) C) (i₀-is : i₀ < 2 ^ 64) (p₀-is : Is Paired-T.the-row p₀ (EL.val Paired-T.the-type Paired-L.the-laws p₀ ∷ [])) (rec₀-is : Is Record-T.the-row rec₀ (LL.val Record-T.the-type Record-L.the-laws rec₀ ∷ [])) (req : (i₀ < count tape₀) × Countable tape₀ i₀ p₀ rec₀) (met : ((ν-list : ℕ) → (δ-list : GName) → ent 𝓤 (Con .pre (to tape-at (lent list-at ν-list δ-list))) (C #milestones·after-pair vs (Con .post (to tape-at (lent list-at ν-list δ-list)))))) where
+    module _ (W : Given 𝓤 H A) (C : Calls 𝓤 H) (fm : FmC 𝓤 H (W .laws) C) (i₀-is : i₀ < 2 ^ 64) (p₀-is : Is Paired-T.the-row p₀ (EL.val Paired-T.the-type Paired-L.the-laws p₀ ∷ [])) (rec₀-is : Is Record-T.the-row rec₀ (LL.val Record-T.the-type Record-L.the-laws rec₀ ∷ [])) (req : (i₀ < count tape₀) × Countable tape₀ i₀ p₀ rec₀) (met : ((ν-list : ℕ) → (δ-list : GName) → ent 𝓤 (Con .pre (to tape-at (relent list-at ν-list δ-list))) (C #milestones·after-pair vs (Con .post (to tape-at (relent list-at ν-list δ-list)))))) where
       pub called : ent 𝓤 (⋆ 𝓤 H A (‵ (HasShr u8 tape-at tape₀) ∷ ‵ (HasMut u64 list-at list₀) ∷ [])) (H .⇛ (C #milestones·after-pair vs (λ v. mean 𝓤 H A (After v))))
       called =
           qed W (‵ (HasShr u8 tape-at tape₀) ∷ ‵ (HasMut u64 list-at list₀) ∷ []) ∵ updating ! $
           use1 W (‵ (HasShr u8 tape-at tape₀) ⊛ ‵ (KeptShr u8 tape-at tape₀)) (lend-shr u8 𝓤 H A W tape-at tape₀) $ split ! $
           move ! (2 ∷ []) $
-          use1 W (later (some (λ (ν : ℕ). some (λ (δ : GName). ‵ (HasMut u64 (lent list-at ν δ) list₀) ⊛ ‵ (KeptMut u64 list-at ν δ list₀))))) (lend-mut u64 𝓤 H A W list-at list₀) $ await ! tt $ pick ! (λ ν-list. pick ! (λ δ-list. split ! $
+          use1 W (later (some (λ (ν : ℕ). some (λ (δ : GName). ‵ (HasMut u64 (relent list-at ν δ) list₀) ⊛ ‵ (KeptMut u64 list-at ν δ list₀))))) (lend-mut u64 𝓤 H A W list-at list₀) $ await ! tt $ pick ! (λ ν-list. pick ! (λ δ-list. split ! $
           move ! (2 ∷ []) $
           fsplit ! $
           move ! (2 ∷ []) $
@@ -131,14 +131,14 @@ module _ {M : Type 1} (𝓤 : URA M) (H : Heap 𝓤) (A : Atoms 𝓤) (at-mem : 
           use0 W (raw (fact 𝓤 ((i₀ < count tape₀) × Countable tape₀ i₀ p₀ rec₀))) (factI 𝓤 ((i₀ < count tape₀) × Countable tape₀ i₀ p₀ rec₀) (emp 𝓤) req) $
           move ! (1 ∷ 0 ∷ []) $
           join ! $
-          use1 W (raw (C #milestones·after-pair vs (Con .post (to tape-at (lent list-at ν-list δ-list))))) (met ν-list δ-list) $
+          use1 W (raw (C #milestones·after-pair vs (Con .post (to tape-at (relent list-at ν-list δ-list))))) (met ν-list δ-list) $
           nothing ! $
           at-once ! $ keep ! (1 ∷ 3 ∷ 2 ∷ 0 ∷ []) $
-          by ! (fm #milestones·after-pair vs (Con .post (to tape-at (lent list-at ν-list δ-list))) (λ v. mean 𝓤 H A (After v)) (⋆ 𝓤 H A (‵ (KeptShr u8 tape-at tape₀) ∷ ‵ (KeptMut u64 list-at ν-list δ-list list₀) ∷ ‵ ftrue ∷ [])) (λ v.
-          qed W (raw (Con .post (to tape-at (lent list-at ν-list δ-list)) v) ∷ ‵ (KeptShr u8 tape-at tape₀) ∷ ‵ (KeptMut u64 list-at ν-list δ-list list₀) ∷ ‵ ftrue ∷ []) ∵ updating ! $
-          use1 W (later (some (λ (r : Record). ((‵ (flft (tape-at .κ) (tape-at .q)) ⊛ (‵ (flft ((lent list-at ν-list δ-list) .κ) ((lent list-at ν-list δ-list) .q)) ⊛ ‵ ftrue)) ⊛ ‵ (Record-T.the-row .own r (v ∷ []))) ⊛ raw (ensured 𝓤 H A after-pair-F.ended (after-pair-F.clauses 𝓤 H A at-mem run) (tape-at .κ, ((lent list-at ν-list δ-list) .κ, tt)) (ref tape-at tape₀, (i₀, (p₀, (rec₀, (ref (lent list-at ν-list δ-list) list₀, tt))))) tt r)))) (id⊢ 𝓤 _) $ await ! tt $ pick ! (λ r. split ! $
+          by ! (fm #milestones·after-pair vs (Con .post (to tape-at (relent list-at ν-list δ-list))) (λ v. mean 𝓤 H A (After v)) (⋆ 𝓤 H A (‵ (KeptShr u8 tape-at tape₀) ∷ ‵ (KeptMut u64 list-at ν-list δ-list list₀) ∷ ‵ ftrue ∷ [])) (λ v.
+          qed W (raw (Con .post (to tape-at (relent list-at ν-list δ-list)) v) ∷ ‵ (KeptShr u8 tape-at tape₀) ∷ ‵ (KeptMut u64 list-at ν-list δ-list list₀) ∷ ‵ ftrue ∷ []) ∵ updating ! $
+          use1 W (later (some (λ (r : Record). ((‵ (flft (tape-at .κ) (tape-at .q)) ⊛ (‵ (flft ((relent list-at ν-list δ-list) .κ) ((relent list-at ν-list δ-list) .q)) ⊛ ‵ ftrue)) ⊛ ‵ (Record-T.the-row .own r (v ∷ []))) ⊛ raw (ensured 𝓤 H A after-pair-F.ended (after-pair-F.clauses 𝓤 H A at-mem run) (tape-at .κ, ((relent list-at ν-list δ-list) .κ, tt)) (ref tape-at tape₀, (i₀, (p₀, (rec₀, (ref (relent list-at ν-list δ-list) list₀, tt))))) tt r)))) (id⊢ 𝓤 _) $ await ! tt $ pick ! (λ r. split ! $
           move ! (1 ∷ []) $
-          use1 W (some (λ (ws : (Unit {0}) × ((Unit {0}) × ((Unit {0}) × ((Unit {0}) × ((List ℕ) × Unit {0}))))). ‵ (lasts after-pair-F.ended (tape-at .κ, ((lent list-at ν-list δ-list) .κ, tt)) (ref tape-at tape₀, (i₀, (p₀, (rec₀, (ref (lent list-at ν-list δ-list) list₀, tt))))) ws) ⊛ raw (fact 𝓤 (Counted tape₀ i₀ p₀ list₀ rec₀ (ws .1 .1 .1 .1 .0) r)))) (id⊢ 𝓤 _) $ pick ! (λ ws. split ! $
+          use1 W (some (λ (ws : (Unit {0}) × ((Unit {0}) × ((Unit {0}) × ((Unit {0}) × ((List ℕ) × Unit {0}))))). ‵ (lasts after-pair-F.ended (tape-at .κ, ((relent list-at ν-list δ-list) .κ, tt)) (ref tape-at tape₀, (i₀, (p₀, (rec₀, (ref (relent list-at ν-list δ-list) list₀, tt))))) ws) ⊛ raw (fact 𝓤 (Counted tape₀ i₀ p₀ list₀ rec₀ (ws .1 .1 .1 .1 .0) r)))) (id⊢ 𝓤 _) $ pick ! (λ ws. split ! $
           move ! (1 ∷ []) $
           heard ! (Counted tape₀ i₀ p₀ list₀ rec₀ (ws .1 .1 .1 .1 .0) r) (λ e.
           fsplit ! $
@@ -168,13 +168,13 @@ module _ {M : Type 1} (𝓤 : URA M) (H : Heap 𝓤) (A : Atoms 𝓤) (at-mem : 
           keep ! (1 ∷ 0 ∷ []) $ join ! $ done !)))))))))
 
 module _ {M : Type 1} {𝓤 : URA M} {H : Heap 𝓤} {A : Atoms 𝓤} {K : Type 0} {W : Given 𝓤 H A} {Γ : List (Item 𝓤)} {E : Env 𝓤 H} {C : Calls 𝓤 H} {Λ : Loops 𝓤 H} {q : PostOf 𝓤 H} {dst : Place} {xs : List Operand} where
-  pub calls-after-pair : K → (at-mem : Memory → SProp 𝓤) (run : Routine → Fun 𝓤) → FmC 𝓤 H (W .laws) C → {rest : Body} (tape-at : At) (tape₀ : List ℕ) (i₀ : ℕ) (p₀ : Paired) (rec₀ : Record) (list-at : At) (list₀ : List ℕ) (i₀-is : i₀ < 2 ^ 64) (p₀-is : Is Paired-T.the-row p₀ (EL.val Paired-T.the-type Paired-L.the-laws p₀ ∷ [])) (rec₀-is : Is Record-T.the-row rec₀ (LL.val Record-T.the-type Record-L.the-laws rec₀ ∷ [])) (req : (i₀ < count tape₀) × Countable tape₀ i₀ p₀ rec₀) → ((ν-list : ℕ) → (δ-list : GName) → ent 𝓤 (Con 𝓤 H A at-mem run .pre (to 𝓤 H A at-mem run tape-at tape₀ i₀ p₀ rec₀ list-at list₀ tape-at (lent list-at ν-list δ-list))) (C #milestones·after-pair (vs 𝓤 H A at-mem run tape-at tape₀ i₀ p₀ rec₀ list-at list₀) (Con 𝓤 H A at-mem run .post (to 𝓤 H A at-mem run tape-at tape₀ i₀ p₀ rec₀ list-at list₀ tape-at (lent list-at ν-list δ-list))))) → Opds K W (raw (C #milestones·after-pair (vs 𝓤 H A at-mem run tape-at tape₀ i₀ p₀ rec₀ list-at list₀) (λ v. mean 𝓤 H A (After 𝓤 H A at-mem run tape-at tape₀ i₀ p₀ rec₀ list-at list₀ v))) ∷ Γ) E xs (vs 𝓤 H A at-mem run tape-at tape₀ i₀ p₀ rec₀ list-at list₀)
+  pub calls-after-pair : K → (at-mem : Memory → SProp 𝓤) (run : Routine → Fun 𝓤) → FmC 𝓤 H (W .laws) C → {rest : Body} (tape-at : At) (tape₀ : List ℕ) (i₀ : ℕ) (p₀ : Paired) (rec₀ : Record) (list-at : At) (list₀ : List ℕ) (i₀-is : i₀ < 2 ^ 64) (p₀-is : Is Paired-T.the-row p₀ (EL.val Paired-T.the-type Paired-L.the-laws p₀ ∷ [])) (rec₀-is : Is Record-T.the-row rec₀ (LL.val Record-T.the-type Record-L.the-laws rec₀ ∷ [])) (req : (i₀ < count tape₀) × Countable tape₀ i₀ p₀ rec₀) → ((ν-list : ℕ) → (δ-list : GName) → ent 𝓤 (Con 𝓤 H A at-mem run .pre (to 𝓤 H A at-mem run tape-at tape₀ i₀ p₀ rec₀ list-at list₀ tape-at (relent list-at ν-list δ-list))) (C #milestones·after-pair (vs 𝓤 H A at-mem run tape-at tape₀ i₀ p₀ rec₀ list-at list₀) (Con 𝓤 H A at-mem run .post (to 𝓤 H A at-mem run tape-at tape₀ i₀ p₀ rec₀ list-at list₀ tape-at (relent list-at ν-list δ-list))))) → Opds K W (raw (C #milestones·after-pair (vs 𝓤 H A at-mem run tape-at tape₀ i₀ p₀ rec₀ list-at list₀) (λ v. mean 𝓤 H A (After 𝓤 H A at-mem run tape-at tape₀ i₀ p₀ rec₀ list-at list₀ v))) ∷ Γ) E xs (vs 𝓤 H A at-mem run tape-at tape₀ i₀ p₀ rec₀ list-at list₀)
       → ((z : Z 𝓤 H A at-mem run tape-at tape₀ i₀ p₀ rec₀ list-at list₀) → Says 𝓤 H A at-mem run tape-at tape₀ i₀ p₀ rec₀ list-at list₀ (LL.val Record-T.the-type Record-L.the-laws (z .0) ∷ []) z → Seq K W (‵ (HasShr u8 tape-at tape₀) ∷ ‵ (HasMut u64 list-at (z .1 .0)) ∷ Γ) (lands C Λ E dst (LL.val Record-T.the-type Record-L.the-laws (z .0)) rest q)) → Seq K W (‵ (HasShr u8 tape-at tape₀) ∷ ‵ (HasMut u64 list-at list₀) ∷ Γ) (runs C Λ E (seq (call #milestones·after-pair xs dst) rest) q)
   calls-after-pair t at-mem run fm {rest} tape-at tape₀ i₀ p₀ rec₀ list-at list₀ i₀-is p₀-is rec₀-is req met os k =
       cut (‵ (HasShr u8 tape-at tape₀) ∷ ‵ (HasMut u64 list-at list₀) ∷ []) (later (raw (C #milestones·after-pair (vs 𝓤 H A at-mem run tape-at tape₀ i₀ p₀ rec₀ list-at list₀) (λ v. mean 𝓤 H A (After 𝓤 H A at-mem run tape-at tape₀ i₀ p₀ rec₀ list-at list₀ v)))) ∷ []) Γ (called 𝓤 H A at-mem run tape-at tape₀ i₀ p₀ rec₀ list-at list₀ W C fm i₀-is p₀-is rec₀-is req met) $ await t tt $ calls t fm (After 𝓤 H A at-mem run tape-at tape₀ i₀ p₀ rec₀ list-at list₀) os (λ v. await t tt $ pick t (λ z. learn t (λ s. split t $ subst (λ (u : Val). Seq K W (‵ (HasShr u8 tape-at tape₀) ∷ ‵ (HasMut u64 list-at (z .1 .0)) ∷ Γ) (lands C Λ E dst u rest q)) (sym (ap only ((LL.tells Record-T.the-type Record-L.the-laws) (z .0) (v ∷ []) (s .0)))) (k z (subst (Is Record-T.the-row (z .0)) ((LL.tells Record-T.the-type Record-L.the-laws) (z .0) (v ∷ []) (s .0)) (s .0), (s .1 .0, s .1 .1))))))
 
 module _ {M : Type 1} {𝓤 : URA M} {H : Heap 𝓤} {A : Atoms 𝓤} {K : Type 0} {W : Given 𝓤 H A} {Γ : List (Item 𝓤)} {E : Env 𝓤 H} {C : Calls 𝓤 H} {Λ : Loops 𝓤 H} {q : PostOf 𝓤 H} {dst : Place} {xs : List Operand} where
-  pub calls-after-pair-last : K → (at-mem : Memory → SProp 𝓤) (run : Routine → Fun 𝓤) → FmC 𝓤 H (W .laws) C → (tape-at : At) (tape₀ : List ℕ) (i₀ : ℕ) (p₀ : Paired) (rec₀ : Record) (list-at : At) (list₀ : List ℕ) (i₀-is : i₀ < 2 ^ 64) (p₀-is : Is Paired-T.the-row p₀ (EL.val Paired-T.the-type Paired-L.the-laws p₀ ∷ [])) (rec₀-is : Is Record-T.the-row rec₀ (LL.val Record-T.the-type Record-L.the-laws rec₀ ∷ [])) (req : (i₀ < count tape₀) × Countable tape₀ i₀ p₀ rec₀) → ((ν-list : ℕ) → (δ-list : GName) → ent 𝓤 (Con 𝓤 H A at-mem run .pre (to 𝓤 H A at-mem run tape-at tape₀ i₀ p₀ rec₀ list-at list₀ tape-at (lent list-at ν-list δ-list))) (C #milestones·after-pair (vs 𝓤 H A at-mem run tape-at tape₀ i₀ p₀ rec₀ list-at list₀) (Con 𝓤 H A at-mem run .post (to 𝓤 H A at-mem run tape-at tape₀ i₀ p₀ rec₀ list-at list₀ tape-at (lent list-at ν-list δ-list))))) → Opds K W (raw (C #milestones·after-pair (vs 𝓤 H A at-mem run tape-at tape₀ i₀ p₀ rec₀ list-at list₀) (λ v. mean 𝓤 H A (After 𝓤 H A at-mem run tape-at tape₀ i₀ p₀ rec₀ list-at list₀ v))) ∷ Γ) E xs (vs 𝓤 H A at-mem run tape-at tape₀ i₀ p₀ rec₀ list-at list₀)
+  pub calls-after-pair-last : K → (at-mem : Memory → SProp 𝓤) (run : Routine → Fun 𝓤) → FmC 𝓤 H (W .laws) C → (tape-at : At) (tape₀ : List ℕ) (i₀ : ℕ) (p₀ : Paired) (rec₀ : Record) (list-at : At) (list₀ : List ℕ) (i₀-is : i₀ < 2 ^ 64) (p₀-is : Is Paired-T.the-row p₀ (EL.val Paired-T.the-type Paired-L.the-laws p₀ ∷ [])) (rec₀-is : Is Record-T.the-row rec₀ (LL.val Record-T.the-type Record-L.the-laws rec₀ ∷ [])) (req : (i₀ < count tape₀) × Countable tape₀ i₀ p₀ rec₀) → ((ν-list : ℕ) → (δ-list : GName) → ent 𝓤 (Con 𝓤 H A at-mem run .pre (to 𝓤 H A at-mem run tape-at tape₀ i₀ p₀ rec₀ list-at list₀ tape-at (relent list-at ν-list δ-list))) (C #milestones·after-pair (vs 𝓤 H A at-mem run tape-at tape₀ i₀ p₀ rec₀ list-at list₀) (Con 𝓤 H A at-mem run .post (to 𝓤 H A at-mem run tape-at tape₀ i₀ p₀ rec₀ list-at list₀ tape-at (relent list-at ν-list δ-list))))) → Opds K W (raw (C #milestones·after-pair (vs 𝓤 H A at-mem run tape-at tape₀ i₀ p₀ rec₀ list-at list₀) (λ v. mean 𝓤 H A (After 𝓤 H A at-mem run tape-at tape₀ i₀ p₀ rec₀ list-at list₀ v))) ∷ Γ) E xs (vs 𝓤 H A at-mem run tape-at tape₀ i₀ p₀ rec₀ list-at list₀)
       → ((z : Z 𝓤 H A at-mem run tape-at tape₀ i₀ p₀ rec₀ list-at list₀) → Says 𝓤 H A at-mem run tape-at tape₀ i₀ p₀ rec₀ list-at list₀ (LL.val Record-T.the-type Record-L.the-laws (z .0) ∷ []) z → Seq K W (‵ (HasShr u8 tape-at tape₀) ∷ ‵ (HasMut u64 list-at (z .1 .0)) ∷ Γ) (settles E dst (LL.val Record-T.the-type Record-L.the-laws (z .0)) q)) → Seq K W (‵ (HasShr u8 tape-at tape₀) ∷ ‵ (HasMut u64 list-at list₀) ∷ Γ) (runs C Λ E (call #milestones·after-pair xs dst) q)
   calls-after-pair-last t at-mem run fm tape-at tape₀ i₀ p₀ rec₀ list-at list₀ i₀-is p₀-is rec₀-is req met os k =
       cut (‵ (HasShr u8 tape-at tape₀) ∷ ‵ (HasMut u64 list-at list₀) ∷ []) (later (raw (C #milestones·after-pair (vs 𝓤 H A at-mem run tape-at tape₀ i₀ p₀ rec₀ list-at list₀) (λ v. mean 𝓤 H A (After 𝓤 H A at-mem run tape-at tape₀ i₀ p₀ rec₀ list-at list₀ v)))) ∷ []) Γ (called 𝓤 H A at-mem run tape-at tape₀ i₀ p₀ rec₀ list-at list₀ W C fm i₀-is p₀-is rec₀-is req met) $ await t tt $ calls-last t fm (After 𝓤 H A at-mem run tape-at tape₀ i₀ p₀ rec₀ list-at list₀) os (λ v. await t tt $ pick t (λ z. learn t (λ s. split t $ subst (λ (u : Val). Seq K W (‵ (HasShr u8 tape-at tape₀) ∷ ‵ (HasMut u64 list-at (z .1 .0)) ∷ Γ) (settles E dst u q)) (sym (ap only ((LL.tells Record-T.the-type Record-L.the-laws) (z .0) (v ∷ []) (s .0)))) (k z (subst (Is Record-T.the-row (z .0)) ((LL.tells Record-T.the-type Record-L.the-laws) (z .0) (v ∷ []) (s .0)) (s .0), (s .1 .0, s .1 .1))))))

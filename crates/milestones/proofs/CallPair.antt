@@ -45,10 +45,10 @@ use denote.Triple.Entry.{onEntry}
 use denote.Triple.Spec.{Meets, tripleOf}
 use denote.Triple.Table.{entered, cited}
 use denote.Triple.Cycle.{measured, at-on, mutual-elim, AllBelow}
-use denote.Triple.Walked.{says, needs, Stays, stay-none, stay-none-slice, stay-ref, stay-slice, walkOf, goes-none, goes-none-slice, goes-ref, goes-slice, Walks, ends-at, walked, walk-meets, walked-at, walk-meets-at}
+use denote.Triple.Walked.{says, needs, Stays, stay-none, stay-none-slice, stay-ref, stay-slice, walkOf, goes-none, goes-none-slice, goes-ref, goes-slice, Walks, ends-at as exit-at, walked, walk-meets, walked-at, walk-meets-at}
 use denote.Exit.{yes}
 use Rattle.references.proofs.Flow.{if-then, skip-then, exit-then, switch-then, assoc-then, loop-then, meets-at, frees-any}
-use Rattle.references.proofs.Hand.{At, lent, ptrVal, fatVal, ref, HasRef, HasMut, HasShr, KeptRef, KeptMut, KeptShr, OpenRef, OpenAt, lend-ref, back-ref, lend-mut, back-mut, lend-shr, back-shr, open-ref, shut-ref, open-at, shut-at, back-at}
+use Rattle.references.proofs.Hand.{At, lent as relent, ptrVal, fatVal, ref, HasRef, HasMut, HasShr, KeptRef, KeptMut, KeptShr, OpenRef, OpenAt, lend-ref, back-ref, lend-mut, back-mut, lend-shr, back-shr, open-ref, shut-ref, open-at, shut-at, back-at}
 use Rattle.milestones.specs.declared.Found.{Found}
 use Rattle.milestones.proofs.Found as Found-T
 use Rattle.milestones.proofs.Found.Laws as Found-L
@@ -102,7 +102,7 @@ module _ {M : Type 1} (𝓤 : URA M) (H : Heap 𝓤) (A : Atoms 𝓤) (at-mem : 
     abbrev pub to : At → At → At → Con .Ghost
     to source-at′ tape-at′ opens-at′ = (((source-at′ .κ, (tape-at′ .κ, (opens-at′ .κ, tt))), (source-at′ .q, (tape-at′ .q, (opens-at′ .q, tt))), tt, (ref source-at′ source₀, (ref tape-at′ tape₀, (step₀, (ref opens-at′ opens₀, (k₀, tt))))), (fatVal source-at′ ∷ [], (fatVal tape-at′ ∷ [], (EL.val Step-T.the-type Step-L.the-laws step₀ ∷ [], (fatVal opens-at′ ∷ [], (vint w64 k₀ ∷ [], tt)))))), tt)
 
-    module _ (W : Given 𝓤 H A) (C : Calls 𝓤 H) (fm : FmC 𝓤 H (W .laws) C) (step₀-is : Is Step-T.the-row step₀ (EL.val Step-T.the-type Step-L.the-laws step₀ ∷ [])) (k₀-is : k₀ < 2 ^ 64) (req : (Opens source₀ tape₀ opens₀ k₀) × (k₀ < length opens₀) × (Placed source₀ step₀)) (met : ((ν-opens : ℕ) → (δ-opens : GName) → ent 𝓤 (Con .pre (to source-at tape-at (lent opens-at ν-opens δ-opens))) (C #milestones·pair vs (Con .post (to source-at tape-at (lent opens-at ν-opens δ-opens)))))) where
+    module _ (W : Given 𝓤 H A) (C : Calls 𝓤 H) (fm : FmC 𝓤 H (W .laws) C) (step₀-is : Is Step-T.the-row step₀ (EL.val Step-T.the-type Step-L.the-laws step₀ ∷ [])) (k₀-is : k₀ < 2 ^ 64) (req : (Opens source₀ tape₀ opens₀ k₀) × (k₀ < length opens₀) × (Placed source₀ step₀)) (met : ((ν-opens : ℕ) → (δ-opens : GName) → ent 𝓤 (Con .pre (to source-at tape-at (relent opens-at ν-opens δ-opens))) (C #milestones·pair vs (Con .post (to source-at tape-at (relent opens-at ν-opens δ-opens)))))) where
       pub called : ent 𝓤 (⋆ 𝓤 H A (‵ (HasShr u8 source-at source₀) ∷ ‵ (HasShr u8 tape-at tape₀) ∷ ‵ (HasMut OpenStart-T.the-row opens-at opens₀) ∷ [])) (H .⇛ (C #milestones·pair vs (λ v. mean 𝓤 H A (After v))))
       called =
           qed W (‵ (HasShr u8 source-at source₀) ∷ ‵ (HasShr u8 tape-at tape₀) ∷ ‵ (HasMut OpenStart-T.the-row opens-at opens₀) ∷ []) ∵ updating ! $
@@ -110,7 +110,7 @@ module _ {M : Type 1} (𝓤 : URA M) (H : Heap 𝓤) (A : Atoms 𝓤) (at-mem : 
           move ! (2 ∷ []) $
           use1 W (‵ (HasShr u8 tape-at tape₀) ⊛ ‵ (KeptShr u8 tape-at tape₀)) (lend-shr u8 𝓤 H A W tape-at tape₀) $ split ! $
           move ! (4 ∷ []) $
-          use1 W (later (some (λ (ν : ℕ). some (λ (δ : GName). ‵ (HasMut OpenStart-T.the-row (lent opens-at ν δ) opens₀) ⊛ ‵ (KeptMut OpenStart-T.the-row opens-at ν δ opens₀))))) (lend-mut OpenStart-T.the-row 𝓤 H A W opens-at opens₀) $ await ! tt $ pick ! (λ ν-opens. pick ! (λ δ-opens. split ! $
+          use1 W (later (some (λ (ν : ℕ). some (λ (δ : GName). ‵ (HasMut OpenStart-T.the-row (relent opens-at ν δ) opens₀) ⊛ ‵ (KeptMut OpenStart-T.the-row opens-at ν δ opens₀))))) (lend-mut OpenStart-T.the-row 𝓤 H A W opens-at opens₀) $ await ! tt $ pick ! (λ ν-opens. pick ! (λ δ-opens. split ! $
           move ! (4 ∷ []) $
           fsplit ! $
           move ! (4 ∷ []) $
@@ -138,14 +138,14 @@ module _ {M : Type 1} (𝓤 : URA M) (H : Heap 𝓤) (A : Atoms 𝓤) (at-mem : 
           use0 W (raw (fact 𝓤 ((Opens source₀ tape₀ opens₀ k₀) × (k₀ < length opens₀) × (Placed source₀ step₀)))) (factI 𝓤 ((Opens source₀ tape₀ opens₀ k₀) × (k₀ < length opens₀) × (Placed source₀ step₀)) (emp 𝓤) req) $
           move ! (1 ∷ 0 ∷ []) $
           join ! $
-          use1 W (raw (C #milestones·pair vs (Con .post (to source-at tape-at (lent opens-at ν-opens δ-opens))))) (met ν-opens δ-opens) $
+          use1 W (raw (C #milestones·pair vs (Con .post (to source-at tape-at (relent opens-at ν-opens δ-opens))))) (met ν-opens δ-opens) $
           nothing ! $
           at-once ! $ keep ! (1 ∷ 4 ∷ 3 ∷ 2 ∷ 0 ∷ []) $
-          by ! (fm #milestones·pair vs (Con .post (to source-at tape-at (lent opens-at ν-opens δ-opens))) (λ v. mean 𝓤 H A (After v)) (⋆ 𝓤 H A (‵ (KeptShr u8 source-at source₀) ∷ ‵ (KeptShr u8 tape-at tape₀) ∷ ‵ (KeptMut OpenStart-T.the-row opens-at ν-opens δ-opens opens₀) ∷ ‵ ftrue ∷ [])) (λ v.
-          qed W (raw (Con .post (to source-at tape-at (lent opens-at ν-opens δ-opens)) v) ∷ ‵ (KeptShr u8 source-at source₀) ∷ ‵ (KeptShr u8 tape-at tape₀) ∷ ‵ (KeptMut OpenStart-T.the-row opens-at ν-opens δ-opens opens₀) ∷ ‵ ftrue ∷ []) ∵ updating ! $
-          use1 W (later (some (λ (r : Paired). ((‵ (flft (source-at .κ) (source-at .q)) ⊛ (‵ (flft (tape-at .κ) (tape-at .q)) ⊛ (‵ (flft ((lent opens-at ν-opens δ-opens) .κ) ((lent opens-at ν-opens δ-opens) .q)) ⊛ ‵ ftrue))) ⊛ ‵ (Paired-T.the-row .own r (v ∷ []))) ⊛ raw (ensured 𝓤 H A pair-F.ended (pair-F.clauses 𝓤 H A at-mem run) (source-at .κ, (tape-at .κ, ((lent opens-at ν-opens δ-opens) .κ, tt))) (ref source-at source₀, (ref tape-at tape₀, (step₀, (ref (lent opens-at ν-opens δ-opens) opens₀, (k₀, tt))))) tt r)))) (id⊢ 𝓤 _) $ await ! tt $ pick ! (λ r. split ! $
+          by ! (fm #milestones·pair vs (Con .post (to source-at tape-at (relent opens-at ν-opens δ-opens))) (λ v. mean 𝓤 H A (After v)) (⋆ 𝓤 H A (‵ (KeptShr u8 source-at source₀) ∷ ‵ (KeptShr u8 tape-at tape₀) ∷ ‵ (KeptMut OpenStart-T.the-row opens-at ν-opens δ-opens opens₀) ∷ ‵ ftrue ∷ [])) (λ v.
+          qed W (raw (Con .post (to source-at tape-at (relent opens-at ν-opens δ-opens)) v) ∷ ‵ (KeptShr u8 source-at source₀) ∷ ‵ (KeptShr u8 tape-at tape₀) ∷ ‵ (KeptMut OpenStart-T.the-row opens-at ν-opens δ-opens opens₀) ∷ ‵ ftrue ∷ []) ∵ updating ! $
+          use1 W (later (some (λ (r : Paired). ((‵ (flft (source-at .κ) (source-at .q)) ⊛ (‵ (flft (tape-at .κ) (tape-at .q)) ⊛ (‵ (flft ((relent opens-at ν-opens δ-opens) .κ) ((relent opens-at ν-opens δ-opens) .q)) ⊛ ‵ ftrue))) ⊛ ‵ (Paired-T.the-row .own r (v ∷ []))) ⊛ raw (ensured 𝓤 H A pair-F.ended (pair-F.clauses 𝓤 H A at-mem run) (source-at .κ, (tape-at .κ, ((relent opens-at ν-opens δ-opens) .κ, tt))) (ref source-at source₀, (ref tape-at tape₀, (step₀, (ref (relent opens-at ν-opens δ-opens) opens₀, (k₀, tt))))) tt r)))) (id⊢ 𝓤 _) $ await ! tt $ pick ! (λ r. split ! $
           move ! (1 ∷ []) $
-          use1 W (some (λ (ws : (Unit {0}) × ((Unit {0}) × ((Unit {0}) × ((List OpenStart) × ((Unit {0}) × Unit {0}))))). ‵ (lasts pair-F.ended (source-at .κ, (tape-at .κ, ((lent opens-at ν-opens δ-opens) .κ, tt))) (ref source-at source₀, (ref tape-at tape₀, (step₀, (ref (lent opens-at ν-opens δ-opens) opens₀, (k₀, tt))))) ws) ⊛ raw (fact 𝓤 (((ws .1 .1 .1 .0) ≡ opensBy step₀ (takenBy source₀ tape₀ opens₀ k₀ step₀) opens₀ k₀) × (r ≡ pairedBy step₀ (takenBy source₀ tape₀ opens₀ k₀ step₀) k₀))))) (id⊢ 𝓤 _) $ pick ! (λ ws. split ! $
+          use1 W (some (λ (ws : (Unit {0}) × ((Unit {0}) × ((Unit {0}) × ((List OpenStart) × ((Unit {0}) × Unit {0}))))). ‵ (lasts pair-F.ended (source-at .κ, (tape-at .κ, ((relent opens-at ν-opens δ-opens) .κ, tt))) (ref source-at source₀, (ref tape-at tape₀, (step₀, (ref (relent opens-at ν-opens δ-opens) opens₀, (k₀, tt))))) ws) ⊛ raw (fact 𝓤 (((ws .1 .1 .1 .0) ≡ opensBy step₀ (takenBy source₀ tape₀ opens₀ k₀ step₀) opens₀ k₀) × (r ≡ pairedBy step₀ (takenBy source₀ tape₀ opens₀ k₀ step₀) k₀))))) (id⊢ 𝓤 _) $ pick ! (λ ws. split ! $
           move ! (1 ∷ []) $
           heard ! (((ws .1 .1 .1 .0) ≡ opensBy step₀ (takenBy source₀ tape₀ opens₀ k₀ step₀) opens₀ k₀) × (r ≡ pairedBy step₀ (takenBy source₀ tape₀ opens₀ k₀ step₀) k₀)) (λ e.
           fsplit ! $
@@ -179,13 +179,13 @@ module _ {M : Type 1} (𝓤 : URA M) (H : Heap 𝓤) (A : Atoms 𝓤) (at-mem : 
           keep ! (2 ∷ 1 ∷ 0 ∷ []) $ join ! $ join ! $ done !)))))))))
 
 module _ {M : Type 1} {𝓤 : URA M} {H : Heap 𝓤} {A : Atoms 𝓤} {K : Type 0} {W : Given 𝓤 H A} {Γ : List (Item 𝓤)} {E : Env 𝓤 H} {C : Calls 𝓤 H} {Λ : Loops 𝓤 H} {q : PostOf 𝓤 H} {dst : Place} {xs : List Operand} where
-  pub calls-pair : K → (at-mem : Memory → SProp 𝓤) (run : Routine → Fun 𝓤) → FmC 𝓤 H (W .laws) C → {rest : Body} (source-at : At) (source₀ : List ℕ) (tape-at : At) (tape₀ : List ℕ) (step₀ : Step) (opens-at : At) (opens₀ : List OpenStart) (k₀ : ℕ) (step₀-is : Is Step-T.the-row step₀ (EL.val Step-T.the-type Step-L.the-laws step₀ ∷ [])) (k₀-is : k₀ < 2 ^ 64) (req : (Opens source₀ tape₀ opens₀ k₀) × (k₀ < length opens₀) × (Placed source₀ step₀)) → ((ν-opens : ℕ) → (δ-opens : GName) → ent 𝓤 (Con 𝓤 H A at-mem run .pre (to 𝓤 H A at-mem run source-at source₀ tape-at tape₀ step₀ opens-at opens₀ k₀ source-at tape-at (lent opens-at ν-opens δ-opens))) (C #milestones·pair (vs 𝓤 H A at-mem run source-at source₀ tape-at tape₀ step₀ opens-at opens₀ k₀) (Con 𝓤 H A at-mem run .post (to 𝓤 H A at-mem run source-at source₀ tape-at tape₀ step₀ opens-at opens₀ k₀ source-at tape-at (lent opens-at ν-opens δ-opens))))) → Opds K W (raw (C #milestones·pair (vs 𝓤 H A at-mem run source-at source₀ tape-at tape₀ step₀ opens-at opens₀ k₀) (λ v. mean 𝓤 H A (After 𝓤 H A at-mem run source-at source₀ tape-at tape₀ step₀ opens-at opens₀ k₀ v))) ∷ Γ) E xs (vs 𝓤 H A at-mem run source-at source₀ tape-at tape₀ step₀ opens-at opens₀ k₀)
+  pub calls-pair : K → (at-mem : Memory → SProp 𝓤) (run : Routine → Fun 𝓤) → FmC 𝓤 H (W .laws) C → {rest : Body} (source-at : At) (source₀ : List ℕ) (tape-at : At) (tape₀ : List ℕ) (step₀ : Step) (opens-at : At) (opens₀ : List OpenStart) (k₀ : ℕ) (step₀-is : Is Step-T.the-row step₀ (EL.val Step-T.the-type Step-L.the-laws step₀ ∷ [])) (k₀-is : k₀ < 2 ^ 64) (req : (Opens source₀ tape₀ opens₀ k₀) × (k₀ < length opens₀) × (Placed source₀ step₀)) → ((ν-opens : ℕ) → (δ-opens : GName) → ent 𝓤 (Con 𝓤 H A at-mem run .pre (to 𝓤 H A at-mem run source-at source₀ tape-at tape₀ step₀ opens-at opens₀ k₀ source-at tape-at (relent opens-at ν-opens δ-opens))) (C #milestones·pair (vs 𝓤 H A at-mem run source-at source₀ tape-at tape₀ step₀ opens-at opens₀ k₀) (Con 𝓤 H A at-mem run .post (to 𝓤 H A at-mem run source-at source₀ tape-at tape₀ step₀ opens-at opens₀ k₀ source-at tape-at (relent opens-at ν-opens δ-opens))))) → Opds K W (raw (C #milestones·pair (vs 𝓤 H A at-mem run source-at source₀ tape-at tape₀ step₀ opens-at opens₀ k₀) (λ v. mean 𝓤 H A (After 𝓤 H A at-mem run source-at source₀ tape-at tape₀ step₀ opens-at opens₀ k₀ v))) ∷ Γ) E xs (vs 𝓤 H A at-mem run source-at source₀ tape-at tape₀ step₀ opens-at opens₀ k₀)
       → ((z : Z 𝓤 H A at-mem run source-at source₀ tape-at tape₀ step₀ opens-at opens₀ k₀) → Says 𝓤 H A at-mem run source-at source₀ tape-at tape₀ step₀ opens-at opens₀ k₀ (EL.val Paired-T.the-type Paired-L.the-laws (z .0) ∷ []) z → Seq K W (‵ (HasShr u8 source-at source₀) ∷ ‵ (HasShr u8 tape-at tape₀) ∷ ‵ (HasMut OpenStart-T.the-row opens-at (z .1 .0)) ∷ Γ) (lands C Λ E dst (EL.val Paired-T.the-type Paired-L.the-laws (z .0)) rest q)) → Seq K W (‵ (HasShr u8 source-at source₀) ∷ ‵ (HasShr u8 tape-at tape₀) ∷ ‵ (HasMut OpenStart-T.the-row opens-at opens₀) ∷ Γ) (runs C Λ E (seq (call #milestones·pair xs dst) rest) q)
   calls-pair t at-mem run fm {rest} source-at source₀ tape-at tape₀ step₀ opens-at opens₀ k₀ step₀-is k₀-is req met os k =
       cut (‵ (HasShr u8 source-at source₀) ∷ ‵ (HasShr u8 tape-at tape₀) ∷ ‵ (HasMut OpenStart-T.the-row opens-at opens₀) ∷ []) (later (raw (C #milestones·pair (vs 𝓤 H A at-mem run source-at source₀ tape-at tape₀ step₀ opens-at opens₀ k₀) (λ v. mean 𝓤 H A (After 𝓤 H A at-mem run source-at source₀ tape-at tape₀ step₀ opens-at opens₀ k₀ v)))) ∷ []) Γ (called 𝓤 H A at-mem run source-at source₀ tape-at tape₀ step₀ opens-at opens₀ k₀ W C fm step₀-is k₀-is req met) $ await t tt $ calls t fm (After 𝓤 H A at-mem run source-at source₀ tape-at tape₀ step₀ opens-at opens₀ k₀) os (λ v. await t tt $ pick t (λ z. learn t (λ s. split t $ split t $ subst (λ (u : Val). Seq K W (‵ (HasShr u8 source-at source₀) ∷ ‵ (HasShr u8 tape-at tape₀) ∷ ‵ (HasMut OpenStart-T.the-row opens-at (z .1 .0)) ∷ Γ) (lands C Λ E dst u rest q)) (sym (ap only ((EL.tells Paired-T.the-type Paired-L.the-laws) (z .0) (v ∷ []) (s .0)))) (k z (subst (Is Paired-T.the-row (z .0)) ((EL.tells Paired-T.the-type Paired-L.the-laws) (z .0) (v ∷ []) (s .0)) (s .0), (s .1 .0, s .1 .1))))))
 
 module _ {M : Type 1} {𝓤 : URA M} {H : Heap 𝓤} {A : Atoms 𝓤} {K : Type 0} {W : Given 𝓤 H A} {Γ : List (Item 𝓤)} {E : Env 𝓤 H} {C : Calls 𝓤 H} {Λ : Loops 𝓤 H} {q : PostOf 𝓤 H} {dst : Place} {xs : List Operand} where
-  pub calls-pair-last : K → (at-mem : Memory → SProp 𝓤) (run : Routine → Fun 𝓤) → FmC 𝓤 H (W .laws) C → (source-at : At) (source₀ : List ℕ) (tape-at : At) (tape₀ : List ℕ) (step₀ : Step) (opens-at : At) (opens₀ : List OpenStart) (k₀ : ℕ) (step₀-is : Is Step-T.the-row step₀ (EL.val Step-T.the-type Step-L.the-laws step₀ ∷ [])) (k₀-is : k₀ < 2 ^ 64) (req : (Opens source₀ tape₀ opens₀ k₀) × (k₀ < length opens₀) × (Placed source₀ step₀)) → ((ν-opens : ℕ) → (δ-opens : GName) → ent 𝓤 (Con 𝓤 H A at-mem run .pre (to 𝓤 H A at-mem run source-at source₀ tape-at tape₀ step₀ opens-at opens₀ k₀ source-at tape-at (lent opens-at ν-opens δ-opens))) (C #milestones·pair (vs 𝓤 H A at-mem run source-at source₀ tape-at tape₀ step₀ opens-at opens₀ k₀) (Con 𝓤 H A at-mem run .post (to 𝓤 H A at-mem run source-at source₀ tape-at tape₀ step₀ opens-at opens₀ k₀ source-at tape-at (lent opens-at ν-opens δ-opens))))) → Opds K W (raw (C #milestones·pair (vs 𝓤 H A at-mem run source-at source₀ tape-at tape₀ step₀ opens-at opens₀ k₀) (λ v. mean 𝓤 H A (After 𝓤 H A at-mem run source-at source₀ tape-at tape₀ step₀ opens-at opens₀ k₀ v))) ∷ Γ) E xs (vs 𝓤 H A at-mem run source-at source₀ tape-at tape₀ step₀ opens-at opens₀ k₀)
+  pub calls-pair-last : K → (at-mem : Memory → SProp 𝓤) (run : Routine → Fun 𝓤) → FmC 𝓤 H (W .laws) C → (source-at : At) (source₀ : List ℕ) (tape-at : At) (tape₀ : List ℕ) (step₀ : Step) (opens-at : At) (opens₀ : List OpenStart) (k₀ : ℕ) (step₀-is : Is Step-T.the-row step₀ (EL.val Step-T.the-type Step-L.the-laws step₀ ∷ [])) (k₀-is : k₀ < 2 ^ 64) (req : (Opens source₀ tape₀ opens₀ k₀) × (k₀ < length opens₀) × (Placed source₀ step₀)) → ((ν-opens : ℕ) → (δ-opens : GName) → ent 𝓤 (Con 𝓤 H A at-mem run .pre (to 𝓤 H A at-mem run source-at source₀ tape-at tape₀ step₀ opens-at opens₀ k₀ source-at tape-at (relent opens-at ν-opens δ-opens))) (C #milestones·pair (vs 𝓤 H A at-mem run source-at source₀ tape-at tape₀ step₀ opens-at opens₀ k₀) (Con 𝓤 H A at-mem run .post (to 𝓤 H A at-mem run source-at source₀ tape-at tape₀ step₀ opens-at opens₀ k₀ source-at tape-at (relent opens-at ν-opens δ-opens))))) → Opds K W (raw (C #milestones·pair (vs 𝓤 H A at-mem run source-at source₀ tape-at tape₀ step₀ opens-at opens₀ k₀) (λ v. mean 𝓤 H A (After 𝓤 H A at-mem run source-at source₀ tape-at tape₀ step₀ opens-at opens₀ k₀ v))) ∷ Γ) E xs (vs 𝓤 H A at-mem run source-at source₀ tape-at tape₀ step₀ opens-at opens₀ k₀)
       → ((z : Z 𝓤 H A at-mem run source-at source₀ tape-at tape₀ step₀ opens-at opens₀ k₀) → Says 𝓤 H A at-mem run source-at source₀ tape-at tape₀ step₀ opens-at opens₀ k₀ (EL.val Paired-T.the-type Paired-L.the-laws (z .0) ∷ []) z → Seq K W (‵ (HasShr u8 source-at source₀) ∷ ‵ (HasShr u8 tape-at tape₀) ∷ ‵ (HasMut OpenStart-T.the-row opens-at (z .1 .0)) ∷ Γ) (settles E dst (EL.val Paired-T.the-type Paired-L.the-laws (z .0)) q)) → Seq K W (‵ (HasShr u8 source-at source₀) ∷ ‵ (HasShr u8 tape-at tape₀) ∷ ‵ (HasMut OpenStart-T.the-row opens-at opens₀) ∷ Γ) (runs C Λ E (call #milestones·pair xs dst) q)
   calls-pair-last t at-mem run fm source-at source₀ tape-at tape₀ step₀ opens-at opens₀ k₀ step₀-is k₀-is req met os k =
       cut (‵ (HasShr u8 source-at source₀) ∷ ‵ (HasShr u8 tape-at tape₀) ∷ ‵ (HasMut OpenStart-T.the-row opens-at opens₀) ∷ []) (later (raw (C #milestones·pair (vs 𝓤 H A at-mem run source-at source₀ tape-at tape₀ step₀ opens-at opens₀ k₀) (λ v. mean 𝓤 H A (After 𝓤 H A at-mem run source-at source₀ tape-at tape₀ step₀ opens-at opens₀ k₀ v)))) ∷ []) Γ (called 𝓤 H A at-mem run source-at source₀ tape-at tape₀ step₀ opens-at opens₀ k₀ W C fm step₀-is k₀-is req met) $ await t tt $ calls-last t fm (After 𝓤 H A at-mem run source-at source₀ tape-at tape₀ step₀ opens-at opens₀ k₀) os (λ v. await t tt $ pick t (λ z. learn t (λ s. split t $ split t $ subst (λ (u : Val). Seq K W (‵ (HasShr u8 source-at source₀) ∷ ‵ (HasShr u8 tape-at tape₀) ∷ ‵ (HasMut OpenStart-T.the-row opens-at (z .1 .0)) ∷ Γ) (settles E dst u q)) (sym (ap only ((EL.tells Paired-T.the-type Paired-L.the-laws) (z .0) (v ∷ []) (s .0)))) (k z (subst (Is Paired-T.the-row (z .0)) ((EL.tells Paired-T.the-type Paired-L.the-laws) (z .0) (v ∷ []) (s .0)) (s .0), (s .1 .0, s .1 .1))))))

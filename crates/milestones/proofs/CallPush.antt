@@ -45,10 +45,10 @@ use denote.Triple.Entry.{onEntry}
 use denote.Triple.Spec.{Meets, tripleOf}
 use denote.Triple.Table.{entered, cited}
 use denote.Triple.Cycle.{measured, at-on, mutual-elim, AllBelow}
-use denote.Triple.Walked.{says, needs, Stays, stay-none, stay-none-slice, stay-ref, stay-slice, walkOf, goes-none, goes-none-slice, goes-ref, goes-slice, Walks, ends-at, walked, walk-meets, walked-at, walk-meets-at}
+use denote.Triple.Walked.{says, needs, Stays, stay-none, stay-none-slice, stay-ref, stay-slice, walkOf, goes-none, goes-none-slice, goes-ref, goes-slice, Walks, ends-at as exit-at, walked, walk-meets, walked-at, walk-meets-at}
 use denote.Exit.{yes}
 use Rattle.references.proofs.Flow.{if-then, skip-then, exit-then, switch-then, assoc-then, loop-then, meets-at, frees-any}
-use Rattle.references.proofs.Hand.{At, lent, ptrVal, fatVal, ref, HasRef, HasMut, HasShr, KeptRef, KeptMut, KeptShr, OpenRef, OpenAt, lend-ref, back-ref, lend-mut, back-mut, lend-shr, back-shr, open-ref, shut-ref, open-at, shut-at, back-at}
+use Rattle.references.proofs.Hand.{At, lent as relent, ptrVal, fatVal, ref, HasRef, HasMut, HasShr, KeptRef, KeptMut, KeptShr, OpenRef, OpenAt, lend-ref, back-ref, lend-mut, back-mut, lend-shr, back-shr, open-ref, shut-ref, open-at, shut-at, back-at}
 use Rattle.milestones.specs.declared.Found.{Found}
 use Rattle.milestones.proofs.Found as Found-T
 use Rattle.milestones.proofs.Found.Laws as Found-L
@@ -102,11 +102,11 @@ module _ {M : Type 1} (𝓤 : URA M) (H : Heap 𝓤) (A : Atoms 𝓤) (at-mem : 
     abbrev pub to : At → Con .Ghost
     to opens-at′ = (((opens-at′ .κ, tt), (opens-at′ .q, tt), tt, (ref opens-at′ opens₀, (k₀, (o₀, tt))), (fatVal opens-at′ ∷ [], (vint w64 k₀ ∷ [], (LL.val OpenStart-T.the-type OpenStart-L.the-laws o₀ ∷ [], tt)))), tt)
 
-    module _ (W : Given 𝓤 H A) (C : Calls 𝓤 H) (fm : FmC 𝓤 H (W .laws) C) (k₀-is : k₀ < 2 ^ 64) (o₀-is : Is OpenStart-T.the-row o₀ (LL.val OpenStart-T.the-type OpenStart-L.the-laws o₀ ∷ [])) (req : k₀ < length opens₀) (met : ((ν-opens : ℕ) → (δ-opens : GName) → ent 𝓤 (Con .pre (to (lent opens-at ν-opens δ-opens))) (C #milestones·push vs (Con .post (to (lent opens-at ν-opens δ-opens)))))) where
+    module _ (W : Given 𝓤 H A) (C : Calls 𝓤 H) (fm : FmC 𝓤 H (W .laws) C) (k₀-is : k₀ < 2 ^ 64) (o₀-is : Is OpenStart-T.the-row o₀ (LL.val OpenStart-T.the-type OpenStart-L.the-laws o₀ ∷ [])) (req : k₀ < length opens₀) (met : ((ν-opens : ℕ) → (δ-opens : GName) → ent 𝓤 (Con .pre (to (relent opens-at ν-opens δ-opens))) (C #milestones·push vs (Con .post (to (relent opens-at ν-opens δ-opens)))))) where
       pub called : ent 𝓤 (⋆ 𝓤 H A (‵ (HasMut OpenStart-T.the-row opens-at opens₀) ∷ [])) (H .⇛ (C #milestones·push vs (λ v. mean 𝓤 H A (After v))))
       called =
           qed W (‵ (HasMut OpenStart-T.the-row opens-at opens₀) ∷ []) ∵ updating ! $
-          use1 W (later (some (λ (ν : ℕ). some (λ (δ : GName). ‵ (HasMut OpenStart-T.the-row (lent opens-at ν δ) opens₀) ⊛ ‵ (KeptMut OpenStart-T.the-row opens-at ν δ opens₀))))) (lend-mut OpenStart-T.the-row 𝓤 H A W opens-at opens₀) $ await ! tt $ pick ! (λ ν-opens. pick ! (λ δ-opens. split ! $
+          use1 W (later (some (λ (ν : ℕ). some (λ (δ : GName). ‵ (HasMut OpenStart-T.the-row (relent opens-at ν δ) opens₀) ⊛ ‵ (KeptMut OpenStart-T.the-row opens-at ν δ opens₀))))) (lend-mut OpenStart-T.the-row 𝓤 H A W opens-at opens₀) $ await ! tt $ pick ! (λ ν-opens. pick ! (λ δ-opens. split ! $
           fsplit ! $
           nothing ! $
           move ! (2 ∷ 0 ∷ []) $
@@ -121,14 +121,14 @@ module _ {M : Type 1} (𝓤 : URA M) (H : Heap 𝓤) (A : Atoms 𝓤) (at-mem : 
           use0 W (raw (fact 𝓤 (k₀ < length opens₀))) (factI 𝓤 (k₀ < length opens₀) (emp 𝓤) req) $
           move ! (1 ∷ 0 ∷ []) $
           join ! $
-          use1 W (raw (C #milestones·push vs (Con .post (to (lent opens-at ν-opens δ-opens))))) (met ν-opens δ-opens) $
+          use1 W (raw (C #milestones·push vs (Con .post (to (relent opens-at ν-opens δ-opens))))) (met ν-opens δ-opens) $
           nothing ! $
           at-once ! $ keep ! (1 ∷ 2 ∷ 0 ∷ []) $
-          by ! (fm #milestones·push vs (Con .post (to (lent opens-at ν-opens δ-opens))) (λ v. mean 𝓤 H A (After v)) (⋆ 𝓤 H A (‵ (KeptMut OpenStart-T.the-row opens-at ν-opens δ-opens opens₀) ∷ ‵ ftrue ∷ [])) (λ v.
-          qed W (raw (Con .post (to (lent opens-at ν-opens δ-opens)) v) ∷ ‵ (KeptMut OpenStart-T.the-row opens-at ν-opens δ-opens opens₀) ∷ ‵ ftrue ∷ []) ∵ updating ! $
-          use1 W (later (some (λ (r : Unit {0}). ((‵ (flft ((lent opens-at ν-opens δ-opens) .κ) ((lent opens-at ν-opens δ-opens) .q)) ⊛ ‵ ftrue) ⊛ ‵ (unit .own r (v ∷ []))) ⊛ raw (ensured 𝓤 H A push-F.ended (push-F.clauses 𝓤 H A at-mem run) ((lent opens-at ν-opens δ-opens) .κ, tt) (ref (lent opens-at ν-opens δ-opens) opens₀, (k₀, (o₀, tt))) tt r)))) (id⊢ 𝓤 _) $ await ! tt $ pick ! (λ r. split ! $
+          by ! (fm #milestones·push vs (Con .post (to (relent opens-at ν-opens δ-opens))) (λ v. mean 𝓤 H A (After v)) (⋆ 𝓤 H A (‵ (KeptMut OpenStart-T.the-row opens-at ν-opens δ-opens opens₀) ∷ ‵ ftrue ∷ [])) (λ v.
+          qed W (raw (Con .post (to (relent opens-at ν-opens δ-opens)) v) ∷ ‵ (KeptMut OpenStart-T.the-row opens-at ν-opens δ-opens opens₀) ∷ ‵ ftrue ∷ []) ∵ updating ! $
+          use1 W (later (some (λ (r : Unit {0}). ((‵ (flft ((relent opens-at ν-opens δ-opens) .κ) ((relent opens-at ν-opens δ-opens) .q)) ⊛ ‵ ftrue) ⊛ ‵ (unit .own r (v ∷ []))) ⊛ raw (ensured 𝓤 H A push-F.ended (push-F.clauses 𝓤 H A at-mem run) ((relent opens-at ν-opens δ-opens) .κ, tt) (ref (relent opens-at ν-opens δ-opens) opens₀, (k₀, (o₀, tt))) tt r)))) (id⊢ 𝓤 _) $ await ! tt $ pick ! (λ r. split ! $
           move ! (1 ∷ []) $
-          use1 W (some (λ (ws : (List OpenStart) × ((Unit {0}) × ((Unit {0}) × Unit {0}))). ‵ (lasts push-F.ended ((lent opens-at ν-opens δ-opens) .κ, tt) (ref (lent opens-at ν-opens δ-opens) opens₀, (k₀, (o₀, tt))) ws) ⊛ raw (fact 𝓤 ((ws .0) ≡ set opens₀ k₀ o₀)))) (id⊢ 𝓤 _) $ pick ! (λ ws. split ! $
+          use1 W (some (λ (ws : (List OpenStart) × ((Unit {0}) × ((Unit {0}) × Unit {0}))). ‵ (lasts push-F.ended ((relent opens-at ν-opens δ-opens) .κ, tt) (ref (relent opens-at ν-opens δ-opens) opens₀, (k₀, (o₀, tt))) ws) ⊛ raw (fact 𝓤 ((ws .0) ≡ set opens₀ k₀ o₀)))) (id⊢ 𝓤 _) $ pick ! (λ ws. split ! $
           move ! (1 ∷ []) $
           heard ! ((ws .0) ≡ set opens₀ k₀ o₀) (λ e.
           fsplit ! $
@@ -150,13 +150,13 @@ module _ {M : Type 1} (𝓤 : URA M) (H : Heap 𝓤) (A : Atoms 𝓤) (at-mem : 
           keep ! (0 ∷ []) $ done !)))))))))
 
 module _ {M : Type 1} {𝓤 : URA M} {H : Heap 𝓤} {A : Atoms 𝓤} {K : Type 0} {W : Given 𝓤 H A} {Γ : List (Item 𝓤)} {E : Env 𝓤 H} {C : Calls 𝓤 H} {Λ : Loops 𝓤 H} {q : PostOf 𝓤 H} {dst : Place} {xs : List Operand} where
-  pub calls-push : K → (at-mem : Memory → SProp 𝓤) (run : Routine → Fun 𝓤) → FmC 𝓤 H (W .laws) C → {rest : Body} (opens-at : At) (opens₀ : List OpenStart) (k₀ : ℕ) (o₀ : OpenStart) (k₀-is : k₀ < 2 ^ 64) (o₀-is : Is OpenStart-T.the-row o₀ (LL.val OpenStart-T.the-type OpenStart-L.the-laws o₀ ∷ [])) (req : k₀ < length opens₀) → ((ν-opens : ℕ) → (δ-opens : GName) → ent 𝓤 (Con 𝓤 H A at-mem run .pre (to 𝓤 H A at-mem run opens-at opens₀ k₀ o₀ (lent opens-at ν-opens δ-opens))) (C #milestones·push (vs 𝓤 H A at-mem run opens-at opens₀ k₀ o₀) (Con 𝓤 H A at-mem run .post (to 𝓤 H A at-mem run opens-at opens₀ k₀ o₀ (lent opens-at ν-opens δ-opens))))) → Opds K W (raw (C #milestones·push (vs 𝓤 H A at-mem run opens-at opens₀ k₀ o₀) (λ v. mean 𝓤 H A (After 𝓤 H A at-mem run opens-at opens₀ k₀ o₀ v))) ∷ Γ) E xs (vs 𝓤 H A at-mem run opens-at opens₀ k₀ o₀)
+  pub calls-push : K → (at-mem : Memory → SProp 𝓤) (run : Routine → Fun 𝓤) → FmC 𝓤 H (W .laws) C → {rest : Body} (opens-at : At) (opens₀ : List OpenStart) (k₀ : ℕ) (o₀ : OpenStart) (k₀-is : k₀ < 2 ^ 64) (o₀-is : Is OpenStart-T.the-row o₀ (LL.val OpenStart-T.the-type OpenStart-L.the-laws o₀ ∷ [])) (req : k₀ < length opens₀) → ((ν-opens : ℕ) → (δ-opens : GName) → ent 𝓤 (Con 𝓤 H A at-mem run .pre (to 𝓤 H A at-mem run opens-at opens₀ k₀ o₀ (relent opens-at ν-opens δ-opens))) (C #milestones·push (vs 𝓤 H A at-mem run opens-at opens₀ k₀ o₀) (Con 𝓤 H A at-mem run .post (to 𝓤 H A at-mem run opens-at opens₀ k₀ o₀ (relent opens-at ν-opens δ-opens))))) → Opds K W (raw (C #milestones·push (vs 𝓤 H A at-mem run opens-at opens₀ k₀ o₀) (λ v. mean 𝓤 H A (After 𝓤 H A at-mem run opens-at opens₀ k₀ o₀ v))) ∷ Γ) E xs (vs 𝓤 H A at-mem run opens-at opens₀ k₀ o₀)
       → ((z : Z 𝓤 H A at-mem run opens-at opens₀ k₀ o₀) → Says 𝓤 H A at-mem run opens-at opens₀ k₀ o₀ (vunit ∷ []) z → Seq K W (‵ (HasMut OpenStart-T.the-row opens-at (z .1 .0)) ∷ Γ) (lands C Λ E dst vunit rest q)) → Seq K W (‵ (HasMut OpenStart-T.the-row opens-at opens₀) ∷ Γ) (runs C Λ E (seq (call #milestones·push xs dst) rest) q)
   calls-push t at-mem run fm {rest} opens-at opens₀ k₀ o₀ k₀-is o₀-is req met os k =
       cut (‵ (HasMut OpenStart-T.the-row opens-at opens₀) ∷ []) (later (raw (C #milestones·push (vs 𝓤 H A at-mem run opens-at opens₀ k₀ o₀) (λ v. mean 𝓤 H A (After 𝓤 H A at-mem run opens-at opens₀ k₀ o₀ v)))) ∷ []) Γ (called 𝓤 H A at-mem run opens-at opens₀ k₀ o₀ W C fm k₀-is o₀-is req met) $ await t tt $ calls t fm (After 𝓤 H A at-mem run opens-at opens₀ k₀ o₀) os (λ v. await t tt $ pick t (λ z. learn t (λ s. subst (λ (u : Val). Seq K W (‵ (HasMut OpenStart-T.the-row opens-at (z .1 .0)) ∷ Γ) (lands C Λ E dst u rest q)) (sym (ap only (nothing-tells (z .0) (v ∷ []) (s .0)))) (k z (subst (Is unit (z .0)) (nothing-tells (z .0) (v ∷ []) (s .0)) (s .0), (s .1 .0, s .1 .1))))))
 
 module _ {M : Type 1} {𝓤 : URA M} {H : Heap 𝓤} {A : Atoms 𝓤} {K : Type 0} {W : Given 𝓤 H A} {Γ : List (Item 𝓤)} {E : Env 𝓤 H} {C : Calls 𝓤 H} {Λ : Loops 𝓤 H} {q : PostOf 𝓤 H} {dst : Place} {xs : List Operand} where
-  pub calls-push-last : K → (at-mem : Memory → SProp 𝓤) (run : Routine → Fun 𝓤) → FmC 𝓤 H (W .laws) C → (opens-at : At) (opens₀ : List OpenStart) (k₀ : ℕ) (o₀ : OpenStart) (k₀-is : k₀ < 2 ^ 64) (o₀-is : Is OpenStart-T.the-row o₀ (LL.val OpenStart-T.the-type OpenStart-L.the-laws o₀ ∷ [])) (req : k₀ < length opens₀) → ((ν-opens : ℕ) → (δ-opens : GName) → ent 𝓤 (Con 𝓤 H A at-mem run .pre (to 𝓤 H A at-mem run opens-at opens₀ k₀ o₀ (lent opens-at ν-opens δ-opens))) (C #milestones·push (vs 𝓤 H A at-mem run opens-at opens₀ k₀ o₀) (Con 𝓤 H A at-mem run .post (to 𝓤 H A at-mem run opens-at opens₀ k₀ o₀ (lent opens-at ν-opens δ-opens))))) → Opds K W (raw (C #milestones·push (vs 𝓤 H A at-mem run opens-at opens₀ k₀ o₀) (λ v. mean 𝓤 H A (After 𝓤 H A at-mem run opens-at opens₀ k₀ o₀ v))) ∷ Γ) E xs (vs 𝓤 H A at-mem run opens-at opens₀ k₀ o₀)
+  pub calls-push-last : K → (at-mem : Memory → SProp 𝓤) (run : Routine → Fun 𝓤) → FmC 𝓤 H (W .laws) C → (opens-at : At) (opens₀ : List OpenStart) (k₀ : ℕ) (o₀ : OpenStart) (k₀-is : k₀ < 2 ^ 64) (o₀-is : Is OpenStart-T.the-row o₀ (LL.val OpenStart-T.the-type OpenStart-L.the-laws o₀ ∷ [])) (req : k₀ < length opens₀) → ((ν-opens : ℕ) → (δ-opens : GName) → ent 𝓤 (Con 𝓤 H A at-mem run .pre (to 𝓤 H A at-mem run opens-at opens₀ k₀ o₀ (relent opens-at ν-opens δ-opens))) (C #milestones·push (vs 𝓤 H A at-mem run opens-at opens₀ k₀ o₀) (Con 𝓤 H A at-mem run .post (to 𝓤 H A at-mem run opens-at opens₀ k₀ o₀ (relent opens-at ν-opens δ-opens))))) → Opds K W (raw (C #milestones·push (vs 𝓤 H A at-mem run opens-at opens₀ k₀ o₀) (λ v. mean 𝓤 H A (After 𝓤 H A at-mem run opens-at opens₀ k₀ o₀ v))) ∷ Γ) E xs (vs 𝓤 H A at-mem run opens-at opens₀ k₀ o₀)
       → ((z : Z 𝓤 H A at-mem run opens-at opens₀ k₀ o₀) → Says 𝓤 H A at-mem run opens-at opens₀ k₀ o₀ (vunit ∷ []) z → Seq K W (‵ (HasMut OpenStart-T.the-row opens-at (z .1 .0)) ∷ Γ) (settles E dst vunit q)) → Seq K W (‵ (HasMut OpenStart-T.the-row opens-at opens₀) ∷ Γ) (runs C Λ E (call #milestones·push xs dst) q)
   calls-push-last t at-mem run fm opens-at opens₀ k₀ o₀ k₀-is o₀-is req met os k =
       cut (‵ (HasMut OpenStart-T.the-row opens-at opens₀) ∷ []) (later (raw (C #milestones·push (vs 𝓤 H A at-mem run opens-at opens₀ k₀ o₀) (λ v. mean 𝓤 H A (After 𝓤 H A at-mem run opens-at opens₀ k₀ o₀ v)))) ∷ []) Γ (called 𝓤 H A at-mem run opens-at opens₀ k₀ o₀ W C fm k₀-is o₀-is req met) $ await t tt $ calls-last t fm (After 𝓤 H A at-mem run opens-at opens₀ k₀ o₀) os (λ v. await t tt $ pick t (λ z. learn t (λ s. subst (λ (u : Val). Seq K W (‵ (HasMut OpenStart-T.the-row opens-at (z .1 .0)) ∷ Γ) (settles E dst u q)) (sym (ap only (nothing-tells (z .0) (v ∷ []) (s .0)))) (k z (subst (Is unit (z .0)) (nothing-tells (z .0) (v ∷ []) (s .0)) (s .0), (s .1 .0, s .1 .1))))))

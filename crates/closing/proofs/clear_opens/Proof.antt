@@ -33,7 +33,7 @@ use denote.Memory.{mem, cellAt, pointee}
 use denote.Plain.{uint-vals, uint-tells, uint-makes, bool-vals, bool-tells, bool-makes, nothing-vals, nothing-tells, nothing-makes}
 use denote.Builtin.{u8, u16, u32, u64, usize, bool, unit}
 use denote.Ref.{RefT, MutRef, ptr-vals, mut-tells}
-use denote.Slice.{Room, sliceTy, MutSlice, ShrSlice, slice-vals, mut-slice-tells, shr-slice-tells}
+use denote.Slice.{Room as SizeOf, sliceTy, MutSlice, ShrSlice, slice-vals, mut-slice-tells, shr-slice-tells}
 use denote.Signature.{plain}
 use denote.Index.{place-is}
 use denote.Steps.{only, owned, facts, heard, nothing}
@@ -45,10 +45,10 @@ use denote.Triple.Entry.{onEntry}
 use denote.Triple.Spec.{Meets, tripleOf}
 use denote.Triple.Table.{entered, cited}
 use denote.Triple.Cycle.{measured, at-on, mutual-elim, AllBelow}
-use denote.Triple.Walked.{says, needs, Stays, stay-none, stay-none-slice, stay-ref, stay-slice, walkOf, goes-none, goes-none-slice, goes-ref, goes-slice, Walks, ends-at, walked, walk-meets, walked-at, walk-meets-at}
+use denote.Triple.Walked.{says, needs, Stays, stay-none, stay-none-slice, stay-ref, stay-slice, walkOf, goes-none, goes-none-slice, goes-ref, goes-slice, Walks, ends-at as exit-at, walked, walk-meets, walked-at, walk-meets-at}
 use denote.Exit.{yes}
 use Rattle.references.proofs.Flow.{if-then, skip-then, exit-then, switch-then, assoc-then, loop-then, meets-at, frees-any}
-use Rattle.references.proofs.Hand.{At, lent, ptrVal, fatVal, ref, HasRef, HasMut, HasShr, KeptRef, KeptMut, KeptShr, OpenRef, OpenAt, lend-ref, back-ref, lend-mut, back-mut, lend-shr, back-shr, open-ref, shut-ref, open-at, shut-at, back-at}
+use Rattle.references.proofs.Hand.{At, lent as relent, ptrVal, fatVal, ref, HasRef, HasMut, HasShr, KeptRef, KeptMut, KeptShr, OpenRef, OpenAt, lend-ref, back-ref, lend-mut, back-mut, lend-shr, back-shr, open-ref, shut-ref, open-at, shut-at, back-at}
 use Rattle.findings.specs.declared.Counts.{Counts}
 use Rattle.findings.proofs.Counts as Counts-T
 use Rattle.findings.proofs.Counts.Laws as Counts-L
@@ -109,7 +109,7 @@ abbrev τ7 : Ty
 τ7 = tyPtr
 
 module _ {M : Type 1} (𝓤 : URA M) (H : Heap 𝓤) (A : Atoms 𝓤) (W : Given 𝓤 H A) (at-mem : Memory → SProp 𝓤) (run : Routine → Fun 𝓤) (opens-at : At) (opens₀ : List OpenStart) (n₀ : ℕ)
-    (opens-room : Room OpenStart-T.the-row (opens-at .n)) (opens-n : opens-at .n ≡ length opens₀) (n₀-is : n₀ < 2 ^ 64) (req : n₀ ≤ length opens₀) where
+    (opens-room : SizeOf OpenStart-T.the-row (opens-at .n)) (opens-n : opens-at .n ≡ length opens₀) (n₀-is : n₀ < 2 ^ 64) (req : n₀ ≤ length opens₀) where
   abbrev Y : walkOf 𝓤 H A clear-opens-F.ended stayed (clear-opens-F.clauses 𝓤 H A at-mem run) .Ghost
   Y = (((opens-at .κ, tt), (opens-at .q, tt), tt, (ref opens-at opens₀, (n₀, tt)), (fatVal opens-at ∷ [], (vint w64 n₀ ∷ [], tt))), tt)
 
@@ -118,7 +118,7 @@ module _ {M : Type 1} (𝓤 : URA M) (H : Heap 𝓤) (A : Atoms 𝓤) (W : Given
 
   exits : (r : Unit {0}) (opens₁ : List OpenStart) (len-opens : length opens₁ ≡ length opens₀) (e : opens₁ ≡ cleared noStart n₀ opens₀) → ent 𝓤 (⋆ 𝓤 H A (‵ (HasMut OpenStart-T.the-row opens-at opens₁) ∷ [])) (Post (vunit))
   exits r opens₁ len-opens e =
-      qed W (‵ (HasMut OpenStart-T.the-row opens-at opens₁) ∷ []) ∵ suffices ! _ (ends-at 𝓤 H A clear-opens-F.ended stayed (clear-opens-F.clauses 𝓤 H A at-mem run) W Y (vunit) r (opens₁, (tt, tt)) (len-opens, (tt, tt))) $ says ! e $ fsplit ! $ nothing ! $ move ! (2 ∷ 0 ∷ []) $ join ! $ frame ! $ nothing ! $ owned ! usize (Is usize) (uint-makes 𝓤 H A W w64) n₀ _ (refl, n₀-is) $ fjoin ! $ move ! (1 ∷ 0 ∷ []) $ fjoin ! $ owned ! unit (Is unit) (nothing-makes 𝓤 H A W) r _ refl $ move ! (1 ∷ 0 ∷ []) $ done !
+      qed W (‵ (HasMut OpenStart-T.the-row opens-at opens₁) ∷ []) ∵ suffices ! _ (exit-at 𝓤 H A clear-opens-F.ended stayed (clear-opens-F.clauses 𝓤 H A at-mem run) W Y (vunit) r (opens₁, (tt, tt)) (len-opens, (tt, tt))) $ says ! e $ fsplit ! $ nothing ! $ move ! (2 ∷ 0 ∷ []) $ join ! $ frame ! $ nothing ! $ owned ! usize (Is usize) (uint-makes 𝓤 H A W w64) n₀ _ (refl, n₀-is) $ fjoin ! $ move ! (1 ∷ 0 ∷ []) $ fjoin ! $ owned ! unit (Is unit) (nothing-makes 𝓤 H A W) r _ refl $ move ! (1 ∷ 0 ∷ []) $ done !
 
   entry : ent 𝓤 (onEntry 𝓤 H A clear-opens-F.signature (opens-at .κ, tt) (opens-at .q, tt) (ref opens-at opens₀, (n₀, tt)) (fatVal opens-at ∷ [], (vint w64 n₀ ∷ [], tt))) (⋆ 𝓤 H A (‵ (HasMut OpenStart-T.the-row opens-at opens₀) ∷ []))
   entry =

@@ -33,7 +33,7 @@ use denote.Memory.{mem, cellAt, pointee}
 use denote.Plain.{uint-vals, uint-tells, uint-makes, bool-vals, bool-tells, bool-makes, nothing-vals, nothing-tells, nothing-makes}
 use denote.Builtin.{u8, u16, u32, u64, usize, bool, unit}
 use denote.Ref.{RefT, MutRef, ptr-vals, mut-tells}
-use denote.Slice.{Room, sliceTy, MutSlice, ShrSlice, slice-vals, mut-slice-tells, shr-slice-tells}
+use denote.Slice.{Room as SizeOf, sliceTy, MutSlice, ShrSlice, slice-vals, mut-slice-tells, shr-slice-tells}
 use denote.Signature.{plain}
 use denote.Index.{place-is}
 use denote.Steps.{only, owned, facts, heard, nothing}
@@ -45,10 +45,10 @@ use denote.Triple.Entry.{onEntry}
 use denote.Triple.Spec.{Meets, tripleOf}
 use denote.Triple.Table.{entered, cited}
 use denote.Triple.Cycle.{measured, at-on, mutual-elim, AllBelow}
-use denote.Triple.Walked.{says, needs, Stays, stay-none, stay-none-slice, stay-ref, stay-slice, walkOf, goes-none, goes-none-slice, goes-ref, goes-slice, Walks, ends-at, walked, walk-meets, walked-at, walk-meets-at}
+use denote.Triple.Walked.{says, needs, Stays, stay-none, stay-none-slice, stay-ref, stay-slice, walkOf, goes-none, goes-none-slice, goes-ref, goes-slice, Walks, ends-at as exit-at, walked, walk-meets, walked-at, walk-meets-at}
 use denote.Exit.{yes}
 use Rattle.references.proofs.Flow.{if-then, skip-then, exit-then, switch-then, assoc-then, loop-then, meets-at, frees-any}
-use Rattle.references.proofs.Hand.{At, lent, ptrVal, fatVal, ref, HasRef, HasMut, HasShr, KeptRef, KeptMut, KeptShr, OpenRef, OpenAt, lend-ref, back-ref, lend-mut, back-mut, lend-shr, back-shr, open-ref, shut-ref, open-at, shut-at, back-at}
+use Rattle.references.proofs.Hand.{At, lent as relent, ptrVal, fatVal, ref, HasRef, HasMut, HasShr, KeptRef, KeptMut, KeptShr, OpenRef, OpenAt, lend-ref, back-ref, lend-mut, back-mut, lend-shr, back-shr, open-ref, shut-ref, open-at, shut-at, back-at}
 use Rattle.findings.specs.declared.Counts.{Counts}
 use Rattle.findings.proofs.Counts as Counts-T
 use Rattle.findings.proofs.Counts.Laws as Counts-L
@@ -141,7 +141,7 @@ abbrev τ15 : Ty
 τ15 = sliceTy (tyRef erased mut (tyInt w64))
 
 module _ {M : Type 1} (𝓤 : URA M) (H : Heap 𝓤) (A : Atoms 𝓤) (W : Given 𝓤 H A) (at-mem : Memory → SProp 𝓤) (run : Routine → Fun 𝓤) (source-at : At) (source₀ : List ℕ) (tape-at : At) (tape₀ : List ℕ) (opens-at : At) (opens₀ : List OpenStart) (rec₀ : Record) (list-at : At) (list₀ : List ℕ)
-    (source-room : Room u8 (source-at .n)) (source-n : source-at .n ≡ length source₀) (tape-room : Room u8 (tape-at .n)) (tape-n : tape-at .n ≡ length tape₀) (opens-room : Room OpenStart-T.the-row (opens-at .n)) (opens-n : opens-at .n ≡ length opens₀) (rec₀-is : Is Record-T.the-row rec₀ (LL.val Record-T.the-type Record-L.the-laws rec₀ ∷ [])) (list-room : Room u64 (list-at .n)) (list-n : list-at .n ≡ length list₀) (req : Left source₀ tape₀ opens₀ rec₀) where
+    (source-room : SizeOf u8 (source-at .n)) (source-n : source-at .n ≡ length source₀) (tape-room : SizeOf u8 (tape-at .n)) (tape-n : tape-at .n ≡ length tape₀) (opens-room : SizeOf OpenStart-T.the-row (opens-at .n)) (opens-n : opens-at .n ≡ length opens₀) (rec₀-is : Is Record-T.the-row rec₀ (LL.val Record-T.the-type Record-L.the-laws rec₀ ∷ [])) (list-room : SizeOf u64 (list-at .n)) (list-n : list-at .n ≡ length list₀) (req : Left source₀ tape₀ opens₀ rec₀) where
   abbrev Y : walkOf 𝓤 H A unclosed-F.ended stayed (unclosed-F.clauses 𝓤 H A at-mem run) .Ghost
   Y = (((source-at .κ, (tape-at .κ, (opens-at .κ, (list-at .κ, tt)))), (source-at .q, (tape-at .q, (opens-at .q, (list-at .q, tt)))), tt, (ref source-at source₀, (ref tape-at tape₀, (ref opens-at opens₀, (rec₀, (ref list-at list₀, tt))))), (fatVal source-at ∷ [], (fatVal tape-at ∷ [], (fatVal opens-at ∷ [], (LL.val Record-T.the-type Record-L.the-laws rec₀ ∷ [], (fatVal list-at ∷ [], tt)))))), tt)
 
@@ -150,7 +150,7 @@ module _ {M : Type 1} (𝓤 : URA M) (H : Heap 𝓤) (A : Atoms 𝓤) (W : Given
 
   exits : (r : Counts) (opens₁ : List OpenStart) (list₁ : List ℕ) (r-is : Is Counts-T.the-row r (LL.val Counts-T.the-type Counts-L.the-laws r ∷ [])) (len-opens : length opens₁ ≡ length opens₀) (len-list : length list₁ ≡ length list₀) (e : (opens₁ ≡ opens₀) × Wrote (Document.unclosed (starts source₀ tape₀ opens₀ (rec₀ .«open»))) list₀ (countsOf rec₀) list₁ r) → ent 𝓤 (⋆ 𝓤 H A (‵ (HasShr u8 source-at source₀) ∷ ‵ (HasShr u8 tape-at tape₀) ∷ ‵ (HasMut OpenStart-T.the-row opens-at opens₁) ∷ ‵ (HasMut u64 list-at list₁) ∷ [])) (Post (LL.val Counts-T.the-type Counts-L.the-laws r))
   exits r opens₁ list₁ r-is len-opens len-list e =
-      qed W (‵ (HasShr u8 source-at source₀) ∷ ‵ (HasShr u8 tape-at tape₀) ∷ ‵ (HasMut OpenStart-T.the-row opens-at opens₁) ∷ ‵ (HasMut u64 list-at list₁) ∷ []) ∵ suffices ! _ (ends-at 𝓤 H A unclosed-F.ended stayed (unclosed-F.clauses 𝓤 H A at-mem run) W Y (LL.val Counts-T.the-type Counts-L.the-laws r) r (tt, (tt, (opens₁, (tt, (list₁, tt))))) (tt, (tt, (len-opens, (tt, (len-list, tt)))))) $ says ! e $ fsplit ! $ move ! (2 ∷ []) $ fsplit ! $ move ! (4 ∷ []) $ fsplit ! $ move ! (6 ∷ []) $ fsplit ! $ nothing ! $ move ! (2 ∷ 0 ∷ []) $ join ! $ move ! (3 ∷ 0 ∷ []) $ join ! $ move ! (4 ∷ 0 ∷ []) $ join ! $ move ! (5 ∷ 0 ∷ []) $ join ! $ frame ! $ nothing ! $ move ! (1 ∷ 0 ∷ []) $ fjoin ! $ owned ! Record-T.the-row (Is Record-T.the-row) (LL.makes Record-T.the-type Record-L.the-plain 𝓤 H A) rec₀ _ rec₀-is $ fjoin ! $ move ! (1 ∷ 0 ∷ []) $ fjoin ! $ move ! (1 ∷ 0 ∷ []) $ fjoin ! $ move ! (1 ∷ 0 ∷ []) $ fjoin ! $ owned ! Counts-T.the-row (Is Counts-T.the-row) (LL.makes Counts-T.the-type Counts-L.the-plain 𝓤 H A) r _ r-is $ move ! (1 ∷ 0 ∷ []) $ done !
+      qed W (‵ (HasShr u8 source-at source₀) ∷ ‵ (HasShr u8 tape-at tape₀) ∷ ‵ (HasMut OpenStart-T.the-row opens-at opens₁) ∷ ‵ (HasMut u64 list-at list₁) ∷ []) ∵ suffices ! _ (exit-at 𝓤 H A unclosed-F.ended stayed (unclosed-F.clauses 𝓤 H A at-mem run) W Y (LL.val Counts-T.the-type Counts-L.the-laws r) r (tt, (tt, (opens₁, (tt, (list₁, tt))))) (tt, (tt, (len-opens, (tt, (len-list, tt)))))) $ says ! e $ fsplit ! $ move ! (2 ∷ []) $ fsplit ! $ move ! (4 ∷ []) $ fsplit ! $ move ! (6 ∷ []) $ fsplit ! $ nothing ! $ move ! (2 ∷ 0 ∷ []) $ join ! $ move ! (3 ∷ 0 ∷ []) $ join ! $ move ! (4 ∷ 0 ∷ []) $ join ! $ move ! (5 ∷ 0 ∷ []) $ join ! $ frame ! $ nothing ! $ move ! (1 ∷ 0 ∷ []) $ fjoin ! $ owned ! Record-T.the-row (Is Record-T.the-row) (LL.makes Record-T.the-type Record-L.the-plain 𝓤 H A) rec₀ _ rec₀-is $ fjoin ! $ move ! (1 ∷ 0 ∷ []) $ fjoin ! $ move ! (1 ∷ 0 ∷ []) $ fjoin ! $ move ! (1 ∷ 0 ∷ []) $ fjoin ! $ owned ! Counts-T.the-row (Is Counts-T.the-row) (LL.makes Counts-T.the-type Counts-L.the-plain 𝓤 H A) r _ r-is $ move ! (1 ∷ 0 ∷ []) $ done !
 
   entry : ent 𝓤 (onEntry 𝓤 H A unclosed-F.signature (source-at .κ, (tape-at .κ, (opens-at .κ, (list-at .κ, tt)))) (source-at .q, (tape-at .q, (opens-at .q, (list-at .q, tt)))) (ref source-at source₀, (ref tape-at tape₀, (ref opens-at opens₀, (rec₀, (ref list-at list₀, tt))))) (fatVal source-at ∷ [], (fatVal tape-at ∷ [], (fatVal opens-at ∷ [], (LL.val Record-T.the-type Record-L.the-laws rec₀ ∷ [], (fatVal list-at ∷ [], tt)))))) (⋆ 𝓤 H A (‵ (HasShr u8 source-at source₀) ∷ ‵ (HasShr u8 tape-at tape₀) ∷ ‵ (HasMut OpenStart-T.the-row opens-at opens₀) ∷ ‵ (HasMut u64 list-at list₀) ∷ []))
   entry =
@@ -204,7 +204,7 @@ module _ {M : Type 1} (𝓤 : URA M) (H : Heap 𝓤) (A : Atoms 𝓤) (W : Given
         assigns ! (addr ! (from ! (fld ! refl (hop ! (look-in ! 7 (sub ! 0 refl (whole !))) (stop !))))) (from ! (stop !)) (init ! 16 refl (tt, tt)) $
         assigns ! (agg ! (and-then ! (load ! (from ! (stop !)) (look ! 16 refl)) (and-then ! (load ! (from ! (fld ! refl (stop !))) (look-in ! 7 (sub ! 1 refl (whole !)))) (no-more !)))) (from ! (stop !)) (init ! 17 refl (tt, (tt, (record { fits = (list-room .0) }, tt)))) $
         move ! (19 ∷ 20 ∷ []) $ let req-tell-open : Tellable tape₀ (getD opens₀ (y100 .1 .0) (noStart)) (y100 .0) = tellable inv-100 test-0 in
-        tell-open-C.calls-tell-open ! at-mem run fm tape-at tape₀ (getD opens₀ (y100 .1 .0) (noStart)) list-at (y100 .1 .1 .0) (y100 .0) open-1 is-c-100 req-tell-open (λ ν-list δ-list. known-tell-open (tell-open-C.to 𝓤 H A at-mem run tape-at tape₀ (getD opens₀ (y100 .1 .0) (noStart)) list-at (y100 .1 .1 .0) (y100 .0) tape-at (lent list-at ν-list δ-list)))
+        tell-open-C.calls-tell-open ! at-mem run fm tape-at tape₀ (getD opens₀ (y100 .1 .0) (noStart)) list-at (y100 .1 .1 .0) (y100 .0) open-1 is-c-100 req-tell-open (λ ν-list δ-list. known-tell-open (tell-open-C.to 𝓤 H A at-mem run tape-at tape₀ (getD opens₀ (y100 .1 .0) (noStart)) list-at (y100 .1 .1 .0) (y100 .0) tape-at (relent list-at ν-list δ-list)))
         (and-then ! (load ! (from ! (stop !)) (look ! 5 refl)) (and-then ! (load ! (from ! (stop !)) (look ! 12 refl)) (and-then ! (load ! (from ! (stop !)) (look ! 18 refl)) (and-then ! (load ! (from ! (stop !)) (look ! 10 refl)) (no-more !))))) (λ z-tell-open s-tell-open.
         let len-tell-open-list : length (z-tell-open .1 .0) ≡ length (y100 .1 .1 .0) = s-tell-open .1 .0 in
         let says-tell-open : Wrote (ofOpen tape₀ (getD opens₀ (y100 .1 .0) (noStart))) (y100 .1 .1 .0) (y100 .0) (z-tell-open .1 .0) (z-tell-open .0) = s-tell-open .1 .1 in

@@ -45,10 +45,10 @@ use denote.Triple.Entry.{onEntry}
 use denote.Triple.Spec.{Meets, tripleOf}
 use denote.Triple.Table.{entered, cited}
 use denote.Triple.Cycle.{measured, at-on, mutual-elim, AllBelow}
-use denote.Triple.Walked.{says, needs, Stays, stay-none, stay-none-slice, stay-ref, stay-slice, walkOf, goes-none, goes-none-slice, goes-ref, goes-slice, Walks, ends-at, walked, walk-meets, walked-at, walk-meets-at}
+use denote.Triple.Walked.{says, needs, Stays, stay-none, stay-none-slice, stay-ref, stay-slice, walkOf, goes-none, goes-none-slice, goes-ref, goes-slice, Walks, ends-at as exit-at, walked, walk-meets, walked-at, walk-meets-at}
 use denote.Exit.{yes}
 use Rattle.references.proofs.Flow.{if-then, skip-then, exit-then, switch-then, assoc-then, loop-then, meets-at, frees-any}
-use Rattle.references.proofs.Hand.{At, lent, ptrVal, fatVal, ref, HasRef, HasMut, HasShr, KeptRef, KeptMut, KeptShr, OpenRef, OpenAt, lend-ref, back-ref, lend-mut, back-mut, lend-shr, back-shr, open-ref, shut-ref, open-at, shut-at, back-at}
+use Rattle.references.proofs.Hand.{At, lent as relent, ptrVal, fatVal, ref, HasRef, HasMut, HasShr, KeptRef, KeptMut, KeptShr, OpenRef, OpenAt, lend-ref, back-ref, lend-mut, back-mut, lend-shr, back-shr, open-ref, shut-ref, open-at, shut-at, back-at}
 use Rattle.milestones.specs.declared.Found.{Found}
 use Rattle.milestones.proofs.Found as Found-T
 use Rattle.milestones.proofs.Found.Laws as Found-L
@@ -166,7 +166,7 @@ module _ {M : Type 1} (𝓤 : URA M) (H : Heap 𝓤) (A : Atoms 𝓤) (W : Given
 
   exits : (r : Record) (opens₁ : List OpenStart) (list₁ : List ℕ) (r-is : Is Record-T.the-row r (LL.val Record-T.the-type Record-L.the-laws r ∷ [])) (len-opens : length opens₁ ≡ length opens₀) (len-list : length list₁ ≡ length list₀) (e : Milestoned (entryOfInfo m₀) source₀ tape₀ i₀ opens₀ list₀ rec₀ opens₁ list₁ r) → ent 𝓤 (⋆ 𝓤 H A (‵ (HasShr u8 source-at source₀) ∷ ‵ (HasShr u8 tape-at tape₀) ∷ ‵ (HasMut OpenStart-T.the-row opens-at opens₁) ∷ ‵ (HasMut u64 list-at list₁) ∷ [])) (Post (LL.val Record-T.the-type Record-L.the-laws r))
   exits r opens₁ list₁ r-is len-opens len-list e =
-      qed W (‵ (HasShr u8 source-at source₀) ∷ ‵ (HasShr u8 tape-at tape₀) ∷ ‵ (HasMut OpenStart-T.the-row opens-at opens₁) ∷ ‵ (HasMut u64 list-at list₁) ∷ []) ∵ suffices ! _ (ends-at 𝓤 H A milestone-F.ended stayed (milestone-F.clauses 𝓤 H A at-mem run) W Y (LL.val Record-T.the-type Record-L.the-laws r) r (tt, (tt, (tt, (tt, (opens₁, (tt, (list₁, tt))))))) (tt, (tt, (tt, (tt, (len-opens, (tt, (len-list, tt)))))))) $ says ! e $ fsplit ! $ move ! (2 ∷ []) $ fsplit ! $ move ! (4 ∷ []) $ fsplit ! $ move ! (6 ∷ []) $ fsplit ! $ nothing ! $ move ! (2 ∷ 0 ∷ []) $ join ! $ move ! (3 ∷ 0 ∷ []) $ join ! $ move ! (4 ∷ 0 ∷ []) $ join ! $ move ! (5 ∷ 0 ∷ []) $ join ! $ frame ! $ nothing ! $ move ! (1 ∷ 0 ∷ []) $ fjoin ! $ owned ! Record-T.the-row (Is Record-T.the-row) (LL.makes Record-T.the-type Record-L.the-plain 𝓤 H A) rec₀ _ rec₀-is $ fjoin ! $ move ! (1 ∷ 0 ∷ []) $ fjoin ! $ owned ! usize (Is usize) (uint-makes 𝓤 H A W w64) i₀ _ (refl, i₀-is) $ fjoin ! $ move ! (1 ∷ 0 ∷ []) $ fjoin ! $ move ! (1 ∷ 0 ∷ []) $ fjoin ! $ owned ! MarkerInfo-T.the-row (Is MarkerInfo-T.the-row) (LL.makes MarkerInfo-T.the-type MarkerInfo-L.the-plain 𝓤 H A) m₀ _ m₀-is $ fjoin ! $ owned ! Record-T.the-row (Is Record-T.the-row) (LL.makes Record-T.the-type Record-L.the-plain 𝓤 H A) r _ r-is $ move ! (1 ∷ 0 ∷ []) $ done !
+      qed W (‵ (HasShr u8 source-at source₀) ∷ ‵ (HasShr u8 tape-at tape₀) ∷ ‵ (HasMut OpenStart-T.the-row opens-at opens₁) ∷ ‵ (HasMut u64 list-at list₁) ∷ []) ∵ suffices ! _ (exit-at 𝓤 H A milestone-F.ended stayed (milestone-F.clauses 𝓤 H A at-mem run) W Y (LL.val Record-T.the-type Record-L.the-laws r) r (tt, (tt, (tt, (tt, (opens₁, (tt, (list₁, tt))))))) (tt, (tt, (tt, (tt, (len-opens, (tt, (len-list, tt)))))))) $ says ! e $ fsplit ! $ move ! (2 ∷ []) $ fsplit ! $ move ! (4 ∷ []) $ fsplit ! $ move ! (6 ∷ []) $ fsplit ! $ nothing ! $ move ! (2 ∷ 0 ∷ []) $ join ! $ move ! (3 ∷ 0 ∷ []) $ join ! $ move ! (4 ∷ 0 ∷ []) $ join ! $ move ! (5 ∷ 0 ∷ []) $ join ! $ frame ! $ nothing ! $ move ! (1 ∷ 0 ∷ []) $ fjoin ! $ owned ! Record-T.the-row (Is Record-T.the-row) (LL.makes Record-T.the-type Record-L.the-plain 𝓤 H A) rec₀ _ rec₀-is $ fjoin ! $ move ! (1 ∷ 0 ∷ []) $ fjoin ! $ owned ! usize (Is usize) (uint-makes 𝓤 H A W w64) i₀ _ (refl, i₀-is) $ fjoin ! $ move ! (1 ∷ 0 ∷ []) $ fjoin ! $ move ! (1 ∷ 0 ∷ []) $ fjoin ! $ owned ! MarkerInfo-T.the-row (Is MarkerInfo-T.the-row) (LL.makes MarkerInfo-T.the-type MarkerInfo-L.the-plain 𝓤 H A) m₀ _ m₀-is $ fjoin ! $ owned ! Record-T.the-row (Is Record-T.the-row) (LL.makes Record-T.the-type Record-L.the-plain 𝓤 H A) r _ r-is $ move ! (1 ∷ 0 ∷ []) $ done !
 
   entry : ent 𝓤 (onEntry 𝓤 H A milestone-F.signature (source-at .κ, (tape-at .κ, (opens-at .κ, (list-at .κ, tt)))) (source-at .q, (tape-at .q, (opens-at .q, (list-at .q, tt)))) (m₀, (ref source-at source₀, (ref tape-at tape₀, (i₀, (ref opens-at opens₀, (rec₀, (ref list-at list₀, tt))))))) (LL.val MarkerInfo-T.the-type MarkerInfo-L.the-laws m₀ ∷ [], (fatVal source-at ∷ [], (fatVal tape-at ∷ [], (vint w64 i₀ ∷ [], (fatVal opens-at ∷ [], (LL.val Record-T.the-type Record-L.the-laws rec₀ ∷ [], (fatVal list-at ∷ [], tt)))))))) (⋆ 𝓤 H A (‵ (HasShr u8 source-at source₀) ∷ ‵ (HasShr u8 tape-at tape₀) ∷ ‵ (HasMut OpenStart-T.the-row opens-at opens₀) ∷ ‵ (HasMut u64 list-at list₀) ∷ []))
   entry =
@@ -196,7 +196,7 @@ module _ {M : Type 1} (𝓤 : URA M) (H : Heap 𝓤) (A : Atoms 𝓤) (W : Given
         assigns ! (addr ! (from ! (fld ! refl (hop ! (look-in ! 8 (sub ! 0 refl (whole !))) (stop !))))) (from ! (stop !)) (init ! 13 refl (tt, tt)) $
         assigns ! (agg ! (and-then ! (load ! (from ! (stop !)) (look ! 13 refl)) (and-then ! (load ! (from ! (fld ! refl (stop !))) (look-in ! 8 (sub ! 1 refl (whole !)))) (no-more !)))) (from ! (stop !)) (init ! 14 refl (tt, (tt, (record { fits = (opens-room .0) }, tt)))) $
         move ! (0 ∷ 1 ∷ 17 ∷ []) $ let req-pair : (Opens source₀ tape₀ opens₀ (rec₀ .«open»)) × ((rec₀ .«open») < length opens₀) × (Placed source₀ (z-step-of .0)) = (req .known, req .more, read-placed (entryOfInfo m₀) source₀ tape₀ i₀ (z-step-of .0) says-step-of) in
-        pair-C.calls-pair ! at-mem run fm source-at source₀ tape-at tape₀ (z-step-of .0) opens-at opens₀ (rec₀ .«open») (s-step-of .0) ((LL.lawful Record-T.the-type Record-L.the-laws 𝓤 H A W .typed rec₀ _ rec₀-is .0) .1 .1 .1 .1 .1 .1 .1 .1 .1 .0 .fits) req-pair (λ ν-opens δ-opens. known-pair (pair-C.to 𝓤 H A at-mem run source-at source₀ tape-at tape₀ (z-step-of .0) opens-at opens₀ (rec₀ .«open») source-at tape-at (lent opens-at ν-opens δ-opens)))
+        pair-C.calls-pair ! at-mem run fm source-at source₀ tape-at tape₀ (z-step-of .0) opens-at opens₀ (rec₀ .«open») (s-step-of .0) ((LL.lawful Record-T.the-type Record-L.the-laws 𝓤 H A W .typed rec₀ _ rec₀-is .0) .1 .1 .1 .1 .1 .1 .1 .1 .1 .0 .fits) req-pair (λ ν-opens δ-opens. known-pair (pair-C.to 𝓤 H A at-mem run source-at source₀ tape-at tape₀ (z-step-of .0) opens-at opens₀ (rec₀ .«open») source-at tape-at (relent opens-at ν-opens δ-opens)))
         (and-then ! (load ! (from ! (stop !)) (look ! 4 refl)) (and-then ! (load ! (from ! (stop !)) (look ! 5 refl)) (and-then ! (load ! (from ! (stop !)) (look ! 10 refl)) (and-then ! (load ! (from ! (stop !)) (look ! 13 refl)) (and-then ! (load ! (from ! (fld ! refl (stop !))) (look-in ! 8 (sub ! 8 refl (whole !)))) (no-more !)))))) (λ z-pair s-pair.
         let len-pair-opens : length (z-pair .1 .0) ≡ length opens₀ = s-pair .1 .0 in
         let says-pair : ((z-pair .1 .0) ≡ opensBy (z-step-of .0) (takenBy source₀ tape₀ opens₀ (rec₀ .«open») (z-step-of .0)) opens₀ (rec₀ .«open»)) × ((z-pair .0) ≡ pairedBy (z-step-of .0) (takenBy source₀ tape₀ opens₀ (rec₀ .«open») (z-step-of .0)) (rec₀ .«open»)) = s-pair .1 .1 in
@@ -204,7 +204,7 @@ module _ {M : Type 1} (𝓤 : URA M) (H : Heap 𝓤) (A : Atoms 𝓤) (W : Given
         assigns ! (addr ! (from ! (fld ! refl (hop ! (look-in ! 11 (sub ! 0 refl (whole !))) (stop !))))) (from ! (stop !)) (init ! 16 refl (tt, tt)) $
         assigns ! (agg ! (and-then ! (load ! (from ! (stop !)) (look ! 16 refl)) (and-then ! (load ! (from ! (fld ! refl (stop !))) (look-in ! 11 (sub ! 1 refl (whole !)))) (no-more !)))) (from ! (stop !)) (init ! 17 refl (tt, (tt, (record { fits = (list-room .0) }, tt)))) $
         move ! (1 ∷ 18 ∷ []) $ let req-after-pair : (i₀ < count tape₀) × Countable tape₀ i₀ (z-pair .0) rec₀ = (req .spanned .inside, countable (entryOfInfo m₀) source₀ tape₀ i₀ opens₀ list₀ rec₀ (req .known) (z-step-of .0) says-step-of (z-pair .0) (says-pair .1) (req .room)) in
-        after-pair-C.calls-after-pair ! at-mem run fm tape-at tape₀ i₀ (z-pair .0) rec₀ list-at list₀ i₀-is (s-pair .0) rec₀-is req-after-pair (λ ν-list δ-list. known-after-pair (after-pair-C.to 𝓤 H A at-mem run tape-at tape₀ i₀ (z-pair .0) rec₀ list-at list₀ tape-at (lent list-at ν-list δ-list)))
+        after-pair-C.calls-after-pair ! at-mem run fm tape-at tape₀ i₀ (z-pair .0) rec₀ list-at list₀ i₀-is (s-pair .0) rec₀-is req-after-pair (λ ν-list δ-list. known-after-pair (after-pair-C.to 𝓤 H A at-mem run tape-at tape₀ i₀ (z-pair .0) rec₀ list-at list₀ tape-at (relent list-at ν-list δ-list)))
         (and-then ! (load ! (from ! (stop !)) (look ! 7 refl)) (and-then ! (load ! (from ! (stop !)) (look ! 8 refl)) (and-then ! (load ! (from ! (stop !)) (look ! 13 refl)) (and-then ! (load ! (from ! (stop !)) (look ! 10 refl)) (and-then ! (load ! (from ! (stop !)) (look ! 17 refl)) (no-more !)))))) (λ z-after-pair s-after-pair.
         let len-after-pair-list : length (z-after-pair .1 .0) ≡ length list₀ = s-after-pair .1 .0 in
         let says-after-pair : Counted tape₀ i₀ (z-pair .0) list₀ rec₀ (z-after-pair .1 .0) (z-after-pair .0) = s-after-pair .1 .1 in

@@ -45,10 +45,10 @@ use denote.Triple.Entry.{onEntry}
 use denote.Triple.Spec.{Meets, tripleOf}
 use denote.Triple.Table.{entered, cited}
 use denote.Triple.Cycle.{measured, at-on, mutual-elim, AllBelow}
-use denote.Triple.Walked.{says, needs, Stays, stay-none, stay-none-slice, stay-ref, stay-slice, walkOf, goes-none, goes-none-slice, goes-ref, goes-slice, Walks, ends-at, walked, walk-meets, walked-at, walk-meets-at}
+use denote.Triple.Walked.{says, needs, Stays, stay-none, stay-none-slice, stay-ref, stay-slice, walkOf, goes-none, goes-none-slice, goes-ref, goes-slice, Walks, ends-at as exit-at, walked, walk-meets, walked-at, walk-meets-at}
 use denote.Exit.{yes}
 use Rattle.references.proofs.Flow.{if-then, skip-then, exit-then, switch-then, assoc-then, loop-then, meets-at, frees-any}
-use Rattle.references.proofs.Hand.{At, lent, ptrVal, fatVal, ref, HasRef, HasMut, HasShr, KeptRef, KeptMut, KeptShr, OpenRef, OpenAt, lend-ref, back-ref, lend-mut, back-mut, lend-shr, back-shr, open-ref, shut-ref, open-at, shut-at, back-at}
+use Rattle.references.proofs.Hand.{At, lent as relent, ptrVal, fatVal, ref, HasRef, HasMut, HasShr, KeptRef, KeptMut, KeptShr, OpenRef, OpenAt, lend-ref, back-ref, lend-mut, back-mut, lend-shr, back-shr, open-ref, shut-ref, open-at, shut-at, back-at}
 use Rattle.milestones.specs.declared.Found.{Found}
 use Rattle.milestones.proofs.Found as Found-T
 use Rattle.milestones.proofs.Found.Laws as Found-L
@@ -158,7 +158,7 @@ module _ {M : Type 1} (𝓤 : URA M) (H : Heap 𝓤) (A : Atoms 𝓤) (W : Given
 
   exits : (r : Found) (opens₁ : List OpenStart) (r-is : Is Found-T.the-row r (EL.val Found-T.the-type Found-L.the-laws r ∷ [])) (len-opens : length opens₁ ≡ length opens₀) (e : (opens₁ ≡ opens₀) × (r ≡ nearestIn source₀ tape₀ opens₀ k₀ (baseAt source₀ at₀ len₀))) → ent 𝓤 (⋆ 𝓤 H A (‵ (HasShr u8 source-at source₀) ∷ ‵ (HasShr u8 tape-at tape₀) ∷ ‵ (HasMut OpenStart-T.the-row opens-at opens₁) ∷ [])) (Post (EL.val Found-T.the-type Found-L.the-laws r))
   exits r opens₁ r-is len-opens e =
-      qed W (‵ (HasShr u8 source-at source₀) ∷ ‵ (HasShr u8 tape-at tape₀) ∷ ‵ (HasMut OpenStart-T.the-row opens-at opens₁) ∷ []) ∵ suffices ! _ (ends-at 𝓤 H A nearest-F.ended stayed (nearest-F.clauses 𝓤 H A at-mem run) W Y (EL.val Found-T.the-type Found-L.the-laws r) r (tt, (tt, (opens₁, (tt, (tt, (tt, tt)))))) (tt, (tt, (len-opens, (tt, (tt, (tt, tt))))))) $ says ! e $ fsplit ! $ move ! (2 ∷ []) $ fsplit ! $ move ! (4 ∷ []) $ fsplit ! $ nothing ! $ move ! (2 ∷ 0 ∷ []) $ join ! $ move ! (3 ∷ 0 ∷ []) $ join ! $ move ! (4 ∷ 0 ∷ []) $ join ! $ frame ! $ nothing ! $ owned ! usize (Is usize) (uint-makes 𝓤 H A W w64) len₀ _ (refl, len₀-is) $ fjoin ! $ owned ! usize (Is usize) (uint-makes 𝓤 H A W w64) at₀ _ (refl, at₀-is) $ fjoin ! $ owned ! usize (Is usize) (uint-makes 𝓤 H A W w64) k₀ _ (refl, k₀-is) $ fjoin ! $ move ! (1 ∷ 0 ∷ []) $ fjoin ! $ move ! (1 ∷ 0 ∷ []) $ fjoin ! $ move ! (1 ∷ 0 ∷ []) $ fjoin ! $ owned ! Found-T.the-row (Is Found-T.the-row) (EL.makes Found-T.the-type Found-L.the-plain 𝓤 H A) r _ r-is $ move ! (1 ∷ 0 ∷ []) $ done !
+      qed W (‵ (HasShr u8 source-at source₀) ∷ ‵ (HasShr u8 tape-at tape₀) ∷ ‵ (HasMut OpenStart-T.the-row opens-at opens₁) ∷ []) ∵ suffices ! _ (exit-at 𝓤 H A nearest-F.ended stayed (nearest-F.clauses 𝓤 H A at-mem run) W Y (EL.val Found-T.the-type Found-L.the-laws r) r (tt, (tt, (opens₁, (tt, (tt, (tt, tt)))))) (tt, (tt, (len-opens, (tt, (tt, (tt, tt))))))) $ says ! e $ fsplit ! $ move ! (2 ∷ []) $ fsplit ! $ move ! (4 ∷ []) $ fsplit ! $ nothing ! $ move ! (2 ∷ 0 ∷ []) $ join ! $ move ! (3 ∷ 0 ∷ []) $ join ! $ move ! (4 ∷ 0 ∷ []) $ join ! $ frame ! $ nothing ! $ owned ! usize (Is usize) (uint-makes 𝓤 H A W w64) len₀ _ (refl, len₀-is) $ fjoin ! $ owned ! usize (Is usize) (uint-makes 𝓤 H A W w64) at₀ _ (refl, at₀-is) $ fjoin ! $ owned ! usize (Is usize) (uint-makes 𝓤 H A W w64) k₀ _ (refl, k₀-is) $ fjoin ! $ move ! (1 ∷ 0 ∷ []) $ fjoin ! $ move ! (1 ∷ 0 ∷ []) $ fjoin ! $ move ! (1 ∷ 0 ∷ []) $ fjoin ! $ owned ! Found-T.the-row (Is Found-T.the-row) (EL.makes Found-T.the-type Found-L.the-plain 𝓤 H A) r _ r-is $ move ! (1 ∷ 0 ∷ []) $ done !
 
   entry : ent 𝓤 (onEntry 𝓤 H A nearest-F.signature (source-at .κ, (tape-at .κ, (opens-at .κ, tt))) (source-at .q, (tape-at .q, (opens-at .q, tt))) (ref source-at source₀, (ref tape-at tape₀, (ref opens-at opens₀, (k₀, (at₀, (len₀, tt)))))) (fatVal source-at ∷ [], (fatVal tape-at ∷ [], (fatVal opens-at ∷ [], (vint w64 k₀ ∷ [], (vint w64 at₀ ∷ [], (vint w64 len₀ ∷ [], tt))))))) (⋆ 𝓤 H A (‵ (HasShr u8 source-at source₀) ∷ ‵ (HasShr u8 tape-at tape₀) ∷ ‵ (HasMut OpenStart-T.the-row opens-at opens₀) ∷ []))
   entry =

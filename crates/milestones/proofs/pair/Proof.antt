@@ -45,10 +45,10 @@ use denote.Triple.Entry.{onEntry}
 use denote.Triple.Spec.{Meets, tripleOf}
 use denote.Triple.Table.{entered, cited}
 use denote.Triple.Cycle.{measured, at-on, mutual-elim, AllBelow}
-use denote.Triple.Walked.{says, needs, Stays, stay-none, stay-none-slice, stay-ref, stay-slice, walkOf, goes-none, goes-none-slice, goes-ref, goes-slice, Walks, ends-at, walked, walk-meets, walked-at, walk-meets-at}
+use denote.Triple.Walked.{says, needs, Stays, stay-none, stay-none-slice, stay-ref, stay-slice, walkOf, goes-none, goes-none-slice, goes-ref, goes-slice, Walks, ends-at as exit-at, walked, walk-meets, walked-at, walk-meets-at}
 use denote.Exit.{yes}
 use Rattle.references.proofs.Flow.{if-then, skip-then, exit-then, switch-then, assoc-then, loop-then, meets-at, frees-any}
-use Rattle.references.proofs.Hand.{At, lent, ptrVal, fatVal, ref, HasRef, HasMut, HasShr, KeptRef, KeptMut, KeptShr, OpenRef, OpenAt, lend-ref, back-ref, lend-mut, back-mut, lend-shr, back-shr, open-ref, shut-ref, open-at, shut-at, back-at}
+use Rattle.references.proofs.Hand.{At, lent as relent, ptrVal, fatVal, ref, HasRef, HasMut, HasShr, KeptRef, KeptMut, KeptShr, OpenRef, OpenAt, lend-ref, back-ref, lend-mut, back-mut, lend-shr, back-shr, open-ref, shut-ref, open-at, shut-at, back-at}
 use Rattle.milestones.specs.declared.Found.{Found}
 use Rattle.milestones.proofs.Found as Found-T
 use Rattle.milestones.proofs.Found.Laws as Found-L
@@ -202,7 +202,7 @@ module _ {M : Type 1} (𝓤 : URA M) (H : Heap 𝓤) (A : Atoms 𝓤) (W : Given
 
   exits : (r : Paired) (opens₁ : List OpenStart) (r-is : Is Paired-T.the-row r (EL.val Paired-T.the-type Paired-L.the-laws r ∷ [])) (len-opens : length opens₁ ≡ length opens₀) (e : (opens₁ ≡ opensBy step₀ (takenBy source₀ tape₀ opens₀ k₀ step₀) opens₀ k₀) × (r ≡ pairedBy step₀ (takenBy source₀ tape₀ opens₀ k₀ step₀) k₀)) → ent 𝓤 (⋆ 𝓤 H A (‵ (HasShr u8 source-at source₀) ∷ ‵ (HasShr u8 tape-at tape₀) ∷ ‵ (HasMut OpenStart-T.the-row opens-at opens₁) ∷ [])) (Post (EL.val Paired-T.the-type Paired-L.the-laws r))
   exits r opens₁ r-is len-opens e =
-      qed W (‵ (HasShr u8 source-at source₀) ∷ ‵ (HasShr u8 tape-at tape₀) ∷ ‵ (HasMut OpenStart-T.the-row opens-at opens₁) ∷ []) ∵ suffices ! _ (ends-at 𝓤 H A pair-F.ended stayed (pair-F.clauses 𝓤 H A at-mem run) W Y (EL.val Paired-T.the-type Paired-L.the-laws r) r (tt, (tt, (tt, (opens₁, (tt, tt))))) (tt, (tt, (tt, (len-opens, (tt, tt)))))) $ says ! e $ fsplit ! $ move ! (2 ∷ []) $ fsplit ! $ move ! (4 ∷ []) $ fsplit ! $ nothing ! $ move ! (2 ∷ 0 ∷ []) $ join ! $ move ! (3 ∷ 0 ∷ []) $ join ! $ move ! (4 ∷ 0 ∷ []) $ join ! $ frame ! $ nothing ! $ owned ! usize (Is usize) (uint-makes 𝓤 H A W w64) k₀ _ (refl, k₀-is) $ fjoin ! $ move ! (1 ∷ 0 ∷ []) $ fjoin ! $ owned ! Step-T.the-row (Is Step-T.the-row) (EL.makes Step-T.the-type Step-L.the-plain 𝓤 H A) step₀ _ step₀-is $ fjoin ! $ move ! (1 ∷ 0 ∷ []) $ fjoin ! $ move ! (1 ∷ 0 ∷ []) $ fjoin ! $ owned ! Paired-T.the-row (Is Paired-T.the-row) (EL.makes Paired-T.the-type Paired-L.the-plain 𝓤 H A) r _ r-is $ move ! (1 ∷ 0 ∷ []) $ done !
+      qed W (‵ (HasShr u8 source-at source₀) ∷ ‵ (HasShr u8 tape-at tape₀) ∷ ‵ (HasMut OpenStart-T.the-row opens-at opens₁) ∷ []) ∵ suffices ! _ (exit-at 𝓤 H A pair-F.ended stayed (pair-F.clauses 𝓤 H A at-mem run) W Y (EL.val Paired-T.the-type Paired-L.the-laws r) r (tt, (tt, (tt, (opens₁, (tt, tt))))) (tt, (tt, (tt, (len-opens, (tt, tt)))))) $ says ! e $ fsplit ! $ move ! (2 ∷ []) $ fsplit ! $ move ! (4 ∷ []) $ fsplit ! $ nothing ! $ move ! (2 ∷ 0 ∷ []) $ join ! $ move ! (3 ∷ 0 ∷ []) $ join ! $ move ! (4 ∷ 0 ∷ []) $ join ! $ frame ! $ nothing ! $ owned ! usize (Is usize) (uint-makes 𝓤 H A W w64) k₀ _ (refl, k₀-is) $ fjoin ! $ move ! (1 ∷ 0 ∷ []) $ fjoin ! $ owned ! Step-T.the-row (Is Step-T.the-row) (EL.makes Step-T.the-type Step-L.the-plain 𝓤 H A) step₀ _ step₀-is $ fjoin ! $ move ! (1 ∷ 0 ∷ []) $ fjoin ! $ move ! (1 ∷ 0 ∷ []) $ fjoin ! $ owned ! Paired-T.the-row (Is Paired-T.the-row) (EL.makes Paired-T.the-type Paired-L.the-plain 𝓤 H A) r _ r-is $ move ! (1 ∷ 0 ∷ []) $ done !
 
   entry : ent 𝓤 (onEntry 𝓤 H A pair-F.signature (source-at .κ, (tape-at .κ, (opens-at .κ, tt))) (source-at .q, (tape-at .q, (opens-at .q, tt))) (ref source-at source₀, (ref tape-at tape₀, (step₀, (ref opens-at opens₀, (k₀, tt))))) (fatVal source-at ∷ [], (fatVal tape-at ∷ [], (EL.val Step-T.the-type Step-L.the-laws step₀ ∷ [], (fatVal opens-at ∷ [], (vint w64 k₀ ∷ [], tt)))))) (⋆ 𝓤 H A (‵ (HasShr u8 source-at source₀) ∷ ‵ (HasShr u8 tape-at tape₀) ∷ ‵ (HasMut OpenStart-T.the-row opens-at opens₀) ∷ []))
   entry =
@@ -233,7 +233,7 @@ module _ {M : Type 1} (𝓤 : URA M) (H : Heap 𝓤) (A : Atoms 𝓤) (W : Given
               assoc-then 𝓣 ! $ assigns ! (addr ! (from ! (fld ! refl (hop ! (look-in ! 5 (sub ! 0 refl (whole !))) (stop !))))) (from ! (stop !)) (init ! 13 refl (tt, tt)) $
               assoc-then 𝓣 ! $ assigns ! (agg ! (and-then ! (load ! (from ! (stop !)) (look ! 13 refl)) (and-then ! (load ! (from ! (fld ! refl (stop !))) (look-in ! 5 (sub ! 1 refl (whole !)))) (no-more !)))) (from ! (stop !)) (init ! 14 refl (tt, (tt, (record { fits = (opens-room .0) }, tt)))) $
               assoc-then 𝓣 ! $ move ! (26 ∷ []) $ let req-push : k₀ < length opens₀ = req .1 in
-              push-C.calls-push ! at-mem run fm opens-at opens₀ k₀ (y1 .0) k₀-is (EL.owed Step-T.the-type Step-L.the-laws (Step-V.Start (y1 .0)) _ is-1-0 .0) req-push (λ ν-opens δ-opens. known-push (push-C.to 𝓤 H A at-mem run opens-at opens₀ k₀ (y1 .0) (lent opens-at ν-opens δ-opens)))
+              push-C.calls-push ! at-mem run fm opens-at opens₀ k₀ (y1 .0) k₀-is (EL.owed Step-T.the-type Step-L.the-laws (Step-V.Start (y1 .0)) _ is-1-0 .0) req-push (λ ν-opens δ-opens. known-push (push-C.to 𝓤 H A at-mem run opens-at opens₀ k₀ (y1 .0) (relent opens-at ν-opens δ-opens)))
               (and-then ! (load ! (from ! (stop !)) (look ! 15 refl)) (and-then ! (load ! (from ! (stop !)) (look ! 7 refl)) (and-then ! (load ! (from ! (stop !)) (look ! 8 refl)) (no-more !)))) (λ z-push s-push.
               let len-push-opens : length (z-push .1 .0) ≡ length opens₀ = s-push .1 .0 in
               let says-push : (z-push .1 .0) ≡ set opens₀ k₀ (y1 .0) = s-push .1 .1 in
@@ -254,7 +254,7 @@ module _ {M : Type 1} (𝓤 : URA M) (H : Heap 𝓤) (A : Atoms 𝓤) (W : Given
                 assoc-then 𝓣 ! $ assigns ! (addr ! (from ! (fld ! refl (hop ! (look-in ! 5 (sub ! 0 refl (whole !))) (stop !))))) (from ! (stop !)) (init ! 17 refl (tt, tt)) $
                 assoc-then 𝓣 ! $ assigns ! (agg ! (and-then ! (load ! (from ! (stop !)) (look ! 17 refl)) (and-then ! (load ! (from ! (fld ! refl (stop !))) (look-in ! 5 (sub ! 1 refl (whole !)))) (no-more !)))) (from ! (stop !)) (init ! 18 refl (tt, (tt, (record { fits = (opens-room .0) }, tt)))) $
                 assoc-then 𝓣 ! $ move ! (24 ∷ 25 ∷ 26 ∷ []) $ let req-nearest : (Opens source₀ tape₀ opens₀ k₀) × ((y1 .0) + (y1 .1) ≤ length source₀) = (req .0, placed source₀ tape₀ opens₀ k₀ step₀ _ _ told-1 (req .2)) in
-                nearest-C.calls-nearest ! at-mem run fm source-at source₀ tape-at tape₀ opens-at opens₀ k₀ (y1 .0) (y1 .1) k₀-is ((EL.lawful Step-T.the-type Step-L.the-laws 𝓤 H A W tt .typed (Step-V.End (y1 .0) (y1 .1)) _ is-1-1 .0) .1 .1 .0 .fits) ((EL.lawful Step-T.the-type Step-L.the-laws 𝓤 H A W tt .typed (Step-V.End (y1 .0) (y1 .1)) _ is-1-1 .0) .1 .1 .1 .0 .fits) req-nearest (λ ν-opens δ-opens. known-nearest (nearest-C.to 𝓤 H A at-mem run source-at source₀ tape-at tape₀ opens-at opens₀ k₀ (y1 .0) (y1 .1) source-at tape-at (lent opens-at ν-opens δ-opens)))
+                nearest-C.calls-nearest ! at-mem run fm source-at source₀ tape-at tape₀ opens-at opens₀ k₀ (y1 .0) (y1 .1) k₀-is ((EL.lawful Step-T.the-type Step-L.the-laws 𝓤 H A W tt .typed (Step-V.End (y1 .0) (y1 .1)) _ is-1-1 .0) .1 .1 .0 .fits) ((EL.lawful Step-T.the-type Step-L.the-laws 𝓤 H A W tt .typed (Step-V.End (y1 .0) (y1 .1)) _ is-1-1 .0) .1 .1 .1 .0 .fits) req-nearest (λ ν-opens δ-opens. known-nearest (nearest-C.to 𝓤 H A at-mem run source-at source₀ tape-at tape₀ opens-at opens₀ k₀ (y1 .0) (y1 .1) source-at tape-at (relent opens-at ν-opens δ-opens)))
                 (and-then ! (load ! (from ! (stop !)) (look ! 3 refl)) (and-then ! (load ! (from ! (stop !)) (look ! 4 refl)) (and-then ! (load ! (from ! (stop !)) (look ! 19 refl)) (and-then ! (load ! (from ! (stop !)) (look ! 7 refl)) (and-then ! (load ! (from ! (stop !)) (look ! 9 refl)) (and-then ! (load ! (from ! (stop !)) (look ! 10 refl)) (no-more !))))))) (λ z-nearest s-nearest.
                 let len-nearest-opens : length (z-nearest .1 .0) ≡ length opens₀ = s-nearest .1 .0 in
                 let says-nearest : ((z-nearest .1 .0) ≡ opens₀) × ((z-nearest .0) ≡ nearestIn source₀ tape₀ opens₀ k₀ (baseAt source₀ (y1 .0) (y1 .1))) = s-nearest .1 .1 in
@@ -268,7 +268,7 @@ module _ {M : Type 1} (𝓤 : URA M) (H : Heap 𝓤) (A : Atoms 𝓤) (W : Given
                       assoc-then 𝓣 ! $ assigns ! (addr ! (from ! (fld ! refl (hop ! (look-in ! 8 (sub ! 0 refl (whole !))) (stop !))))) (from ! (stop !)) (init ! 24 refl (tt, tt)) $
                       assoc-then 𝓣 ! $ assigns ! (agg ! (and-then ! (load ! (from ! (stop !)) (look ! 24 refl)) (and-then ! (load ! (from ! (fld ! refl (stop !))) (look-in ! 8 (sub ! 1 refl (whole !)))) (no-more !)))) (from ! (stop !)) (init ! 25 refl (tt, (tt, (record { fits = (opens-room .0) }, tt)))) $
                       assoc-then 𝓣 ! $ move ! (2 ∷ []) $ let req-remove : ((y2 .0) < k₀) × (k₀ ≤ length (z-nearest .1 .0)) = (end-inside source₀ tape₀ opens₀ k₀ step₀ _ _ told-1 _ _ (says-nearest .1) told-2, known-room source₀ tape₀ opens₀ (z-nearest .1 .0) k₀ (req .0) len-nearest-opens) in
-                      remove-C.calls-remove ! at-mem run fm opens-at (z-nearest .1 .0) k₀ (y2 .0) k₀-is ((EL.lawful Found-T.the-type Found-L.the-laws 𝓤 H A W tt .typed (Found-V.At (y2 .0)) _ is-2-0 .0) .1 .1 .0 .fits) req-remove (λ ν-opens δ-opens. known-remove (remove-C.to 𝓤 H A at-mem run opens-at (z-nearest .1 .0) k₀ (y2 .0) (lent opens-at ν-opens δ-opens)))
+                      remove-C.calls-remove ! at-mem run fm opens-at (z-nearest .1 .0) k₀ (y2 .0) k₀-is ((EL.lawful Found-T.the-type Found-L.the-laws 𝓤 H A W tt .typed (Found-V.At (y2 .0)) _ is-2-0 .0) .1 .1 .0 .fits) req-remove (λ ν-opens δ-opens. known-remove (remove-C.to 𝓤 H A at-mem run opens-at (z-nearest .1 .0) k₀ (y2 .0) (relent opens-at ν-opens δ-opens)))
                       (and-then ! (load ! (from ! (stop !)) (look ! 25 refl)) (and-then ! (load ! (from ! (stop !)) (look ! 9 refl)) (and-then ! (load ! (from ! (stop !)) (look ! 13 refl)) (no-more !)))) (λ z-remove s-remove.
                       let len-remove-opens : length (z-remove .1 .0) ≡ length (z-nearest .1 .0) = s-remove .1 .0 in
                       let says-remove : (z-remove .1 .0) ≡ removed (z-nearest .1 .0) k₀ (y2 .0) = s-remove .1 .1 in
