@@ -125,11 +125,20 @@ class UInt:
     tells = property(lambda s: '(uint-tells w%d)' % s.w)
     mir = property(lambda s: 'tyInt w%d' % s.w)
     lawful = property(lambda s: 'uint-lawful 𝓤 H A W w%d' % s.w)
+    ret = property(lambda s: 'of-number w%d' % s.w)
+
+    def par(s, d):
+        return 'number w%d %s' % (s.w, P(d))
     zero = '0'
 
 class Bool:
     row = 'bool'
     D = 'Bool'
+    ret = 'of-truth'
+
+    def par(s, d):
+        return 'truth ' + P(d)
+
     makes = 'bool-makes 𝓤 H A W'
     vals = 'bool-vals'
     tells = 'bool-tells'
@@ -152,6 +161,7 @@ class Bool:
         return i
 
 class UnitT:
+    ret = 'of-nothing'
     row = 'unit'
     D = 'Unit {0}'
     makes = 'nothing-makes 𝓤 H A W'
@@ -198,6 +208,10 @@ class Named:
 
     def of_is(s, i):
         return i
+    ret = property(lambda s: 'of-%s %s-T.the-type %s-T.Laws.the-laws' % (s.kind, s.n, s.n))
+
+    def par(s, d):
+        return '%s %s-T.the-type %s-T.Laws.the-laws %s-T.Laws.the-plain %s' % (s.kind, s.n, s.n, s.n, P(d))
     makes = property(lambda s: '%s.makes %s-T.the-type %s-L.the-plain 𝓤 H A' % (s.LL, s.n, s.n))
     vals = property(lambda s: '(%s.vals %s-T.the-type %s-L.the-laws)' % (s.LL, s.n, s.n))
     tells = property(lambda s: '(%s.tells %s-T.the-type %s-L.the-laws)' % (s.LL, s.n, s.n))
@@ -530,17 +544,24 @@ class Crate:
             'use denote.Exit.{yes}',
             'use %s.{if-then, skip-then, exit-then, switch-then, assoc-then, loop-then, meets-at, frees-any}' % s.law('Flow'),
             'use %s.{At, lent as relent, ptrVal, fatVal, ref, HasRef, HasMut, HasShr, KeptRef, KeptMut, KeptShr, OpenRef, OpenAt, lend-ref, back-ref, lend-mut, back-mut, lend-shr, back-shr, open-ref, shut-ref, open-at, shut-at, back-at}' % s.law('Hand'),
+            'use %s.{calls-any, calls-any-last}' % s.law('Call'),
             'use denote.Slice.{sliceVal}',
             'use mir.Syntax.{tyArray}',
             'use %s.{Filled, as-long, array, ArrayAt, KeptArray, KeptArrayShr, lend-array, back-array, lend-array-shr, back-array-shr, free-array, fills-array, needs-by, and-fact, last-fact}' % s.law('Arrays'),
         ]
+        o += s.type_uses()
+        return '\n'.join(o + list(extra)) + '\n'
+
+    def type_uses(s):
+        o = []
+        c = s.name
         for n, t in s.types.items():
             sp = 'Rattle.%s.specs' % c if t.crate == c else 'Rattle.%s.specs' % t.crate
             pp = 'Rattle.%s.proofs' % c if t.crate == c else 'Rattle.%s.proofs' % t.crate
             o += ['use %s.declared.%s.{%s}' % (sp, n, n), 'use %s.%s as %s-T' % (pp, n, n), 'use %s.%s.Laws as %s-L' % (pp, n, n)]
             if t.kind == 'enum':
                 o.append('use %s.declared.%s.the-variants as %s-V' % (sp, n, n))
-        return '\n'.join(o + list(extra)) + '\n'
+        return o
 
     def binders(s, f, facts=True):
         o = []
@@ -569,236 +590,54 @@ class Crate:
         at = 'Rattle.%s.proofs' % s.shared[name] if name in s.shared else 'Rattle.%s.proofs' % s.name
         return '%s.Call%s' % (at, camel(name))
 
+    def par(s, p):
+        """a parameter, as an entry of `pars`"""
+        if p.kind == 'val':
+            return p.ty.par(p.v)
+        return '%s %s %s %s' % ({'ref': 'by-ref', 'mut': 'by-mut', 'shr': 'by-same' if p.owner is not p else 'by-shr'}[p.kind], p.ty.row, p.at, p.v) + (' (%s .κ)' % p.owner.at if p.owner is not p else '')
+
     def call_file(s, name, uses=()):
         f = s.by_name(name)
         k = dash(name)
-        c = f.crate
+        if [p.life for p in f.owners] != sorted(p.life for p in f.owners) or [p for p in f.refs if p.owner is p] != f.owners:
+            raise Exception('%s: its lifetimes are not in the order of its parameters' % name)
         d = {p.name: p.v for p in f.params}
-        R = f.res
-        key = s.key(f)
+        e = {p.name: proj('z', f.muts.index(p)) if p in f.muts else p.v for p in f.params}
         mod = s.mod(f)
-        o = ['-- The contract of `%s::%s` as one rule of a walk, `calls-%s`: every reference is lent again, the call is made, and every reference is back at its last value.' % (c, name, k), s.uses(list(uses) + ['use %s as %s-F' % (mod, k), 'use %s.Symbol.{name as %s}' % (mod, key)])]
-        W = '{M : Type 1} (𝓤 : URA M) (H : Heap 𝓤) (A : Atoms 𝓤) (at-mem : Memory → SProp 𝓤) (run : Routine → Fun 𝓤)'
-        ats = lambda sfx='': ' '.join((p.at + sfx for p in f.refs))
-        tok = lambda p, a: '‵ (flft (%s .κ) (%s .q))' % (a, a)
-        o.append('module _ %s where\n  abbrev pub Con : Contract 𝓤\n  Con = tripleOf 𝓤 H A %s-F.signature (%s-F.spec 𝓤 H A at-mem run)\n' % (W, k, k))
         bind = s.binders(f)
-        # lasts: what is bound at exit
-        Zs = [R.D] + [p.Dnow for p in f.muts]
-        Z = tupT(Zs)
-        zof = lambda z: {p.name: proj(z, 1 + f.muts.index(p)) if p in f.muts else p.v for p in f.params}
-
-        def Says(v, z):
-            e = zof(z)
-            xs = ['Is %s (%s) (%s)' % (R.row, proj(z, 0), v)]
-            for p in f.muts:
-                if p.kind == 'mut':
-                    xs.append('length (%s) ≡ length %s' % (e[p.name], p.v))
-            if f.ens:
-                xs.append(s.says(f, f.ens, d, e, proj(z, 0)))
-            return xs
-        n_says = len(Says('v', 'z'))
-
-        def held(z):
-            e = zof(z)
-            hs = [p.has(p.at, e[p.name]) for p in f.refs]
-            return hs
-
-        def left(hs):
-            if not hs:
-                return '‵ ftrue'
-            r = hs[0]
-            for h in hs[1:]:
-                r = '(%s ⊛ %s)' % (r, h)
-            return r
-        vs = L([p.mval(p.at, p.v) for p in f.params])
-        names = ' '.join((' '.join([p.at, p.v] if p.isref else [p.v]) for p in f.params))
-        o.append('  module _ %s where' % bind if bind else '  module _ where')
-        o.append('    abbrev pub vs : List Val\n    vs = %s\n' % vs)
-        o.append('    abbrev pub Z : Type 0\n    Z = %s\n' % Z)
-        o.append('    abbrev pub Says : List Val → Z → Type 0\n    Says v z = %s\n' % conj(Says('v', 'z')))
-        o.append('    abbrev pub After : Val → Item 𝓤\n    After v = later (some (λ (z : Z). given (Says (v ∷ []) z) %s))\n' % P(left(held('z'))))
-        # the ghost, at the places where the references are
-        a = tup([p.arg(p.at + '′' if p.isref else '', p.v) for p in f.params])
-        vals = tup(['%s ∷ []' % p.mval(p.at + '′' if p.isref else '', p.v) for p in f.params])
-        ks = tup([p.at + '′ .κ' for p in f.owners])
-        qs = tup([p.at + '′ .q' for p in f.owners])
-        o.append('    abbrev pub to : %sCon .Ghost\n    to %s = ((%s, %s, tt, %s, %s), tt)\n' % (''.join(('At → ' for _ in f.refs)), ats('′'), ks, qs, a, vals))
-        o.append('')
-        # called
-        nd = []
-        for p in f.muts:
-            nd += ['ν-' + dash(p.name), 'δ-' + dash(p.name)]
-        actual = {p: p.at if p.kind == 'shr' else '(relent %s ν-%s δ-%s)' % (p.at, dash(p.name), dash(p.name)) for p in f.refs}
-        TO = '(to %s)' % ' '.join((actual[p] for p in f.refs)) if f.refs else 'to'
-        factb = [p.same for p in f.sharers] + [(p.v + '-is', p.ty.fact(p.v)) for p in f.params if not p.isref and p.ty.fact(p.v)]
-        req = s.says(f, f.req, d) if f.req else None
-        hyp = ''.join((' (%s : %s)' % x for x in factb)) + (' (req : %s)' % req if req else '')
-        hypn = ' '.join([x[0] for x in factb] + (['req'] if req else []))
-        metT = '(%sent 𝓤 (Con .pre %s) (C %s vs (Con .post %s)))' % (''.join(('(%s : %s) → ' % (x, 'ℕ' if x[0] == 'ν' else 'GName') for x in nd)), TO, key, TO)
-        o.append('    module _ (W : Given 𝓤 H A) (C : Calls 𝓤 H) (fm : FmC 𝓤 H (W .laws) C)%s (met : %s) where' % (hyp, metT))
-        o.append('      pub called : ent 𝓤 (⋆ 𝓤 H A (%s)) (H .⇛ (C %s vs (λ v. mean 𝓤 H A (After v))))' % (L([p.has(p.at, p.v) for p in f.refs]), key))
-        sc = Script(['H-' + p.name for p in f.refs])
-        sc.say('qed W (%s) ∵ updating ! $' % L([p.has(p.at, p.v) for p in f.refs]))
-        for p in f.refs:
-            sc.front(['H-' + p.name])
-            sc.pop(1)
-            if p.kind == 'shr':
-                sc.say('use1 W (‵ (HasShr {r} {a} {v}) ⊛ ‵ (KeptShr {r} {a} {v})) (lend-shr {r} 𝓤 H A W {a} {v}) $ split ! $'.format(r=p.ty.row, a=p.at, v=p.v))
-            else:
-                sc.say('use1 W (later (some (λ (ν : ℕ). some (λ (δ : GName). ‵ ({H} {r} (relent {a} ν δ) {v}) ⊛ ‵ ({K} {r} {a} ν δ {v}))))) (lend-{k} {r} 𝓤 H A W {a} {v}) $ await ! tt $ pick ! (λ ν-{n}. pick ! (λ δ-{n}. split ! $'.format(H=p.Has, K=p.Kept, k=p.kind, r=p.ty.row, a=p.at, v=p.v, n=dash(p.name)), 2)
-            sc.push(['L-' + p.name, 'K-' + p.name])
-        for p in f.refs:
-            sc.front(['L-' + p.name])
-            sc.say('fsplit ! $')
-            sc.pop(1)
-            sc.push(['own-' + p.name, 'tok-' + p.name])
-            if p in f.sharers:
-                sc.say('rewrite ! 0 %s %s refl $' % (p.at_life(p.v), p.same[0]))
-        sc.say('nothing ! $')
-        sc.push(['T'])
-        for p in reversed(f.owners):
-            sc.front(['tok-' + p.name, 'T'])
-            sc.say('join ! $')
-            sc.pop(2)
-            sc.push(['T'])
-        sc.say('nothing ! $')
-        sc.push(['O'])
-        for p in reversed(f.params):
-            if p.isref:
-                sc.front(['own-' + p.name, 'O'])
-                sc.say('fjoin ! $')
-                sc.pop(2)
-            else:
-                sc.front(['O'])
-                sc.say('owned ! %s (Is %s) (%s) %s _ %s $ fjoin ! $' % (p.ty.row, p.ty.row, p.ty.makes, p.v, p.ty.isP(p.v, p.v + '-is')))
-                sc.pop(1)
-            sc.push(['O'])
-        sc.front(['T', 'O'])
-        sc.say('join ! $')
-        sc.pop(2)
-        sc.push(['E'])
-        if req:
-            row_facts(sc, s.facts(f, f.req, d), 'req', 'F')
-        else:
-            sc.say('nothing ! $')
-            sc.push(['F'])
-        sc.front(['E', 'F'])
-        sc.say('join ! $')
-        sc.pop(2)
-        sc.say('use1 W (raw (C %s vs (Con .post %s))) (met %s) $' % (key, TO, ' '.join(nd)))
-        sc.push(['CALL'])
-        sc.say('nothing ! $')
-        sc.push(['TRUE'])
-        Ks = ['CALL'] + ['K-' + p.name for p in f.refs] + ['tok-' + p.name for p in f.sharers] + ['TRUE']
-        sc.say('at-once ! $ keep ! (%s) $' % L([str(sc.pos(x)) for x in Ks]))
-        keptItems = ['‵ (%s %s %s %s%s)' % (p.Kept, p.ty.row, p.at, '' if p.kind == 'shr' else 'ν-%s δ-%s ' % (dash(p.name), dash(p.name)), p.v) for p in f.refs] + [tok(p, p.at) for p in f.sharers] + ['‵ ftrue']
-        # back
-        aA = tup([p.arg(actual[p], p.v) if p.isref else p.v for p in f.params])
-        kA = tup([actual[p] + ' .κ' for p in f.owners])
-        WS = tupT([p.Dnow if p in f.muts else 'Unit {0}' for p in f.params])
-        wof = {p.name: proj('ws', i) if p in f.muts else p.v for i, p in enumerate(f.params)}
-        ens = s.says(f, f.ens, d, wof, 'r') if f.ens else None
-        enss = s.facts(f, f.ens, d, wof, 'r')
-        ensI = ''
-        en = ['e'] if len(enss) == 1 else ['e%d' % i_ for i_ in range(len(enss))]
-        for x in reversed(enss):
-            ensI = 'raw (fact 𝓤 (%s))' % x if not ensI else '(raw (fact 𝓤 (%s)) ⊛ %s)' % (x, ensI)
-        b = Script(['POST'] + ['K-' + p.name for p in f.refs] + ['tok-' + p.name for p in f.sharers] + ['TRUE'])
-        b.say('qed W (raw (Con .post %s v) ∷ %s) ∵ updating ! $' % (TO, L(keptItems)))
-        toks = '‵ ftrue'
-        for p in reversed(f.owners):
-            toks = '(%s ⊛ %s)' % (tok(p, actual[p]), toks)
-        b.say('use1 W (later (some (λ (r : %s). (%s ⊛ ‵ (%s .own r (v ∷ []))) ⊛ raw (ensured 𝓤 H A %s-F.ended (%s-F.clauses 𝓤 H A at-mem run) %s %s tt r)))) (id⊢ 𝓤 _) $ await ! tt $ pick ! (λ r. split ! $' % (R.D, toks, R.row, k, k, kA, aA), 1)
-        b.pop(1)
-        b.push(['TO', 'ENS'])
-        b.front(['ENS'])
-        b.pop(1)
-        b.say('use1 W (some (λ (ws : %s). ‵ (lasts %s-F.ended %s %s ws) ⊛ %s)) (id⊢ 𝓤 _) $ pick ! (λ ws. split ! $' % (WS, k, kA, aA, ensI if ens else '‵ ftrue'), 1)
-        b.push(['LASTS', 'F'])
-        b.front(['F'])
-        b.pop(1)
-        if ens:
-            for i_, x in enumerate(enss):
-                if i_ < len(enss) - 1:
-                    b.say('split ! $')
-                    b.push([])
-                b.say('heard ! (%s) (λ %s.' % (x, en[i_]), 1)
-        else:
-            b.say('drop ! $')
-        for p in f.params:
-            b.front(['LASTS'])
-            b.say('fsplit ! $')
-            b.pop(1)
-            b.push(['fin-' + p.name, 'LASTS'])
-            if p.kind == 'mut':
-                b.front(['fin-' + p.name])
-                b.say('fsplit ! $')
-                b.pop(1)
-                b.push(['fin-' + p.name, 'len'])
-                b.front(['len'])
-                b.say('feqL ! (λ len-%s.' % dash(p.name), 1)
-                b.pop(1)
-        b.front(['TO'])
-        b.say('split ! $')
-        b.pop(1)
-        b.push(['TOKS', 'OWN'])
-        b.front(['OWN'])
-        b.pop(1)
-        b.say('facts ! %s (Is %s) (shows 𝓤 H A %s) r (v ∷ []) (λ is.' % (R.row, R.row, R.row), 1)
-        for p in f.owners:
-            b.front(['TOKS'])
-            b.say('split ! $')
-            b.pop(1)
-            b.push(['tok-' + p.name, 'TOKS'])
-        for p in f.refs:
-            if p.kind == 'shr':
-                b.front(['tok-' + p.name, 'K-' + p.name])
-                b.pop(2)
-                b.say('use2 W (%s) (back-shr %s 𝓤 H A W %s %s) $' % (p.has(p.at, p.v), p.ty.row, p.at, p.v))
-            else:
-                b.front(['tok-' + p.name, 'fin-' + p.name, 'K-' + p.name])
-                b.pop(3)
-                b.say('use3 W (later (%s)) (back-%s %s 𝓤 H A W %s ν-%s δ-%s %s (%s)%s) $ await ! tt $' % (p.has(p.at, wof[p.name]), p.kind, p.ty.row, p.at, dash(p.name), dash(p.name), p.v, wof[p.name], ' len-' + dash(p.name) if p.kind == 'mut' else ''))
-            b.push(['H-' + p.name])
-        zval = tup(['r'] + [wof[p.name] for p in f.muts])
-        fs = ['is'] + ['len-' + dash(p.name) for p in f.muts if p.kind == 'mut'] + ([flat(en)] if ens else [])
-        b.say('at-once ! $ show ! (λ (z : Z). mean 𝓤 H A (given (Says (v ∷ []) z) %s)) %s $ check ! %s $' % (P(left(held('z'))), zval, pairs(fs)))
-        if f.refs:
-            b.say('keep ! (%s) $ ' % L([str(b.pos('H-' + p.name)) for p in f.refs]) + 'join ! $ ' * (len(f.refs) - 1) + 'done !')
-        else:
-            b.say('nothing ! $ keep ! (0 ∷ []) $ done !')
-        sc.say('by ! (fm %s vs (Con .post %s) (λ v. mean 𝓤 H A (After v)) (⋆ 𝓤 H A (%s)) (λ v.\n          %s))' % (key, TO, L(keptItems), b.text('\n          ')))
-        o.append('      called =\n          ' + sc.text('\n          ') + '\n')
-        # the rules
-        hs1 = ' ∷ '.join([p.has(p.at, p.v) for p in f.refs] + ['Γ'])
-
-        def says2(z):
-            return conj(Says('%s ∷ []' % R.val(proj(z, 0)), z))
-        hz = ' ∷ '.join(held('z') + ['Γ'])
-        nm = '𝓤 H A at-mem run ' + names
-        allhyp = ''.join((' (%s : %s)' % x for x in factb)) + (' (req : %s)' % req if req else '')
-        metT2 = metT.replace('Con .', 'Con 𝓤 H A at-mem run .').replace('(to ', '(to %s ' % nm).replace(' vs ', ' (vs %s) ' % nm)
-        if not f.refs:
-            metT2 = metT2.replace('.pre to', '.pre (to %s)' % nm).replace('.post to', '.post (to %s)' % nm)
-        for last in (False, True):
-            goal = 'lands C Λ E dst %s rest q' % P(R.val('(z .0)')) if not last else 'settles E dst %s q' % P(R.val('(z .0)'))
-            run = 'runs C Λ E (seq (call %s xs dst) rest) q' % key if not last else 'runs C Λ E (call %s xs dst) q' % key
-            o.append('module _ {M : Type 1} {𝓤 : URA M} {H : Heap 𝓤} {A : Atoms 𝓤} {K : Type 0} {W : Given 𝓤 H A} {Γ : List (Item 𝓤)} {E : Env 𝓤 H} {C : Calls 𝓤 H} {Λ : Loops 𝓤 H} {q : PostOf 𝓤 H} {dst : Place} {xs : List Operand} where')
-            o.append('  pub calls-%s%s : K → (at-mem : Memory → SProp 𝓤) (run : Routine → Fun 𝓤) → FmC 𝓤 H (W .laws) C → %s%s%s → %s → Opds K W (raw (C %s (vs %s) (λ v. mean 𝓤 H A (After %s v))) ∷ Γ) E xs (vs %s)' % (k, '-last' if last else '', '' if last else '{rest : Body} ', bind, allhyp, metT2, key, nm, nm, nm))
-            o.append('      → ((z : Z %s) → Says %s (%s ∷ []) z → Seq K W (%s) (%s)) → Seq K W (%s) (%s)' % (nm, nm, R.val('(z .0)'), hz, goal, hs1, run))
-            o.append('  calls-%s%s t at-mem run fm %s%s %s met os k =' % (k, '-last' if last else '', '' if last else '{rest} ', names, hypn))
-            spl = 'split t $ ' * (len(f.refs) - 1)
-            if not f.refs:
-                spl = 'drop t $ '
-            g2 = goal.replace(P(R.val('(z .0)')), 'u')
-            told = '%s (z .0) (v ∷ []) (%s)' % (R.tells, conj_at('s', 0, n_says))
-            moved = 'subst (Is %s (z .0)) (%s) (%s)' % (R.row, told, conj_at('s', 0, n_says))
-            s2 = pairs([moved] + [conj_at('s', i, n_says) for i in range(1, n_says)])
-            o.append('      cut (%s) (later (raw (C %s (vs %s) (λ v. mean 𝓤 H A (After %s v)))) ∷ []) Γ (called %s W C fm %s met) $ await t tt $ calls%s t fm (After %s) os (λ v. await t tt $ pick t (λ z. learn t (λ s. %ssubst (λ (u : Val). Seq K W (%s) (%s)) (sym (ap only (%s))) (k z %s))))\n' % (L([p.has(p.at, p.v) for p in f.refs]), key, nm, nm, nm, hypn, '-last' if last else '', nm, spl, hz, g2, told, P(s2)))
+        model = '{M : Type 1} (𝓤 : URA M) (H : Heap 𝓤) (A : Atoms 𝓤) (at-mem : Memory → SProp 𝓤) (run : Routine → Fun 𝓤)'
+        o = ['abbrev pub Con : %s → Contract 𝓤\nCon 𝓤 H A at-mem run = tripleOf 𝓤 H A %s-F.signature (%s-F.spec 𝓤 H A at-mem run)\n' % (model, k, k)]
+        o.append('module _ %s where' % bind if bind else 'module _ where')
+        o.append('  abbrev pub rule : Rule\n  rule = record {')
+        o.append('    name = %s-F.Symbol.name;' % k)
+        o.append('    pars = %s;' % L([s.par(p) for p in f.params]))
+        o.append('    result = %s;' % f.res.ret)
+        o.append('    requires = %s;' % L([P(x) for x in s.facts(f, f.req, d)]))
+        o.append('    ensures = λ r z. %s;' % L([P(x) for x in s.facts(f, f.ens, d, e, 'r')]))
+        o.append('  }\n')
+        o.append('  abbrev pub to : %s → Chosen (rule .pars) → Con 𝓤 H A at-mem run .Ghost' % model)
+        o.append('  to 𝓤 H A at-mem run cs = ((Ks (rule .pars) cs, Qs (rule .pars) cs, tt, As (rule .pars) cs, Vss (rule .pars)), tt)\n')
+        body = '\n'.join(o)
+        us = ['use %s.{_≡_, ℕ, zero, suc, _<_, _≤_, _^_, _+_, _-_, _*_, _/_, _%%_, Bool, true, false, not, _⊎_, inl, inr, List, [], _∷_, length, getD, set, URA, w8, w16, w32, w64, SProp, Memory, Routine, Heap, Atoms, Fun, u8, u16, u32, u64, usize, bool, unit, Contract, tripleOf, At, Rule, by-shr, by-same, by-mut, by-ref, number, truth, struct, enum, of-number, of-truth, of-nothing, of-struct, of-enum, Chosen, Ks, Qs, As, Vss}' % s.law('Call')] + s.type_uses() + list(uses) + ['use %s as %s-F' % (mod, k)]
+        head = '-- The contract of `%s::%s`, for `calls-any`: what is passed, what is asked, and what is said of the result r and of the last values z.' % (f.crate, name)
         path = '%s/proofs/Call%s.antt' % (s.dir, camel(name))
-        open(path, 'w').write(prune('\n'.join(o)))
+        open(path, 'w').write('\n'.join([head] + trim(us, body)) + '\n\n' + body)
         return path
+
+def trim(us, body):
+    """of the imports, what the body names"""
+    has = lambda x: any(re.search('(?<![^\\s(){}.;,])%s(?![^\\s(){}.;,])' % re.escape(y), body) for y in [x] + ([x.strip('_')] if '_' in x.strip() and x.strip('_') else []))
+    o = []
+    for l in dict.fromkeys(us):
+        m = re.fullmatch('use (\\S+)\\.\\{(.*)\\}', l)
+        if m:
+            xs = [x.strip() for x in m[2].split(',')]
+            xs = [x for x in xs if has(x.split(' as ')[-1])]
+            if xs:
+                o.append('use %s.{%s}' % (m[1], ', '.join(xs)))
+        elif has(l.split(' as ')[-1]):
+            o.append(l)
+    return o
 
 def row_facts(sc, fs, name, label):
     """facts in a row, made from their product `name`, as one entry"""
@@ -1536,27 +1375,22 @@ class Walk:
         gam.cells = st.cells
         ops, _ = s.opds(a[2], gam)
         args = []
-        ats = []
-        nd = []
+        facts = []
+        own = [p.name for p in s.f.sharers]
         for p, v in zip(f.params, vs):
             if p.isref:
                 args += [P(v.at), P(st.has[v.key])]
-                if p.kind == 'shr':
-                    ats.append(P(v.at))
-                else:
-                    nd += ['ν-' + dash(p.name), 'δ-' + dash(p.name)]
-                    ats.append('(relent %s ν-%s δ-%s)' % (P(v.at), dash(p.name), dash(p.name)))
+                if p in f.sharers:
+                    facts.append('same-' + dash(v.key) if v.key in own else 'refl')
             else:
                 args.append(P(v.den))
-        own = [p.name for p in s.f.sharers]
-        facts = ['same-' + dash(v.key) if v.key in own else 'refl' for p, v in zip(f.params, vs) if p in f.sharers]
-        facts += [P(v.fact) for p, v in zip(f.params, vs) if not p.isref and p.ty.fact('x')]
+                facts.append(p.ty.isP(v.den, v.fact))
         dn = {p.name: st.has[v.key] if p.isref else v.den for p, v in zip(f.params, vs)}
         reqT = s.cr.says(f, f.req, dn) if f.req else None
         if reqT:
             pre += s.let('req-%s' % lab, reqT, s.fill(d.get('req', 'omega arith'), st))
-            facts.append('req-%s' % lab)
-        to = '(%s-C.to 𝓤 H A at-mem run %s)' % (kk, ' '.join(args + ats))
+        req = pairs([flat_at('req-%s' % lab, i_, len(f.req)) for i_ in range(len(f.req))])
+        to = '(%s-C.to %s)' % (kk, ' '.join(args + ['𝓤 H A at-mem run cs']))
         if s.cycle and g in s.cycle['members']:
             mu = s.fillp(s.cycle['measures'][g], f, dn)
             mu0 = s.fillp(s.cycle['measures'][s.name], s.f, {p.name: p.v for p in s.f.params})
@@ -1564,10 +1398,7 @@ class Walk:
             met = 'self-%s %s less-%s' % (kk, to, lab)
         else:
             met = 'known-%s %s' % (kk, to)
-        if nd:
-            met = '(λ %s. %s)' % (' '.join(nd), met)
-        else:
-            met = '(%s)' % met
+        met = '(λ cs. %s)' % met
         z = 'z-' + lab
         sv = 's-' + lab
         # after
@@ -1588,14 +1419,15 @@ class Walk:
             if p in f.muts:
                 st.has[v.key] = '(%s)' % e[p.name]
         if f.ens:
-            lets += s.let('says-' + lab, s.cr.says(f, f.ens, dn, {k: P(x) for k, x in e.items()}, '(%s .0)' % z), conj_at(sv, tot - 1, tot))
+            said = conj_at(sv, tot - 1, tot)
+            lets += s.let('says-' + lab, s.cr.says(f, f.ens, dn, {k: P(x) for k, x in e.items()}, '(%s .0)' % z), said if len(f.ens) < 3 else flat([conj_at(said, i_, len(f.ens)) for i_ in range(len(f.ens))]))
             if len(f.ens) > 1:
                 for i_, T_ in enumerate(s.cr.facts(f, f.ens, dn, {k: P(x) for k, x in e.items()}, '(%s .0)' % z)):
                     lets += s.let('says-%s-%s' % (lab, f.ens_names[i_]), T_, flat_at('says-' + lab, i_, len(f.ens)))
         res = V('plain', f.res, '%s .0' % z, P(f.res.of_is(P(conj_at(sv, 0, tot)))))
         i = int(a[3][1])
         w = s.put(i, res, st)
-        out = pre + '%s-C.calls-%s%s ! at-mem run fm %s %s%s%s' % (kk, kk, last, ' '.join(args + facts), met, s.nl + '  ', ops) + ' (λ %s %s.' % (z, sv) + s.nl + lets + 'land%s ! (from ! (stop !)) %s $' % (last, w) + s.nl
+        out = pre + 'calls-any%s W fm %s ! %s %s %s%s%s' % (last, P(' '.join(['%s-C.rule' % kk] + args)), tup(facts), req, met, s.nl + '  ', ops) + ' (λ %s %s.' % (z, sv) + s.nl + lets + 'land%s ! (from ! (stop !)) %s $' % (last, w) + s.nl
         st.cells[i] = res
         for p, v in zip(f.params, vs):
             if p.isref and getattr(v, 'array', None):

@@ -2,3 +2,4 @@ pub mod Flow
 pub mod Hand
 pub mod Sizes
 pub mod Arrays
+pub mod Call

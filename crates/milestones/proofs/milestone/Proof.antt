@@ -49,6 +49,7 @@ use denote.Triple.Walked.{says, needs, Stays, stay-none, stay-none-slice, stay-r
 use denote.Exit.{yes}
 use Rattle.references.proofs.Flow.{if-then, skip-then, exit-then, switch-then, assoc-then, loop-then, meets-at, frees-any}
 use Rattle.references.proofs.Hand.{At, lent as relent, ptrVal, fatVal, ref, HasRef, HasMut, HasShr, KeptRef, KeptMut, KeptShr, OpenRef, OpenAt, lend-ref, back-ref, lend-mut, back-mut, lend-shr, back-shr, open-ref, shut-ref, open-at, shut-at, back-at}
+use Rattle.references.proofs.Call.{calls-any, calls-any-last}
 use Rattle.milestones.specs.declared.Found.{Found}
 use Rattle.milestones.proofs.Found as Found-T
 use Rattle.milestones.proofs.Found.Laws as Found-L
@@ -101,6 +102,7 @@ use Rattle.milestones.proofs.Search.{nowhere, hit, miss, found-inside}
 use Rattle.milestones.proofs.Moves.{Moving, moving-start, moving-turn, moving-end}
 use Rattle.milestones.proofs.Whole.{countable, milestoned}
 use Rattle.milestones.proofs.Pairing.{first-of, inside, entry-fits, moves-first, moves-room, next-inside, here-inside, pair-neither, pair-start, placed, pair-end, pair-alone, end-inside, known-room, read-placed}
+
 use Rattle.milestones.proofs.milestone.Statement as stated
 use Rattle.milestones.proofs.milestone.Key.{name as #milestones·milestone}
 use base.Logic.{fst∗}
@@ -156,6 +158,7 @@ abbrev τ12 : Ty
 abbrev τ13 : Ty
 τ13 = sliceTy (tyRef erased mut (tyInt w64))
 
+
 module _ {M : Type 1} (𝓤 : URA M) (H : Heap 𝓤) (A : Atoms 𝓤) (W : Given 𝓤 H A) (at-mem : Memory → SProp 𝓤) (run : Routine → Fun 𝓤) (m₀ : MarkerInfo) (source-at : At) (source₀ : List ℕ) (tape-at : At) (tape₀ : List ℕ) (i₀ : ℕ) (opens-at : At) (opens₀ : List OpenStart) (rec₀ : Record) (list-at : At) (list₀ : List ℕ)
     (m₀-is : Is MarkerInfo-T.the-row m₀ (LL.val MarkerInfo-T.the-type MarkerInfo-L.the-laws m₀ ∷ [])) (source-room : SizeOf u8 (source-at .n)) (source-n : source-at .n ≡ length source₀) (tape-room : SizeOf u8 (tape-at .n)) (tape-n : tape-at .n ≡ length tape₀) (i₀-is : i₀ < 2 ^ 64) (opens-room : SizeOf OpenStart-T.the-row (opens-at .n)) (opens-n : opens-at .n ≡ length opens₀) (rec₀-is : Is Record-T.the-row rec₀ (LL.val Record-T.the-type Record-L.the-laws rec₀ ∷ [])) (list-room : SizeOf u64 (list-at .n)) (list-n : list-at .n ≡ length list₀) (req : Steppable (entryOfInfo m₀) source₀ tape₀ i₀ opens₀ rec₀) where
   abbrev Y : walkOf 𝓤 H A milestone-F.ended stayed (milestone-F.clauses 𝓤 H A at-mem run) .Ghost
@@ -178,6 +181,7 @@ module _ {M : Type 1} (𝓤 : URA M) (H : Heap 𝓤) (A : Atoms 𝓤) (W : Given
   abbrev Dead : ℕ → ℕ → ℕ → ℕ → ℕ → ℕ → ℕ → ℕ → ℕ → ℕ → ℕ → ℕ → ℕ → ℕ → Item 𝓤
   Dead l0 l1 l2 l3 l4 l5 l6 l7 l8 l9 l10 l11 l12 l13 = Dies 𝓤 H (τ0, l0) ((τ1, l1) ∷ (τ2, l2) ∷ (τ3, l3) ∷ (τ4, l4) ∷ (τ5, l5) ∷ (τ6, l6) ∷ (τ7, l7) ∷ (τ8, l8) ∷ (τ9, l9) ∷ (τ10, l10) ∷ (τ11, l11) ∷ (τ12, l12) ∷ (τ13, l13) ∷ [])
 
+
   module _ (𝓣 : Tables 𝓤 H) (known-step-of : Triple 𝓤 (𝓣 .C #milestones·step-of) (step-of-C.Con 𝓤 H A at-mem run)) (known-pair : Triple 𝓤 (𝓣 .C #milestones·pair) (pair-C.Con 𝓤 H A at-mem run)) (known-after-pair : Triple 𝓤 (𝓣 .C #milestones·after-pair) (after-pair-C.Con 𝓤 H A at-mem run)) where
     abbrev fm : FmC 𝓤 H (W .laws) (𝓣 .C)
     fm = fmOf 𝓤 H (W .laws) 𝓣
@@ -189,27 +193,27 @@ module _ {M : Type 1} (𝓤 : URA M) (H : Heap 𝓤) (A : Atoms 𝓤) (W : Given
         alloc1 ! (λ l0. alloc1 ! (λ l1. alloc1 ! (λ l2. alloc1 ! (λ l3. alloc1 ! (λ l4. alloc1 ! (λ l5. alloc1 ! (λ l6. alloc1 ! (λ l7. alloc1 ! (λ l8. alloc1 ! (λ l9. alloc1 ! (λ l10. alloc1 ! (λ l11. alloc1 ! (λ l12. alloc1 ! (λ l13. alloc0 ! $ params1 ! $ pass1 ! (init ! 24 refl (LL.lawful MarkerInfo-T.the-type MarkerInfo-L.the-laws 𝓤 H A W .typed m₀ _ m₀-is .0)) $ pass1 ! (init ! 22 refl (tt, (tt, (record { fits = (source-room .0) }, tt)))) $ pass1 ! (init ! 20 refl (tt, (tt, (record { fits = (tape-room .0) }, tt)))) $ pass1 ! (init ! 18 refl (tt, record { fits = i₀-is })) $ pass1 ! (init ! 16 refl (tt, (tt, (record { fits = (opens-room .0) }, tt)))) $ pass1 ! (init ! 14 refl (LL.lawful Record-T.the-type Record-L.the-laws 𝓤 H A W .typed rec₀ _ rec₀-is .0)) $ pass1 ! (init ! 12 refl (tt, (tt, (record { fits = (list-room .0) }, tt)))) $ pass0 ! $
         move ! (27 ∷ 25 ∷ 23 ∷ 21 ∷ 19 ∷ 17 ∷ 15 ∷ 13 ∷ 11 ∷ 9 ∷ 7 ∷ 5 ∷ 3 ∷ 1 ∷ 26 ∷ 24 ∷ 22 ∷ 20 ∷ 18 ∷ 16 ∷ 14 ∷ 12 ∷ 10 ∷ 8 ∷ 6 ∷ 4 ∷ 2 ∷ 0 ∷ []) $ group ! 14 $
         move ! (15 ∷ 16 ∷ []) $ let req-step-of : (Spanned source₀ tape₀ i₀) × (i₀ < 4294967296) = (req .spanned, req .low) in
-        step-of-C.calls-step-of ! at-mem run fm m₀ source-at source₀ tape-at tape₀ i₀ m₀-is i₀-is req-step-of (known-step-of (step-of-C.to 𝓤 H A at-mem run m₀ source-at source₀ tape-at tape₀ i₀ source-at tape-at))
-        (and-then ! (load ! (from ! (stop !)) (look ! 3 refl)) (and-then ! (load ! (from ! (stop !)) (look ! 4 refl)) (and-then ! (load ! (from ! (stop !)) (look ! 5 refl)) (and-then ! (load ! (from ! (stop !)) (look ! 6 refl)) (no-more !))))) (λ z-step-of s-step-of.
+        calls-any W fm (step-of-C.rule m₀ source-at source₀ tape-at tape₀ i₀) ! (m₀-is, ((refl, i₀-is), tt)) req-step-of (λ cs. known-step-of (step-of-C.to m₀ source-at source₀ tape-at tape₀ i₀ 𝓤 H A at-mem run cs))
+          (and-then ! (load ! (from ! (stop !)) (look ! 3 refl)) (and-then ! (load ! (from ! (stop !)) (look ! 4 refl)) (and-then ! (load ! (from ! (stop !)) (look ! 5 refl)) (and-then ! (load ! (from ! (stop !)) (look ! 6 refl)) (no-more !))))) (λ z-step-of s-step-of.
         let says-step-of : Read (entryOfInfo m₀) source₀ tape₀ i₀ (z-step-of .0) = s-step-of .1 in
         land ! (from ! (stop !)) (init ! 11 refl (EL.lawful Step-T.the-type Step-L.the-laws 𝓤 H A W tt .typed (z-step-of .0) _ (s-step-of .0) .0)) $
         assigns ! (addr ! (from ! (fld ! refl (hop ! (look-in ! 8 (sub ! 0 refl (whole !))) (stop !))))) (from ! (stop !)) (init ! 13 refl (tt, tt)) $
         assigns ! (agg ! (and-then ! (load ! (from ! (stop !)) (look ! 13 refl)) (and-then ! (load ! (from ! (fld ! refl (stop !))) (look-in ! 8 (sub ! 1 refl (whole !)))) (no-more !)))) (from ! (stop !)) (init ! 14 refl (tt, (tt, (record { fits = (opens-room .0) }, tt)))) $
         move ! (0 ∷ 1 ∷ 17 ∷ []) $ let req-pair : (Opens source₀ tape₀ opens₀ (rec₀ .«open»)) × ((rec₀ .«open») < length opens₀) × (Placed source₀ (z-step-of .0)) = (req .known, req .more, read-placed (entryOfInfo m₀) source₀ tape₀ i₀ (z-step-of .0) says-step-of) in
-        pair-C.calls-pair ! at-mem run fm source-at source₀ tape-at tape₀ (z-step-of .0) opens-at opens₀ (rec₀ .«open») (s-step-of .0) ((LL.lawful Record-T.the-type Record-L.the-laws 𝓤 H A W .typed rec₀ _ rec₀-is .0) .1 .1 .1 .1 .1 .1 .1 .1 .1 .0 .fits) req-pair (λ ν-opens δ-opens. known-pair (pair-C.to 𝓤 H A at-mem run source-at source₀ tape-at tape₀ (z-step-of .0) opens-at opens₀ (rec₀ .«open») source-at tape-at (relent opens-at ν-opens δ-opens)))
-        (and-then ! (load ! (from ! (stop !)) (look ! 4 refl)) (and-then ! (load ! (from ! (stop !)) (look ! 5 refl)) (and-then ! (load ! (from ! (stop !)) (look ! 10 refl)) (and-then ! (load ! (from ! (stop !)) (look ! 13 refl)) (and-then ! (load ! (from ! (fld ! refl (stop !))) (look-in ! 8 (sub ! 8 refl (whole !)))) (no-more !)))))) (λ z-pair s-pair.
+        calls-any W fm (pair-C.rule source-at source₀ tape-at tape₀ (z-step-of .0) opens-at opens₀ (rec₀ .«open»)) ! ((s-step-of .0), ((refl, (LL.lawful Record-T.the-type Record-L.the-laws 𝓤 H A W .typed rec₀ _ rec₀-is .0) .1 .1 .1 .1 .1 .1 .1 .1 .1 .0 .fits), tt)) req-pair (λ cs. known-pair (pair-C.to source-at source₀ tape-at tape₀ (z-step-of .0) opens-at opens₀ (rec₀ .«open») 𝓤 H A at-mem run cs))
+          (and-then ! (load ! (from ! (stop !)) (look ! 4 refl)) (and-then ! (load ! (from ! (stop !)) (look ! 5 refl)) (and-then ! (load ! (from ! (stop !)) (look ! 10 refl)) (and-then ! (load ! (from ! (stop !)) (look ! 13 refl)) (and-then ! (load ! (from ! (fld ! refl (stop !))) (look-in ! 8 (sub ! 8 refl (whole !)))) (no-more !)))))) (λ z-pair s-pair.
         let len-pair-opens : length (z-pair .1 .0) ≡ length opens₀ = s-pair .1 .0 in
         let says-pair : ((z-pair .1 .0) ≡ opensBy (z-step-of .0) (takenBy source₀ tape₀ opens₀ (rec₀ .«open») (z-step-of .0)) opens₀ (rec₀ .«open»)) × ((z-pair .0) ≡ pairedBy (z-step-of .0) (takenBy source₀ tape₀ opens₀ (rec₀ .«open») (z-step-of .0)) (rec₀ .«open»)) = s-pair .1 .1 in
         land ! (from ! (stop !)) (init ! 13 refl (EL.lawful Paired-T.the-type Paired-L.the-laws 𝓤 H A W tt .typed (z-pair .0) _ (s-pair .0) .0)) $
         assigns ! (addr ! (from ! (fld ! refl (hop ! (look-in ! 11 (sub ! 0 refl (whole !))) (stop !))))) (from ! (stop !)) (init ! 16 refl (tt, tt)) $
         assigns ! (agg ! (and-then ! (load ! (from ! (stop !)) (look ! 16 refl)) (and-then ! (load ! (from ! (fld ! refl (stop !))) (look-in ! 11 (sub ! 1 refl (whole !)))) (no-more !)))) (from ! (stop !)) (init ! 17 refl (tt, (tt, (record { fits = (list-room .0) }, tt)))) $
         move ! (1 ∷ 18 ∷ []) $ let req-after-pair : (i₀ < count tape₀) × Countable tape₀ i₀ (z-pair .0) rec₀ = (req .spanned .inside, countable (entryOfInfo m₀) source₀ tape₀ i₀ opens₀ list₀ rec₀ (req .known) (z-step-of .0) says-step-of (z-pair .0) (says-pair .1) (req .room)) in
-        after-pair-C.calls-after-pair ! at-mem run fm tape-at tape₀ i₀ (z-pair .0) rec₀ list-at list₀ i₀-is (s-pair .0) rec₀-is req-after-pair (λ ν-list δ-list. known-after-pair (after-pair-C.to 𝓤 H A at-mem run tape-at tape₀ i₀ (z-pair .0) rec₀ list-at list₀ tape-at (relent list-at ν-list δ-list)))
-        (and-then ! (load ! (from ! (stop !)) (look ! 7 refl)) (and-then ! (load ! (from ! (stop !)) (look ! 8 refl)) (and-then ! (load ! (from ! (stop !)) (look ! 13 refl)) (and-then ! (load ! (from ! (stop !)) (look ! 10 refl)) (and-then ! (load ! (from ! (stop !)) (look ! 17 refl)) (no-more !)))))) (λ z-after-pair s-after-pair.
+        calls-any W fm (after-pair-C.rule tape-at tape₀ i₀ (z-pair .0) rec₀ list-at list₀) ! ((refl, i₀-is), ((s-pair .0), (rec₀-is, tt))) req-after-pair (λ cs. known-after-pair (after-pair-C.to tape-at tape₀ i₀ (z-pair .0) rec₀ list-at list₀ 𝓤 H A at-mem run cs))
+          (and-then ! (load ! (from ! (stop !)) (look ! 7 refl)) (and-then ! (load ! (from ! (stop !)) (look ! 8 refl)) (and-then ! (load ! (from ! (stop !)) (look ! 13 refl)) (and-then ! (load ! (from ! (stop !)) (look ! 10 refl)) (and-then ! (load ! (from ! (stop !)) (look ! 17 refl)) (no-more !)))))) (λ z-after-pair s-after-pair.
         let len-after-pair-list : length (z-after-pair .1 .0) ≡ length list₀ = s-after-pair .1 .0 in
         let says-after-pair : Counted tape₀ i₀ (z-pair .0) list₀ rec₀ (z-after-pair .1 .0) (z-after-pair .0) = s-after-pair .1 .1 in
         land ! (from ! (stop !)) (init ! 5 refl (LL.lawful Record-T.the-type Record-L.the-laws 𝓤 H A W .typed (z-after-pair .0) _ (s-after-pair .0) .0)) $
-        returns-within ! Post refl (look ! 5 refl) $ move ! (4 ∷ 5 ∷ 6 ∷ 7 ∷ 8 ∷ 9 ∷ 10 ∷ 11 ∷ 12 ∷ 13 ∷ 14 ∷ 15 ∷ 16 ∷ 17 ∷ 18 ∷ []) $ frees-any ! (full _ ∷ full _ ∷ full _ ∷ full _ ∷ full _ ∷ full _ ∷ full _ ∷ full _ ∷ full _ ∷ full _ ∷ full _ ∷ full _ ∷ full _ ∷ full _ ∷ []) $ keep ! (2 ∷ 0 ∷ 3 ∷ 1 ∷ []) $
+        returns-within ! Post refl (look ! 5 refl) $ move ! (4 ∷ 5 ∷ 6 ∷ 7 ∷ 8 ∷ 9 ∷ 10 ∷ 11 ∷ 12 ∷ 13 ∷ 14 ∷ 15 ∷ 16 ∷ 17 ∷ 18 ∷ []) $ frees-any ! (full _ ∷ full _ ∷ full _ ∷ full _ ∷ full _ ∷ full _ ∷ full _ ∷ full _ ∷ full _ ∷ full _ ∷ full _ ∷ full _ ∷ full _ ∷ full _ ∷ []) $ keep ! (2 ∷ 0 ∷ 3 ∷ 1 ∷ []) $ 
         by ! (exits (z-after-pair .0) (z-pair .1 .0) (z-after-pair .1 .0) (s-after-pair .0) len-pair-opens len-after-pair-list (milestoned (entryOfInfo m₀) source₀ tape₀ i₀ opens₀ list₀ rec₀ (req .known) (z-step-of .0) says-step-of (req .spanned) (req .more) _ (says-pair .0) len-pair-opens (z-pair .0) (says-pair .1) _ _ says-after-pair))))))))))))))))))))
 
 milestone-meets : {M : Type 1} (𝓤 : URA M) (H : Heap 𝓤) (A : Atoms 𝓤) (W : Given 𝓤 H A) (at-mem : Memory → SProp 𝓤) (run : Routine → Fun 𝓤) (𝓣 : Tables 𝓤 H) → Triple 𝓤 (𝓣 .C #milestones·step-of) (step-of-C.Con 𝓤 H A at-mem run) → Triple 𝓤 (𝓣 .C #milestones·pair) (pair-C.Con 𝓤 H A at-mem run) → Triple 𝓤 (𝓣 .C #milestones·after-pair) (after-pair-C.Con 𝓤 H A at-mem run) → Meets 𝓤 H A milestone-F.signature (WpFn 𝓤 H (𝓣 .C) (𝓣 .Λ) code.function) (milestone-F.spec 𝓤 H A at-mem run)

@@ -49,6 +49,7 @@ use denote.Triple.Walked.{says, needs, Stays, stay-none, stay-none-slice, stay-r
 use denote.Exit.{yes}
 use Rattle.references.proofs.Flow.{if-then, skip-then, exit-then, switch-then, assoc-then, loop-then, meets-at, frees-any}
 use Rattle.references.proofs.Hand.{At, lent as relent, ptrVal, fatVal, ref, HasRef, HasMut, HasShr, KeptRef, KeptMut, KeptShr, OpenRef, OpenAt, lend-ref, back-ref, lend-mut, back-mut, lend-shr, back-shr, open-ref, shut-ref, open-at, shut-at, back-at}
+use Rattle.references.proofs.Call.{calls-any, calls-any-last}
 use Rattle.milestones.specs.declared.Found.{Found}
 use Rattle.milestones.proofs.Found as Found-T
 use Rattle.milestones.proofs.Found.Laws as Found-L
@@ -97,6 +98,7 @@ use Rattle.milestones.proofs.Search.{nowhere, hit, miss, found-inside}
 use Rattle.milestones.proofs.Moves.{Moving, moving-start, moving-turn, moving-end}
 use Rattle.milestones.proofs.Whole.{countable, milestoned}
 use Rattle.milestones.proofs.Pairing.{first-of, inside, entry-fits, moves-first, moves-room, next-inside, here-inside, pair-neither, pair-start, placed, pair-end, pair-alone, end-inside, known-room, read-placed}
+
 use Rattle.milestones.proofs.nearest.Statement as stated
 use Rattle.milestones.proofs.nearest.Key.{name as #milestones·nearest}
 use base.Logic.{fst∗}
@@ -148,6 +150,7 @@ abbrev τ12 : Ty
 abbrev τ13 : Ty
 τ13 = tyBool
 
+
 module _ {M : Type 1} (𝓤 : URA M) (H : Heap 𝓤) (A : Atoms 𝓤) (W : Given 𝓤 H A) (at-mem : Memory → SProp 𝓤) (run : Routine → Fun 𝓤) (source-at : At) (source₀ : List ℕ) (tape-at : At) (tape₀ : List ℕ) (opens-at : At) (opens₀ : List OpenStart) (k₀ : ℕ) (at₀ : ℕ) (len₀ : ℕ)
     (source-room : SizeOf u8 (source-at .n)) (source-n : source-at .n ≡ length source₀) (tape-room : SizeOf u8 (tape-at .n)) (tape-n : tape-at .n ≡ length tape₀) (opens-room : SizeOf OpenStart-T.the-row (opens-at .n)) (opens-n : opens-at .n ≡ length opens₀) (k₀-is : k₀ < 2 ^ 64) (at₀-is : at₀ < 2 ^ 64) (len₀-is : len₀ < 2 ^ 64) (req : (Opens source₀ tape₀ opens₀ k₀) × (at₀ + len₀ ≤ length source₀)) where
   abbrev Y : walkOf 𝓤 H A nearest-F.ended stayed (nearest-F.clauses 𝓤 H A at-mem run) .Ghost
@@ -173,6 +176,7 @@ module _ {M : Type 1} (𝓤 : URA M) (H : Heap 𝓤) (A : Atoms 𝓤) (W : Given
   abbrev μ-loop-0 : ℕ × Unit {0} → ℕ
   μ-loop-0 y = (y .0)
 
+
   module _ (𝓣 : Tables 𝓤 H) (known-has-base : Triple 𝓤 (𝓣 .C #milestones·has-base) (has-base-C.Con 𝓤 H A at-mem run)) where
     abbrev fm : FmC 𝓤 H (W .laws) (𝓣 .C)
     fm = fmOf 𝓤 H (W .laws) 𝓣
@@ -185,7 +189,7 @@ module _ {M : Type 1} (𝓤 : URA M) (H : Heap 𝓤) (A : Atoms 𝓤) (W : Given
         move ! (27 ∷ 25 ∷ 23 ∷ 21 ∷ 19 ∷ 17 ∷ 15 ∷ 13 ∷ 11 ∷ 9 ∷ 7 ∷ 5 ∷ 3 ∷ 1 ∷ 26 ∷ 24 ∷ 22 ∷ 20 ∷ 18 ∷ 16 ∷ 14 ∷ 12 ∷ 10 ∷ 8 ∷ 6 ∷ 4 ∷ 2 ∷ 0 ∷ []) $ group ! 14 $
         assigns ! (of-opd ! (load ! (from ! (stop !)) (look ! 5 refl))) (from ! (stop !)) (init ! 8 refl (tt, record { fits = k₀-is })) $
         use0 W (raw (fact 𝓤 ((k₀ < 2 ^ 64) × (((k₀ ≤ k₀) × (nearestIn source₀ tape₀ opens₀ k₀ (baseAt source₀ at₀ len₀) ≡ nearestIn source₀ tape₀ opens₀ k₀ (baseAt source₀ at₀ len₀))))))) (factI 𝓤 ((k₀ < 2 ^ 64) × (((k₀ ≤ k₀) × (nearestIn source₀ tape₀ opens₀ k₀ (baseAt source₀ at₀ len₀) ≡ nearestIn source₀ tape₀ opens₀ k₀ (baseAt source₀ at₀ len₀))))) (emp 𝓤) (k₀-is, (omega arith, refl))) $
-        keep ! (0 ∷ 1 ∷ 2 ∷ 3 ∷ 4 ∷ 5 ∷ 6 ∷ 7 ∷ 8 ∷ 9 ∷ 10 ∷ 11 ∷ 12 ∷ 13 ∷ 14 ∷ 15 ∷ 16 ∷ 17 ∷ 18 ∷ []) $
+        keep ! (0 ∷ 1 ∷ 2 ∷ 3 ∷ 4 ∷ 5 ∷ 6 ∷ 7 ∷ 8 ∷ 9 ∷ 10 ∷ 11 ∷ 12 ∷ 13 ∷ 14 ∷ 15 ∷ 16 ∷ 17 ∷ 18 ∷ []) $ 
         loop-then ! 𝓣 (λ (a b : ℕ × Unit {0}). μ-loop-0 a < μ-loop-0 b) (InvImage·wf (μ-loop-0) (Nat·lt-wfRel .wf)) (λ (y100 : ℕ × Unit {0}). raw (fact 𝓤 (((y100 .0) < 2 ^ 64) × ((((y100 .0) ≤ k₀) × (nearestIn source₀ tape₀ opens₀ k₀ (baseAt source₀ at₀ len₀) ≡ nearestIn source₀ tape₀ opens₀ (y100 .0) (baseAt source₀ at₀ len₀)))))) ∷ Dead l0 l1 l2 l3 l4 l5 l6 l7 l8 l9 l10 l11 l12 l13 ∷ ‵ (froom τ0 l0 0) ∷ ‵ (fat fullShare τ1 l1 0 (fatVal source-at)) ∷ ‵ (fat fullShare τ2 l2 0 (fatVal tape-at)) ∷ ‵ (fat fullShare τ3 l3 0 (fatVal opens-at)) ∷ ‵ (fat fullShare τ4 l4 0 (vint w64 k₀)) ∷ ‵ (fat fullShare τ5 l5 0 (vint w64 at₀)) ∷ ‵ (fat fullShare τ6 l6 0 (vint w64 len₀)) ∷ ‵ (fat fullShare τ7 l7 0 (vint w64 (y100 .0))) ∷ ‵ (froom τ8 l8 0) ∷ ‵ (froom τ9 l9 0) ∷ ‵ (froom τ10 l10 0) ∷ ‵ (froom τ11 l11 0) ∷ ‵ (froom τ12 l12 0) ∷ ‵ (froom τ13 l13 0) ∷ ‵ (HasShr u8 source-at source₀) ∷ ‵ (HasShr u8 tape-at tape₀) ∷ ‵ (HasMut OpenStart-T.the-row opens-at opens₀) ∷ []) (λ y100 leave-0. heard ! (((y100 .0) < 2 ^ 64) × ((((y100 .0) ≤ k₀) × (nearestIn source₀ tape₀ opens₀ k₀ (baseAt source₀ at₀ len₀) ≡ nearestIn source₀ tape₀ opens₀ (y100 .0) (baseAt source₀ at₀ len₀))))) (λ j100.
         let is-j-100 : (y100 .0) < 2 ^ 64 = j100 .0 in
         let inv-100 : ((y100 .0) ≤ k₀) × (nearestIn source₀ tape₀ opens₀ k₀ (baseAt source₀ at₀ len₀) ≡ nearestIn source₀ tape₀ opens₀ (y100 .0) (baseAt source₀ at₀ len₀)) = j100 .1 in
@@ -206,14 +210,14 @@ module _ {M : Type 1} (𝓤 : URA M) (H : Heap 𝓤) (A : Atoms 𝓤) (W : Given
         use2 W (later (‵ (HasMut OpenStart-T.the-row opens-at opens₀))) (back-at OpenStart-T.the-row 𝓤 H A W opens-at (LL.vals OpenStart-T.the-type OpenStart-L.the-laws) (LL.tells OpenStart-T.the-type OpenStart-L.the-laws) (LL.makes OpenStart-T.the-type OpenStart-L.the-plain 𝓤 H A) opens₀ ((y100 .0) - 1) (noStart) in-1 open-1) $ await ! tt $
         assigns ! (of-opd ! (load ! (from ! (stop !)) (look ! 14 refl))) (from ! (stop !)) (init ! 10 refl (LL.lawful OpenStart-T.the-type OpenStart-L.the-laws 𝓤 H A W .typed (getD opens₀ ((y100 .0) - 1) (noStart)) _ open-1 .0)) $
         move ! (16 ∷ 17 ∷ []) $ let req-has-base : (Measured source₀ tape₀ ((getD opens₀ ((y100 .0) - 1) (noStart)) .node) ((getD opens₀ ((y100 .0) - 1) (noStart)) .«base_len»)) × (at₀ + len₀ ≤ length source₀) = (entry-fits _ _ _ _ (req .0) _ test-0 (inv-100 .0), req .1) in
-        has-base-C.calls-has-base ! at-mem run fm source-at source₀ tape-at tape₀ (getD opens₀ ((y100 .0) - 1) (noStart)) at₀ len₀ open-1 at₀-is len₀-is req-has-base (known-has-base (has-base-C.to 𝓤 H A at-mem run source-at source₀ tape-at tape₀ (getD opens₀ ((y100 .0) - 1) (noStart)) at₀ len₀ source-at tape-at))
-        (and-then ! (load ! (from ! (stop !)) (look ! 4 refl)) (and-then ! (load ! (from ! (stop !)) (look ! 5 refl)) (and-then ! (load ! (from ! (stop !)) (look ! 11 refl)) (and-then ! (load ! (from ! (stop !)) (look ! 8 refl)) (and-then ! (load ! (from ! (stop !)) (look ! 9 refl)) (no-more !)))))) (λ z-has-base s-has-base.
+        calls-any W fm (has-base-C.rule source-at source₀ tape-at tape₀ (getD opens₀ ((y100 .0) - 1) (noStart)) at₀ len₀) ! (open-1, ((refl, at₀-is), ((refl, len₀-is), tt))) req-has-base (λ cs. known-has-base (has-base-C.to source-at source₀ tape-at tape₀ (getD opens₀ ((y100 .0) - 1) (noStart)) at₀ len₀ 𝓤 H A at-mem run cs))
+          (and-then ! (load ! (from ! (stop !)) (look ! 4 refl)) (and-then ! (load ! (from ! (stop !)) (look ! 5 refl)) (and-then ! (load ! (from ! (stop !)) (look ! 11 refl)) (and-then ! (load ! (from ! (stop !)) (look ! 8 refl)) (and-then ! (load ! (from ! (stop !)) (look ! 9 refl)) (no-more !)))))) (λ z-has-base s-has-base.
         let says-has-base : (z-has-base .0) ≡ equal (baseOf (nodeAt source₀ tape₀ ((getD opens₀ ((y100 .0) - 1) (noStart)) .node))) (baseAt source₀ at₀ len₀) = s-has-base .1 in
         land ! (from ! (stop !)) (init ! 17 refl (tt, tt)) $
         branches ! (load ! (from ! (stop !)) (look ! 17 refl))
         (λ h1. let test-1 : z-has-base .0 ≡ true = is-true (z-has-base .0) h1 in
         assigns ! (agg ! (and-then ! (lit ! tt) (and-then ! (load ! (from ! (stop !)) (look ! 11 refl)) (no-more !)))) (from ! (stop !)) (init ! 4 refl (EL.lawful Found-T.the-type Found-L.the-laws 𝓤 H A W tt .typed (Found-V.At ((y100 .0) - 1)) _ (EL.owes Found-T.the-type Found-L.the-laws (Found-V.At ((y100 .0) - 1)) ((refl, fits-1), tt)) .0)) $
-        returns-within ! Post refl (look ! 4 refl) $ move ! (3 ∷ 4 ∷ 5 ∷ 6 ∷ 7 ∷ 8 ∷ 9 ∷ 10 ∷ 11 ∷ 12 ∷ 13 ∷ 14 ∷ 15 ∷ 16 ∷ 17 ∷ []) $ frees-any ! (full _ ∷ full _ ∷ full _ ∷ full _ ∷ full _ ∷ full _ ∷ full _ ∷ full _ ∷ full _ ∷ full _ ∷ full _ ∷ full _ ∷ full _ ∷ full _ ∷ []) $ keep ! (0 ∷ 1 ∷ 2 ∷ []) $
+        returns-within ! Post refl (look ! 4 refl) $ move ! (3 ∷ 4 ∷ 5 ∷ 6 ∷ 7 ∷ 8 ∷ 9 ∷ 10 ∷ 11 ∷ 12 ∷ 13 ∷ 14 ∷ 15 ∷ 16 ∷ 17 ∷ []) $ frees-any ! (full _ ∷ full _ ∷ full _ ∷ full _ ∷ full _ ∷ full _ ∷ full _ ∷ full _ ∷ full _ ∷ full _ ∷ full _ ∷ full _ ∷ full _ ∷ full _ ∷ []) $ keep ! (0 ∷ 1 ∷ 2 ∷ []) $ 
         by ! (exits (Found-V.At ((y100 .0) - 1)) opens₀ (EL.owes Found-T.the-type Found-L.the-laws (Found-V.At ((y100 .0) - 1)) ((refl, fits-1), tt)) refl (refl, sym (inv-100 .1 ∙ hit _ _ _ _ _ test-0 _ says-has-base test-1))))
         (λ h1. let test-1 : z-has-base .0 ≡ false = is-false (z-has-base .0) h1 in
         skips ! $ forget ! 12 refl $ forget ! 13 refl $ forget ! 14 refl $ forget ! 15 refl $ forget ! 16 refl $ forget ! 17 refl $ use0 W (raw (fact 𝓤 ((((y100 .0) - 1) < 2 ^ 64) × (((((y100 .0) - 1) ≤ k₀) × (nearestIn source₀ tape₀ opens₀ k₀ (baseAt source₀ at₀ len₀) ≡ nearestIn source₀ tape₀ opens₀ ((y100 .0) - 1) (baseAt source₀ at₀ len₀))))))) (factI 𝓤 ((((y100 .0) - 1) < 2 ^ 64) × (((((y100 .0) - 1) ≤ k₀) × (nearestIn source₀ tape₀ opens₀ k₀ (baseAt source₀ at₀ len₀) ≡ nearestIn source₀ tape₀ opens₀ ((y100 .0) - 1) (baseAt source₀ at₀ len₀))))) (emp 𝓤) (fits-1, (omega (arith, inv-100 .0), inv-100 .1 ∙ miss _ _ _ _ _ test-0 _ says-has-base test-1))) $
@@ -221,7 +225,7 @@ module _ {M : Type 1} (𝓤 : URA M) (H : Heap 𝓤) (A : Atoms 𝓤) (W : Given
         (λ h0. let test-0 : (y100 .0) ≤ 0 = nltb→le 0 (y100 .0) h0 in
         exit-then ! $ leave-0 _ $
         assigns ! (agg ! (and-then ! (lit ! tt) (no-more !))) (from ! (stop !)) (init ! 1 refl (EL.lawful Found-T.the-type Found-L.the-laws 𝓤 H A W tt .typed Found-V.Nothing _ (EL.owes Found-T.the-type Found-L.the-laws Found-V.Nothing tt) .0)) $
-        returns-within ! Post refl (look ! 1 refl) $ frees-any ! (full _ ∷ full _ ∷ full _ ∷ full _ ∷ full _ ∷ full _ ∷ full _ ∷ full _ ∷ empty ∷ full _ ∷ empty ∷ empty ∷ empty ∷ empty ∷ []) $ keep ! (0 ∷ 1 ∷ 2 ∷ []) $
+        returns-within ! Post refl (look ! 1 refl) $ frees-any ! (full _ ∷ full _ ∷ full _ ∷ full _ ∷ full _ ∷ full _ ∷ full _ ∷ full _ ∷ empty ∷ full _ ∷ empty ∷ empty ∷ empty ∷ empty ∷ []) $ keep ! (0 ∷ 1 ∷ 2 ∷ []) $ 
         by ! (exits Found-V.Nothing opens₀ (EL.owes Found-T.the-type Found-L.the-laws Found-V.Nothing tt) refl (refl, sym (inv-100 .1 ∙ nowhere _ _ _ _ _ test-0)))))) (k₀, tt))))))))))))))))
 
 nearest-meets : {M : Type 1} (𝓤 : URA M) (H : Heap 𝓤) (A : Atoms 𝓤) (W : Given 𝓤 H A) (at-mem : Memory → SProp 𝓤) (run : Routine → Fun 𝓤) (𝓣 : Tables 𝓤 H) → Triple 𝓤 (𝓣 .C #milestones·has-base) (has-base-C.Con 𝓤 H A at-mem run) → Meets 𝓤 H A nearest-F.signature (WpFn 𝓤 H (𝓣 .C) (𝓣 .Λ) code.function) (nearest-F.spec 𝓤 H A at-mem run)

@@ -49,6 +49,7 @@ use denote.Triple.Walked.{says, needs, Stays, stay-none, stay-none-slice, stay-r
 use denote.Exit.{yes}
 use Rattle.references.proofs.Flow.{if-then, skip-then, exit-then, switch-then, assoc-then, loop-then, meets-at, frees-any}
 use Rattle.references.proofs.Hand.{At, lent as relent, ptrVal, fatVal, ref, HasRef, HasMut, HasShr, KeptRef, KeptMut, KeptShr, OpenRef, OpenAt, lend-ref, back-ref, lend-mut, back-mut, lend-shr, back-shr, open-ref, shut-ref, open-at, shut-at, back-at}
+use Rattle.references.proofs.Call.{calls-any, calls-any-last}
 use Rattle.milestones.specs.declared.Found.{Found}
 use Rattle.milestones.proofs.Found as Found-T
 use Rattle.milestones.proofs.Found.Laws as Found-L
@@ -95,6 +96,7 @@ use Rattle.milestones.proofs.Search.{nowhere, hit, miss, found-inside}
 use Rattle.milestones.proofs.Moves.{Moving, moving-start, moving-turn, moving-end}
 use Rattle.milestones.proofs.Whole.{countable, milestoned}
 use Rattle.milestones.proofs.Pairing.{first-of, inside, entry-fits, moves-first, moves-room, next-inside, here-inside, pair-neither, pair-start, placed, pair-end, pair-alone, end-inside, known-room, read-placed}
+
 use Rattle.milestones.proofs.push.Statement as stated
 use Rattle.milestones.proofs.push.Key.{name as #milestones·push}
 use base.Logic.{fst∗}
@@ -120,6 +122,7 @@ abbrev τ4 : Ty
 abbrev τ5 : Ty
 τ5 = tyPtr
 
+
 module _ {M : Type 1} (𝓤 : URA M) (H : Heap 𝓤) (A : Atoms 𝓤) (W : Given 𝓤 H A) (at-mem : Memory → SProp 𝓤) (run : Routine → Fun 𝓤) (opens-at : At) (opens₀ : List OpenStart) (k₀ : ℕ) (o₀ : OpenStart)
     (opens-room : SizeOf OpenStart-T.the-row (opens-at .n)) (opens-n : opens-at .n ≡ length opens₀) (k₀-is : k₀ < 2 ^ 64) (o₀-is : Is OpenStart-T.the-row o₀ (LL.val OpenStart-T.the-type OpenStart-L.the-laws o₀ ∷ [])) (req : k₀ < length opens₀) where
   abbrev Y : walkOf 𝓤 H A push-F.ended stayed (push-F.clauses 𝓤 H A at-mem run) .Ghost
@@ -142,7 +145,8 @@ module _ {M : Type 1} (𝓤 : URA M) (H : Heap 𝓤) (A : Atoms 𝓤) (W : Given
   abbrev Dead : ℕ → ℕ → ℕ → ℕ → ℕ → ℕ → Item 𝓤
   Dead l0 l1 l2 l3 l4 l5 = Dies 𝓤 H (τ0, l0) ((τ1, l1) ∷ (τ2, l2) ∷ (τ3, l3) ∷ (τ4, l4) ∷ (τ5, l5) ∷ [])
 
-  module _ (𝓣 : Tables 𝓤 H) where
+
+  module _ (𝓣 : Tables 𝓤 H)  where
     abbrev fm : FmC 𝓤 H (W .laws) (𝓣 .C)
     fm = fmOf 𝓤 H (W .laws) 𝓣
 
@@ -161,13 +165,13 @@ module _ {M : Type 1} (𝓤 : URA M) (H : Heap 𝓤) (A : Atoms 𝓤) (W : Given
         assigns ! (of-opd ! (load ! (from ! (stop !)) (look ! 6 refl))) (from ! (hop ! (look ! 8 refl) (stop !))) (store-raw ! 0 refl (LL.lawful OpenStart-T.the-type OpenStart-L.the-laws 𝓤 H A W .typed o₀ _ o₀-is .0)) $
         use2 W (later (‵ (HasMut OpenStart-T.the-row opens-at (set opens₀ k₀ o₀)))) (shut-at OpenStart-T.the-row 𝓤 H A W opens-at (LL.vals OpenStart-T.the-type OpenStart-L.the-laws) (LL.tells OpenStart-T.the-type OpenStart-L.the-laws) (LL.makes OpenStart-T.the-type OpenStart-L.the-plain 𝓤 H A) opens₀ k₀ o₀ in-1 o₀-is) $ await ! tt $
         assigns ! (of-opd ! (unit-lit !)) (from ! (stop !)) (init ! 2 refl (tt, tt)) $
-        returns-within ! Post refl (look ! 2 refl) $ move ! (1 ∷ 2 ∷ 3 ∷ 4 ∷ 5 ∷ 6 ∷ 7 ∷ []) $ frees-any ! (full _ ∷ full _ ∷ full _ ∷ full _ ∷ full _ ∷ full _ ∷ []) $ keep ! (0 ∷ []) $
+        returns-within ! Post refl (look ! 2 refl) $ move ! (1 ∷ 2 ∷ 3 ∷ 4 ∷ 5 ∷ 6 ∷ 7 ∷ []) $ frees-any ! (full _ ∷ full _ ∷ full _ ∷ full _ ∷ full _ ∷ full _ ∷ []) $ keep ! (0 ∷ []) $ 
         by ! (exits tt (set opens₀ k₀ o₀) (length-set opens₀ k₀ o₀ ∙ refl) refl)))))))))
 
 push-meets : {M : Type 1} (𝓤 : URA M) (H : Heap 𝓤) (A : Atoms 𝓤) (W : Given 𝓤 H A) (at-mem : Memory → SProp 𝓤) (run : Routine → Fun 𝓤) (𝓣 : Tables 𝓤 H) → Meets 𝓤 H A push-F.signature (WpFn 𝓤 H (𝓣 .C) (𝓣 .Λ) code.function) (push-F.spec 𝓤 H A at-mem run)
-push-meets 𝓤 H A W at-mem run 𝓣 y =
+push-meets 𝓤 H A W at-mem run 𝓣  y =
     walk-meets-at 𝓤 H A push-F.ended stayed W (goes-slice 𝓤 H A W 1 0 tt (plain (λ _. OpenStart-T.the-row)), (goes-none 𝓤 H A W 1 (λ _. usize) yes (λ κs x f. refl), (goes-none 𝓤 H A W 1 (λ _. OpenStart-T.the-row) yes (λ κs x f. refl), tt))) (push-F.clauses 𝓤 H A at-mem run) (WpFn 𝓤 H (𝓣 .C) (𝓣 .Λ) code.function) (WpFn-mono 𝓤 H (W .laws) 𝓣 code.function) y
-    (walked-at 𝓤 H A push-F.ended stayed (push-F.clauses 𝓤 H A at-mem run) (WpFn 𝓤 H (𝓣 .C) (𝓣 .Λ) code.function) y (slice-vals, ((uint-vals w64), ((LL.vals OpenStart-T.the-type OpenStart-L.the-laws), tt))) (mut-slice-tells (named 0) (y .0 .0 .0) OpenStart-T.the-row, ((uint-tells w64), ((LL.tells OpenStart-T.the-type OpenStart-L.the-laws), tt))) (λ are. needs 𝓤 ((y .0 .3 .1 .0) < length (y .0 .3 .0 .now)) _ (λ req. walk 𝓤 H A W at-mem run (record { κ = y .0 .0 .0; q = y .0 .1 .0; γ = y .0 .3 .0 .name; b = y .0 .3 .0 .ptr .0; o = y .0 .3 .0 .ptr .1; n = length (y .0 .3 .0 .now) }) (y .0 .3 .0 .now) (y .0 .3 .1 .0) (y .0 .3 .1 .1 .0) (are .0 .0 .1) refl (are .1 .0 .1) (are .1 .1 .0) req 𝓣)))
+    (walked-at 𝓤 H A push-F.ended stayed (push-F.clauses 𝓤 H A at-mem run) (WpFn 𝓤 H (𝓣 .C) (𝓣 .Λ) code.function) y (slice-vals, ((uint-vals w64), ((LL.vals OpenStart-T.the-type OpenStart-L.the-laws), tt))) (mut-slice-tells (named 0) (y .0 .0 .0) OpenStart-T.the-row, ((uint-tells w64), ((LL.tells OpenStart-T.the-type OpenStart-L.the-laws), tt))) (λ are. needs 𝓤 ((y .0 .3 .1 .0) < length (y .0 .3 .0 .now)) _ (λ req. walk 𝓤 H A W at-mem run (record { κ = y .0 .0 .0; q = y .0 .1 .0; γ = y .0 .3 .0 .name; b = y .0 .3 .0 .ptr .0; o = y .0 .3 .0 .ptr .1; n = length (y .0 .3 .0 .now) }) (y .0 .3 .0 .now) (y .0 .3 .1 .0) (y .0 .3 .1 .1 .0) (are .0 .0 .1) refl (are .1 .0 .1) (are .1 .1 .0) req 𝓣 )))
 
 pub push-spec : {M : Type 1} → stated.statement M
 unfolding code.routine tablesOf

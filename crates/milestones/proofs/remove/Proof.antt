@@ -49,6 +49,7 @@ use denote.Triple.Walked.{says, needs, Stays, stay-none, stay-none-slice, stay-r
 use denote.Exit.{yes}
 use Rattle.references.proofs.Flow.{if-then, skip-then, exit-then, switch-then, assoc-then, loop-then, meets-at, frees-any}
 use Rattle.references.proofs.Hand.{At, lent as relent, ptrVal, fatVal, ref, HasRef, HasMut, HasShr, KeptRef, KeptMut, KeptShr, OpenRef, OpenAt, lend-ref, back-ref, lend-mut, back-mut, lend-shr, back-shr, open-ref, shut-ref, open-at, shut-at, back-at}
+use Rattle.references.proofs.Call.{calls-any, calls-any-last}
 use Rattle.milestones.specs.declared.Found.{Found}
 use Rattle.milestones.proofs.Found as Found-T
 use Rattle.milestones.proofs.Found.Laws as Found-L
@@ -95,6 +96,7 @@ use Rattle.milestones.proofs.Search.{nowhere, hit, miss, found-inside}
 use Rattle.milestones.proofs.Moves.{Moving, moving-start, moving-turn, moving-end}
 use Rattle.milestones.proofs.Whole.{countable, milestoned}
 use Rattle.milestones.proofs.Pairing.{first-of, inside, entry-fits, moves-first, moves-room, next-inside, here-inside, pair-neither, pair-start, placed, pair-end, pair-alone, end-inside, known-room, read-placed}
+
 use Rattle.milestones.proofs.remove.Statement as stated
 use Rattle.milestones.proofs.remove.Key.{name as #milestones·remove}
 use base.Logic.{fst∗}
@@ -141,6 +143,7 @@ abbrev τ11 : Ty
 abbrev τ12 : Ty
 τ12 = tyPtr
 
+
 module _ {M : Type 1} (𝓤 : URA M) (H : Heap 𝓤) (A : Atoms 𝓤) (W : Given 𝓤 H A) (at-mem : Memory → SProp 𝓤) (run : Routine → Fun 𝓤) (opens-at : At) (opens₀ : List OpenStart) (k₀ : ℕ) (at₀ : ℕ)
     (opens-room : SizeOf OpenStart-T.the-row (opens-at .n)) (opens-n : opens-at .n ≡ length opens₀) (k₀-is : k₀ < 2 ^ 64) (at₀-is : at₀ < 2 ^ 64) (req : (at₀ < k₀) × (k₀ ≤ length opens₀)) where
   abbrev Y : walkOf 𝓤 H A remove-F.ended stayed (remove-F.clauses 𝓤 H A at-mem run) .Ghost
@@ -166,7 +169,8 @@ module _ {M : Type 1} (𝓤 : URA M) (H : Heap 𝓤) (A : Atoms 𝓤) (W : Given
   abbrev μ-loop-0 : ℕ × ((List OpenStart) × Unit {0}) → ℕ
   μ-loop-0 y = (k₀ - 1) - (y .0)
 
-  module _ (𝓣 : Tables 𝓤 H) where
+
+  module _ (𝓣 : Tables 𝓤 H)  where
     abbrev fm : FmC 𝓤 H (W .laws) (𝓣 .C)
     fm = fmOf 𝓤 H (W .laws) 𝓣
 
@@ -181,7 +185,7 @@ module _ {M : Type 1} (𝓤 : URA M) (H : Heap 𝓤) (A : Atoms 𝓤) (W : Given
         assigns ! (bin ! (load ! (from ! (stop !)) (look ! 3 refl)) (lit ! tt) sub-1) (from ! (stop !)) (init ! 5 refl (tt, record { fits = fits-1 })) $
         assigns ! (of-opd ! (load ! (from ! (stop !)) (look ! 4 refl))) (from ! (stop !)) (init ! 6 refl (tt, record { fits = at₀-is })) $
         use0 W (raw (fact 𝓤 ((at₀ < 2 ^ 64) × ((length opens₀ ≡ length opens₀) × ((Moving opens₀ at₀ (k₀ - 1) opens₀ at₀)))))) (factI 𝓤 ((at₀ < 2 ^ 64) × ((length opens₀ ≡ length opens₀) × ((Moving opens₀ at₀ (k₀ - 1) opens₀ at₀)))) (emp 𝓤) (at₀-is, (refl, (moving-start _ _ _ (moves-first _ _ (req .0)) (moves-room _ _ _ (req .0) (req .1)))))) $
-        keep ! (0 ∷ 1 ∷ 2 ∷ 3 ∷ 4 ∷ 5 ∷ 6 ∷ 7 ∷ 8 ∷ 9 ∷ 10 ∷ 11 ∷ 12 ∷ 13 ∷ 14 ∷ 15 ∷ []) $
+        keep ! (0 ∷ 1 ∷ 2 ∷ 3 ∷ 4 ∷ 5 ∷ 6 ∷ 7 ∷ 8 ∷ 9 ∷ 10 ∷ 11 ∷ 12 ∷ 13 ∷ 14 ∷ 15 ∷ []) $ 
         loop-then ! 𝓣 (λ (a b : ℕ × ((List OpenStart) × Unit {0})). μ-loop-0 a < μ-loop-0 b) (InvImage·wf (μ-loop-0) (Nat·lt-wfRel .wf)) (λ (y100 : ℕ × ((List OpenStart) × Unit {0})). raw (fact 𝓤 (((y100 .0) < 2 ^ 64) × ((length (y100 .1 .0) ≡ length opens₀) × ((Moving opens₀ at₀ (k₀ - 1) (y100 .1 .0) (y100 .0)))))) ∷ Dead l0 l1 l2 l3 l4 l5 l6 l7 l8 l9 l10 l11 l12 ∷ ‵ (froom τ0 l0 0) ∷ ‵ (fat fullShare τ1 l1 0 (fatVal opens-at)) ∷ ‵ (fat fullShare τ2 l2 0 (vint w64 k₀)) ∷ ‵ (fat fullShare τ3 l3 0 (vint w64 at₀)) ∷ ‵ (fat fullShare τ4 l4 0 (vint w64 (k₀ - 1))) ∷ ‵ (fat fullShare τ5 l5 0 (vint w64 (y100 .0))) ∷ ‵ (froom τ6 l6 0) ∷ ‵ (froom τ7 l7 0) ∷ ‵ (froom τ8 l8 0) ∷ ‵ (froom τ9 l9 0) ∷ ‵ (froom τ10 l10 0) ∷ ‵ (froom τ11 l11 0) ∷ ‵ (froom τ12 l12 0) ∷ ‵ (HasMut OpenStart-T.the-row opens-at (y100 .1 .0)) ∷ []) (λ y100 leave-0. heard ! (((y100 .0) < 2 ^ 64) × ((length (y100 .1 .0) ≡ length opens₀) × ((Moving opens₀ at₀ (k₀ - 1) (y100 .1 .0) (y100 .0))))) (λ j100.
         let is-i-100 : (y100 .0) < 2 ^ 64 = j100 .0 in
         let len-ys-100 : length (y100 .1 .0) ≡ length opens₀ = j100 .1 .0 in
@@ -215,13 +219,13 @@ module _ {M : Type 1} (𝓤 : URA M) (H : Heap 𝓤) (A : Atoms 𝓤) (W : Given
         (λ h0. let test-0 : (k₀ - 1) ≤ (y100 .0) = nltb→le (y100 .0) (k₀ - 1) h0 in
         exit-then ! $ leave-0 _ $
         assigns ! (of-opd ! (unit-lit !)) (from ! (stop !)) (init ! 1 refl (tt, tt)) $
-        returns-within ! Post refl (look ! 1 refl) $ frees-any ! (full _ ∷ full _ ∷ full _ ∷ full _ ∷ full _ ∷ full _ ∷ empty ∷ empty ∷ full _ ∷ empty ∷ empty ∷ empty ∷ empty ∷ []) $ keep ! (0 ∷ []) $
+        returns-within ! Post refl (look ! 1 refl) $ frees-any ! (full _ ∷ full _ ∷ full _ ∷ full _ ∷ full _ ∷ full _ ∷ empty ∷ empty ∷ full _ ∷ empty ∷ empty ∷ empty ∷ empty ∷ []) $ keep ! (0 ∷ []) $ 
         by ! (exits tt (y100 .1 .0) len-ys-100 (moving-end _ _ _ _ _ inv-100 test-0))))) (at₀, (opens₀, tt))))))))))))))))
 
 remove-meets : {M : Type 1} (𝓤 : URA M) (H : Heap 𝓤) (A : Atoms 𝓤) (W : Given 𝓤 H A) (at-mem : Memory → SProp 𝓤) (run : Routine → Fun 𝓤) (𝓣 : Tables 𝓤 H) → Meets 𝓤 H A remove-F.signature (WpFn 𝓤 H (𝓣 .C) (𝓣 .Λ) code.function) (remove-F.spec 𝓤 H A at-mem run)
-remove-meets 𝓤 H A W at-mem run 𝓣 y =
+remove-meets 𝓤 H A W at-mem run 𝓣  y =
     walk-meets-at 𝓤 H A remove-F.ended stayed W (goes-slice 𝓤 H A W 1 0 tt (plain (λ _. OpenStart-T.the-row)), (goes-none 𝓤 H A W 1 (λ _. usize) yes (λ κs x f. refl), (goes-none 𝓤 H A W 1 (λ _. usize) yes (λ κs x f. refl), tt))) (remove-F.clauses 𝓤 H A at-mem run) (WpFn 𝓤 H (𝓣 .C) (𝓣 .Λ) code.function) (WpFn-mono 𝓤 H (W .laws) 𝓣 code.function) y
-    (walked-at 𝓤 H A remove-F.ended stayed (remove-F.clauses 𝓤 H A at-mem run) (WpFn 𝓤 H (𝓣 .C) (𝓣 .Λ) code.function) y (slice-vals, ((uint-vals w64), ((uint-vals w64), tt))) (mut-slice-tells (named 0) (y .0 .0 .0) OpenStart-T.the-row, ((uint-tells w64), ((uint-tells w64), tt))) (λ are. needs 𝓤 (((y .0 .3 .1 .1 .0) < (y .0 .3 .1 .0)) × ((y .0 .3 .1 .0) ≤ length (y .0 .3 .0 .now))) _ (λ req. walk 𝓤 H A W at-mem run (record { κ = y .0 .0 .0; q = y .0 .1 .0; γ = y .0 .3 .0 .name; b = y .0 .3 .0 .ptr .0; o = y .0 .3 .0 .ptr .1; n = length (y .0 .3 .0 .now) }) (y .0 .3 .0 .now) (y .0 .3 .1 .0) (y .0 .3 .1 .1 .0) (are .0 .0 .1) refl (are .1 .0 .1) (are .1 .1 .0 .1) req 𝓣)))
+    (walked-at 𝓤 H A remove-F.ended stayed (remove-F.clauses 𝓤 H A at-mem run) (WpFn 𝓤 H (𝓣 .C) (𝓣 .Λ) code.function) y (slice-vals, ((uint-vals w64), ((uint-vals w64), tt))) (mut-slice-tells (named 0) (y .0 .0 .0) OpenStart-T.the-row, ((uint-tells w64), ((uint-tells w64), tt))) (λ are. needs 𝓤 (((y .0 .3 .1 .1 .0) < (y .0 .3 .1 .0)) × ((y .0 .3 .1 .0) ≤ length (y .0 .3 .0 .now))) _ (λ req. walk 𝓤 H A W at-mem run (record { κ = y .0 .0 .0; q = y .0 .1 .0; γ = y .0 .3 .0 .name; b = y .0 .3 .0 .ptr .0; o = y .0 .3 .0 .ptr .1; n = length (y .0 .3 .0 .now) }) (y .0 .3 .0 .now) (y .0 .3 .1 .0) (y .0 .3 .1 .1 .0) (are .0 .0 .1) refl (are .1 .0 .1) (are .1 .1 .0 .1) req 𝓣 )))
 
 pub remove-spec : {M : Type 1} → stated.statement M
 unfolding code.routine tablesOf
