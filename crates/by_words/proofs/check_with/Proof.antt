@@ -49,6 +49,7 @@ use denote.Triple.Walked.{says, needs, Stays, stay-none, stay-none-slice, stay-r
 use denote.Exit.{yes}
 use Rattle.references.proofs.Flow.{if-then, skip-then, exit-then, switch-then, assoc-then, loop-then, meets-at, frees-any}
 use Rattle.references.proofs.Hand.{At, lent as relent, ptrVal, fatVal, ref, HasRef, HasMut, HasShr, KeptRef, KeptMut, KeptShr, OpenRef, OpenAt, lend-ref, back-ref, lend-mut, back-mut, lend-shr, back-shr, open-ref, shut-ref, open-at, shut-at, back-at}
+use Rattle.references.proofs.Call.{calls-any, calls-any-last}
 use Rattle.marking.specs.declared.Report.{Report}
 use Rattle.marking.proofs.Report as Report-T
 use Rattle.marking.proofs.Report.Laws as Report-L
@@ -80,6 +81,7 @@ use Rattle.validate.specs.Outcome.{noStart, answer, listAfter, seenAfter, openA
 use Rattle.marking.specs.Entry.{answerOf, lent}
 use Rattle.references.proofs.Sizes.{scaled, more-fits, nearer}
 use Rattle.by_words.proofs.Numbers.{here, pair-inside}
+
 use Rattle.by_words.proofs.check_with.Statement as stated
 use Rattle.by_words.proofs.check_with.Key.{name as #by-words·check-with}
 use base.Logic.{fst∗}
@@ -168,6 +170,7 @@ abbrev τ23 : Ty
 abbrev τ24 : Ty
 τ24 = sliceTy (tyRef erased mut (pointee (OpenStart-T.the-row .written)))
 
+
 module _ {M : Type 1} (𝓤 : URA M) (H : Heap 𝓤) (A : Atoms 𝓤) (W : Given 𝓤 H A) (at-mem : Memory → SProp 𝓤) (run : Routine → Fun 𝓤) (table-at : At) (table₀ : List ℕ) (source-at : At) (source₀ : List ℕ) (tape-at : At) (tape₀ : List ℕ) (seen-at : At) (seen₀ : List ℕ) (words-at : At) (words₀ : List ℕ) (opens-at : At) (opens₀ : List OpenStart) (n₀ : ℕ) (list-at : At) (list₀ : List ℕ)
     (table-room : SizeOf u8 (table-at .n)) (table-n : table-at .n ≡ length table₀) (source-room : SizeOf u8 (source-at .n)) (source-n : source-at .n ≡ length source₀) (tape-room : SizeOf u8 (tape-at .n)) (tape-n : tape-at .n ≡ length tape₀) (seen-room : SizeOf u32 (seen-at .n)) (seen-n : seen-at .n ≡ length seen₀) (words-room : SizeOf u64 (words-at .n)) (words-n : words-at .n ≡ length words₀) (opens-room : SizeOf OpenStart-T.the-row (opens-at .n)) (opens-n : opens-at .n ≡ length opens₀) (n₀-is : n₀ < 2 ^ 64) (list-room : SizeOf u64 (list-at .n)) (list-n : list-at .n ≡ length list₀) (req : (2 * n₀ ≤ length words₀) × (n₀ ≤ length opens₀)) where
   abbrev Y : walkOf 𝓤 H A check-with-F.ended stayed (check-with-F.clauses 𝓤 H A at-mem run) .Ghost
@@ -190,6 +193,7 @@ module _ {M : Type 1} (𝓤 : URA M) (H : Heap 𝓤) (A : Atoms 𝓤) (W : Given
   abbrev Dead : ℕ → ℕ → ℕ → ℕ → ℕ → ℕ → ℕ → ℕ → ℕ → ℕ → ℕ → ℕ → ℕ → ℕ → ℕ → ℕ → ℕ → ℕ → ℕ → ℕ → ℕ → ℕ → ℕ → ℕ → ℕ → Item 𝓤
   Dead l0 l1 l2 l3 l4 l5 l6 l7 l8 l9 l10 l11 l12 l13 l14 l15 l16 l17 l18 l19 l20 l21 l22 l23 l24 = Dies 𝓤 H (τ0, l0) ((τ1, l1) ∷ (τ2, l2) ∷ (τ3, l3) ∷ (τ4, l4) ∷ (τ5, l5) ∷ (τ6, l6) ∷ (τ7, l7) ∷ (τ8, l8) ∷ (τ9, l9) ∷ (τ10, l10) ∷ (τ11, l11) ∷ (τ12, l12) ∷ (τ13, l13) ∷ (τ14, l14) ∷ (τ15, l15) ∷ (τ16, l16) ∷ (τ17, l17) ∷ (τ18, l18) ∷ (τ19, l19) ∷ (τ20, l20) ∷ (τ21, l21) ∷ (τ22, l22) ∷ (τ23, l23) ∷ (τ24, l24) ∷ [])
 
+
   module _ (𝓣 : Tables 𝓤 H) (known-read-records : Triple 𝓤 (𝓣 .C #by-words·read-records) (read-records-C.Con 𝓤 H A at-mem run)) (known-check : Triple 𝓤 (𝓣 .C #marking·check) (check-C.Con 𝓤 H A at-mem run)) (known-write-records : Triple 𝓤 (𝓣 .C #by-words·write-records) (write-records-C.Con 𝓤 H A at-mem run)) where
     abbrev fm : FmC 𝓤 H (W .laws) (𝓣 .C)
     fm = fmOf 𝓤 H (W .laws) 𝓣
@@ -205,8 +209,8 @@ module _ {M : Type 1} (𝓤 : URA M) (H : Heap 𝓤) (A : Atoms 𝓤) (W : Given
         assigns ! (addr ! (from ! (fld ! refl (hop ! (look-in ! 7 (sub ! 0 refl (whole !))) (stop !))))) (from ! (stop !)) (init ! 14 refl (tt, tt)) $
         assigns ! (agg ! (and-then ! (load ! (from ! (stop !)) (look ! 14 refl)) (and-then ! (load ! (from ! (fld ! refl (stop !))) (look-in ! 7 (sub ! 1 refl (whole !)))) (no-more !)))) (from ! (stop !)) (init ! 15 refl (tt, (tt, (record { fits = (opens-room .0) }, tt)))) $
         move ! (30 ∷ 31 ∷ []) $ let req-read-records : (2 * n₀ ≤ length words₀) × (n₀ ≤ length opens₀) = req in
-        read-records-C.calls-read-records ! at-mem run fm words-at words₀ opens-at opens₀ n₀ n₀-is req-read-records (λ ν-words δ-words ν-opens δ-opens. known-read-records (read-records-C.to 𝓤 H A at-mem run words-at words₀ opens-at opens₀ n₀ (relent words-at ν-words δ-words) (relent opens-at ν-opens δ-opens)))
-        (and-then ! (load ! (from ! (stop !)) (look ! 14 refl)) (and-then ! (load ! (from ! (stop !)) (look ! 16 refl)) (and-then ! (load ! (from ! (stop !)) (look ! 9 refl)) (no-more !)))) (λ z-read-records s-read-records.
+        calls-any W fm (read-records-C.rule words-at words₀ opens-at opens₀ n₀) ! ((refl, n₀-is), tt) req-read-records (λ cs. known-read-records (read-records-C.to words-at words₀ opens-at opens₀ n₀ 𝓤 H A at-mem run cs))
+          (and-then ! (load ! (from ! (stop !)) (look ! 14 refl)) (and-then ! (load ! (from ! (stop !)) (look ! 16 refl)) (and-then ! (load ! (from ! (stop !)) (look ! 9 refl)) (no-more !)))) (λ z-read-records s-read-records.
         let len-read-records-words : length (z-read-records .1 .0) ≡ length words₀ = s-read-records .1 .0 in
         let len-read-records-opens : length (z-read-records .1 .1 .0) ≡ length opens₀ = s-read-records .1 .1 .0 in
         let says-read-records : length (z-read-records .1 .0) ≡ length words₀ = s-read-records .1 .1 .1 in
@@ -219,12 +223,12 @@ module _ {M : Type 1} (𝓤 : URA M) (H : Heap 𝓤) (A : Atoms 𝓤) (W : Given
         assigns ! (agg ! (and-then ! (load ! (from ! (stop !)) (look ! 22 refl)) (and-then ! (load ! (from ! (fld ! refl (stop !))) (look-in ! 11 (sub ! 1 refl (whole !)))) (no-more !)))) (from ! (stop !)) (init ! 23 refl (tt, (tt, (record { fits = (list-room .0) }, tt)))) $
         let part-1 : n₀ ≤ length (z-read-records .1 .1 .0) = rw len-read-records-opens (req .1) in
         move ! (1 ∷ []) $ use1 W (later (some (λ (ν : ℕ). some (λ (δ : GName). ‵ (HasMut OpenStart-T.the-row (part opens-at n₀ ν δ) (take n₀ (z-read-records .1 .1 .0))) ⊛ ‵ (KeptPart OpenStart-T.the-row opens-at n₀ ν δ (z-read-records .1 .1 .0)))))) (lend-part OpenStart-T.the-row 𝓤 H A W opens-at (z-read-records .1 .1 .0) n₀ (length-take-le n₀ (z-read-records .1 .1 .0) part-1) (room-le OpenStart-T.the-row n₀ (length (z-read-records .1 .1 .0)) part-1 (subst (SizeOf OpenStart-T.the-row) (opens-n ∙ sym (len-read-records-opens)) opens-room))) $ await ! tt $ pick ! (λ ν-part-1. pick ! (λ δ-part-1. split ! $
-        move ! (29 ∷ 30 ∷ 31 ∷ 32 ∷ 0 ∷ 33 ∷ []) $ check-C.calls-check ! at-mem run fm table-at table₀ source-at source₀ tape-at tape₀ seen-at seen₀ (part opens-at n₀ ν-part-1 δ-part-1) (take n₀ (z-read-records .1 .1 .0)) list-at list₀ (λ ν-seen δ-seen ν-opens δ-opens ν-list δ-list. known-check (check-C.to 𝓤 H A at-mem run table-at table₀ source-at source₀ tape-at tape₀ seen-at seen₀ (part opens-at n₀ ν-part-1 δ-part-1) (take n₀ (z-read-records .1 .1 .0)) list-at list₀ table-at source-at tape-at (relent seen-at ν-seen δ-seen) (relent (part opens-at n₀ ν-part-1 δ-part-1) ν-opens δ-opens) (relent list-at ν-list δ-list)))
-        (and-then ! (load ! (from ! (stop !)) (look ! 5 refl)) (and-then ! (load ! (from ! (stop !)) (look ! 6 refl)) (and-then ! (load ! (from ! (stop !)) (look ! 7 refl)) (and-then ! (load ! (from ! (stop !)) (look ! 20 refl)) (and-then ! (load ! (from ! (stop !)) (look ! 22 refl)) (and-then ! (load ! (from ! (stop !)) (look ! 24 refl)) (no-more !))))))) (λ z-check s-check.
+        move ! (29 ∷ 30 ∷ 31 ∷ 32 ∷ 0 ∷ 33 ∷ []) $ calls-any W fm (check-C.rule table-at table₀ source-at source₀ tape-at tape₀ seen-at seen₀ (part opens-at n₀ ν-part-1 δ-part-1) (take n₀ (z-read-records .1 .1 .0)) list-at list₀) ! tt tt (λ cs. known-check (check-C.to table-at table₀ source-at source₀ tape-at tape₀ seen-at seen₀ (part opens-at n₀ ν-part-1 δ-part-1) (take n₀ (z-read-records .1 .1 .0)) list-at list₀ 𝓤 H A at-mem run cs))
+          (and-then ! (load ! (from ! (stop !)) (look ! 5 refl)) (and-then ! (load ! (from ! (stop !)) (look ! 6 refl)) (and-then ! (load ! (from ! (stop !)) (look ! 7 refl)) (and-then ! (load ! (from ! (stop !)) (look ! 20 refl)) (and-then ! (load ! (from ! (stop !)) (look ! 22 refl)) (and-then ! (load ! (from ! (stop !)) (look ! 24 refl)) (no-more !))))))) (λ z-check s-check.
         let len-check-seen : length (z-check .1 .0) ≡ length seen₀ = s-check .1 .0 in
         let len-check-opens : length (z-check .1 .1 .0) ≡ length (take n₀ (z-read-records .1 .1 .0)) = s-check .1 .1 .0 in
         let len-check-list : length (z-check .1 .1 .1 .0) ≡ length list₀ = s-check .1 .1 .1 .0 in
-        let says-check : (answerOf (z-check .0) ≡ answer (lent table₀ source₀ tape₀ seen₀ (take n₀ (z-read-records .1 .1 .0)) list₀)) × ((z-check .1 .1 .1 .0) ≡ listAfter (lent table₀ source₀ tape₀ seen₀ (take n₀ (z-read-records .1 .1 .0)) list₀)) × ((z-check .1 .0) ≡ seenAfter (lent table₀ source₀ tape₀ seen₀ (take n₀ (z-read-records .1 .1 .0)) list₀)) × ((z-check .1 .1 .0) ≡ openAfter (lent table₀ source₀ tape₀ seen₀ (take n₀ (z-read-records .1 .1 .0)) list₀)) = s-check .1 .1 .1 .1 in
+        let says-check : (answerOf (z-check .0) ≡ answer (lent table₀ source₀ tape₀ seen₀ (take n₀ (z-read-records .1 .1 .0)) list₀)) × ((z-check .1 .1 .1 .0) ≡ listAfter (lent table₀ source₀ tape₀ seen₀ (take n₀ (z-read-records .1 .1 .0)) list₀)) × ((z-check .1 .0) ≡ seenAfter (lent table₀ source₀ tape₀ seen₀ (take n₀ (z-read-records .1 .1 .0)) list₀)) × ((z-check .1 .1 .0) ≡ openAfter (lent table₀ source₀ tape₀ seen₀ (take n₀ (z-read-records .1 .1 .0)) list₀)) = (s-check .1 .1 .1 .1 .0, s-check .1 .1 .1 .1 .1 .0, s-check .1 .1 .1 .1 .1 .1 .0, s-check .1 .1 .1 .1 .1 .1 .1) in
         let says-check-answer : answerOf (z-check .0) ≡ answer (lent table₀ source₀ tape₀ seen₀ (take n₀ (z-read-records .1 .1 .0)) list₀) = says-check .0 in
         let says-check-list : (z-check .1 .1 .1 .0) ≡ listAfter (lent table₀ source₀ tape₀ seen₀ (take n₀ (z-read-records .1 .1 .0)) list₀) = says-check .1 in
         let says-check-seen : (z-check .1 .0) ≡ seenAfter (lent table₀ source₀ tape₀ seen₀ (take n₀ (z-read-records .1 .1 .0)) list₀) = says-check .2 in
@@ -236,14 +240,14 @@ module _ {M : Type 1} (𝓤 : URA M) (H : Heap 𝓤) (A : Atoms 𝓤) (W : Given
         assigns ! (addr ! (from ! (fld ! refl (hop ! (look-in ! 14 (sub ! 0 refl (whole !))) (stop !))))) (from ! (stop !)) (init ! 31 refl (tt, tt)) $
         assigns ! (agg ! (and-then ! (load ! (from ! (stop !)) (look ! 31 refl)) (and-then ! (load ! (from ! (fld ! refl (stop !))) (look-in ! 14 (sub ! 1 refl (whole !)))) (no-more !)))) (from ! (stop !)) (init ! 32 refl (tt, (tt, (record { fits = (opens-room .0) }, tt)))) $
         move ! (6 ∷ 0 ∷ []) $ let req-write-records : (2 * n₀ ≤ length (z-read-records .1 .0)) × (n₀ ≤ length ((z-check .1 .1 .0) ++ skip n₀ (z-read-records .1 .1 .0))) = (rw len-read-records-words (req .0), rw (part-length (z-read-records .1 .1 .0) (z-check .1 .1 .0) n₀ len-check-opens ∙ len-read-records-opens) (req .1)) in
-        write-records-C.calls-write-records ! at-mem run fm words-at (z-read-records .1 .0) opens-at ((z-check .1 .1 .0) ++ skip n₀ (z-read-records .1 .1 .0)) n₀ n₀-is req-write-records (λ ν-words δ-words ν-opens δ-opens. known-write-records (write-records-C.to 𝓤 H A at-mem run words-at (z-read-records .1 .0) opens-at ((z-check .1 .1 .0) ++ skip n₀ (z-read-records .1 .1 .0)) n₀ (relent words-at ν-words δ-words) (relent opens-at ν-opens δ-opens)))
-        (and-then ! (load ! (from ! (stop !)) (look ! 29 refl)) (and-then ! (load ! (from ! (stop !)) (look ! 31 refl)) (and-then ! (load ! (from ! (stop !)) (look ! 14 refl)) (no-more !)))) (λ z-write-records s-write-records.
+        calls-any W fm (write-records-C.rule words-at (z-read-records .1 .0) opens-at ((z-check .1 .1 .0) ++ skip n₀ (z-read-records .1 .1 .0)) n₀) ! ((refl, n₀-is), tt) req-write-records (λ cs. known-write-records (write-records-C.to words-at (z-read-records .1 .0) opens-at ((z-check .1 .1 .0) ++ skip n₀ (z-read-records .1 .1 .0)) n₀ 𝓤 H A at-mem run cs))
+          (and-then ! (load ! (from ! (stop !)) (look ! 29 refl)) (and-then ! (load ! (from ! (stop !)) (look ! 31 refl)) (and-then ! (load ! (from ! (stop !)) (look ! 14 refl)) (no-more !)))) (λ z-write-records s-write-records.
         let len-write-records-words : length (z-write-records .1 .0) ≡ length (z-read-records .1 .0) = s-write-records .1 .0 in
         let len-write-records-opens : length (z-write-records .1 .1 .0) ≡ length ((z-check .1 .1 .0) ++ skip n₀ (z-read-records .1 .1 .0)) = s-write-records .1 .1 .0 in
         let says-write-records : length (z-write-records .1 .0) ≡ length (z-read-records .1 .0) = s-write-records .1 .1 .1 in
         land ! (from ! (stop !)) (store ! 18 refl (tt, tt)) $
         assigns ! (of-opd ! (load ! (from ! (stop !)) (look ! 17 refl))) (from ! (stop !)) (init ! 8 refl (EL.lawful Answer-T.the-type Answer-L.the-laws 𝓤 H A W tt .typed (z-check .0) _ (s-check .0) .0)) $
-        returns-within ! Post refl (look ! 8 refl) $ move ! (7 ∷ 8 ∷ 9 ∷ 10 ∷ 11 ∷ 12 ∷ 13 ∷ 14 ∷ 15 ∷ 16 ∷ 17 ∷ 18 ∷ 19 ∷ 20 ∷ 21 ∷ 22 ∷ 23 ∷ 24 ∷ 25 ∷ 26 ∷ 27 ∷ 28 ∷ 29 ∷ 30 ∷ 31 ∷ 32 ∷ []) $ frees-any ! (full _ ∷ full _ ∷ full _ ∷ full _ ∷ full _ ∷ full _ ∷ full _ ∷ full _ ∷ full _ ∷ full _ ∷ full _ ∷ full _ ∷ full _ ∷ full _ ∷ full _ ∷ full _ ∷ full _ ∷ full _ ∷ full _ ∷ full _ ∷ full _ ∷ full _ ∷ full _ ∷ full _ ∷ full _ ∷ []) $ keep ! (2 ∷ 3 ∷ 4 ∷ 5 ∷ 0 ∷ 1 ∷ 6 ∷ []) $
+        returns-within ! Post refl (look ! 8 refl) $ move ! (7 ∷ 8 ∷ 9 ∷ 10 ∷ 11 ∷ 12 ∷ 13 ∷ 14 ∷ 15 ∷ 16 ∷ 17 ∷ 18 ∷ 19 ∷ 20 ∷ 21 ∷ 22 ∷ 23 ∷ 24 ∷ 25 ∷ 26 ∷ 27 ∷ 28 ∷ 29 ∷ 30 ∷ 31 ∷ 32 ∷ []) $ frees-any ! (full _ ∷ full _ ∷ full _ ∷ full _ ∷ full _ ∷ full _ ∷ full _ ∷ full _ ∷ full _ ∷ full _ ∷ full _ ∷ full _ ∷ full _ ∷ full _ ∷ full _ ∷ full _ ∷ full _ ∷ full _ ∷ full _ ∷ full _ ∷ full _ ∷ full _ ∷ full _ ∷ full _ ∷ full _ ∷ []) $ keep ! (2 ∷ 3 ∷ 4 ∷ 5 ∷ 0 ∷ 1 ∷ 6 ∷ []) $ 
         by ! (exits (z-check .0) (z-check .1 .0) (z-write-records .1 .0) (z-write-records .1 .1 .0) (z-check .1 .1 .1 .0) (s-check .0) len-check-seen (len-write-records-words ∙ len-read-records-words) (len-write-records-opens ∙ (part-length (z-read-records .1 .1 .0) (z-check .1 .1 .0) n₀ len-check-opens ∙ len-read-records-opens)) len-check-list (len-write-records-words ∙ len-read-records-words)))))))))))))))))))))))))))))))))
 
 check-with-meets : {M : Type 1} (𝓤 : URA M) (H : Heap 𝓤) (A : Atoms 𝓤) (W : Given 𝓤 H A) (at-mem : Memory → SProp 𝓤) (run : Routine → Fun 𝓤) (𝓣 : Tables 𝓤 H) → Triple 𝓤 (𝓣 .C #by-words·read-records) (read-records-C.Con 𝓤 H A at-mem run) → Triple 𝓤 (𝓣 .C #marking·check) (check-C.Con 𝓤 H A at-mem run) → Triple 𝓤 (𝓣 .C #by-words·write-records) (write-records-C.Con 𝓤 H A at-mem run) → Meets 𝓤 H A check-with-F.signature (WpFn 𝓤 H (𝓣 .C) (𝓣 .Λ) code.function) (check-with-F.spec 𝓤 H A at-mem run)

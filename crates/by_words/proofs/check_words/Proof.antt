@@ -49,6 +49,7 @@ use denote.Triple.Walked.{says, needs, Stays, stay-none, stay-none-slice, stay-r
 use denote.Exit.{yes}
 use Rattle.references.proofs.Flow.{if-then, skip-then, exit-then, switch-then, assoc-then, loop-then, meets-at, frees-any}
 use Rattle.references.proofs.Hand.{At, lent as relent, ptrVal, fatVal, ref, HasRef, HasMut, HasShr, KeptRef, KeptMut, KeptShr, OpenRef, OpenAt, lend-ref, back-ref, lend-mut, back-mut, lend-shr, back-shr, open-ref, shut-ref, open-at, shut-at, back-at}
+use Rattle.references.proofs.Call.{calls-any, calls-any-last}
 use mir.Syntax.{tyArray}
 use Rattle.references.proofs.Arrays.{array, ArrayAt, KeptArray, lend-array, back-array, free-array, fills-array}
 use Rattle.marking.specs.declared.Report.{Report}
@@ -82,6 +83,7 @@ use Rattle.references.proofs.Sizes.{scaled, more-fits, nearer}
 use Rattle.by_words.proofs.Numbers.{here, pair-inside}
 use Rattle.by_words.proofs.Numbers.{all-inside}
 use Rattle.by_words.proofs.Literals.{big-lit}
+
 use Rattle.by_words.proofs.check_words.Statement as stated
 use Rattle.by_words.proofs.check_words.Key.{name as #by-words·check-words}
 use base.Logic.{fst∗}
@@ -150,6 +152,7 @@ abbrev τ17 : Ty
 abbrev τ18 : Ty
 τ18 = sliceTy (tyRef erased mut (tyInt w64))
 
+
 module _ {M : Type 1} (𝓤 : URA M) (H : Heap 𝓤) (A : Atoms 𝓤) (W : Given 𝓤 H A) (at-mem : Memory → SProp 𝓤) (run : Routine → Fun 𝓤) (table-at : At) (table₀ : List ℕ) (source-at : At) (source₀ : List ℕ) (tape-at : At) (tape₀ : List ℕ) (seen-at : At) (seen₀ : List ℕ) (words-at : At) (words₀ : List ℕ) (list-at : At) (list₀ : List ℕ)
     (table-room : SizeOf u8 (table-at .n)) (table-n : table-at .n ≡ length table₀) (source-room : SizeOf u8 (source-at .n)) (source-n : source-at .n ≡ length source₀) (tape-room : SizeOf u8 (tape-at .n)) (tape-n : tape-at .n ≡ length tape₀) (seen-room : SizeOf u32 (seen-at .n)) (seen-n : seen-at .n ≡ length seen₀) (words-room : SizeOf u64 (words-at .n)) (words-n : words-at .n ≡ length words₀) (list-room : SizeOf u64 (list-at .n)) (list-n : list-at .n ≡ length list₀) where
   abbrev Y : walkOf 𝓤 H A check-words-F.ended stayed (check-words-F.clauses 𝓤 H A at-mem run) .Ghost
@@ -172,6 +175,7 @@ module _ {M : Type 1} (𝓤 : URA M) (H : Heap 𝓤) (A : Atoms 𝓤) (W : Given
   abbrev Dead : ℕ → ℕ → ℕ → ℕ → ℕ → ℕ → ℕ → ℕ → ℕ → ℕ → ℕ → ℕ → ℕ → ℕ → ℕ → ℕ → ℕ → ℕ → ℕ → Item 𝓤
   Dead l0 l1 l2 l3 l4 l5 l6 l7 l8 l9 l10 l11 l12 l13 l14 l15 l16 l17 l18 = Dies 𝓤 H (τ0, l0) ((τ1, l1) ∷ (τ2, l2) ∷ (τ3, l3) ∷ (τ4, l4) ∷ (τ5, l5) ∷ (τ6, l6) ∷ (τ7, l7) ∷ (τ8, l8) ∷ (τ9, l9) ∷ (τ10, l10) ∷ (τ11, l11) ∷ (τ12, l12) ∷ (τ13, l13) ∷ (τ14, l14) ∷ (τ15, l15) ∷ (τ16, l16) ∷ (τ17, l17) ∷ (τ18, l18) ∷ [])
 
+
   module _ (𝓣 : Tables 𝓤 H) (known-records : Triple 𝓤 (𝓣 .C #by-words·records) (records-C.Con 𝓤 H A at-mem run)) (known-check-with : Triple 𝓤 (𝓣 .C #by-words·check-with) (check-with-C.Con 𝓤 H A at-mem run)) where
     abbrev fm : FmC 𝓤 H (W .laws) (𝓣 .C)
     fm = fmOf 𝓤 H (W .laws) 𝓣
@@ -188,8 +192,8 @@ module _ {M : Type 1} (𝓤 : URA M) (H : Heap 𝓤) (A : Atoms 𝓤) (W : Given
         move ! (9 ∷ []) $ fills-array ! OpenStart-T.the-row (LL.makes OpenStart-T.the-type OpenStart-L.the-plain 𝓤 H A) (LL.lawful OpenStart-T.the-type OpenStart-L.the-laws 𝓤 H A W) 65535 l8 made-1 (LL.val OpenStart-T.the-type OpenStart-L.the-laws made-1) made-1-is (load ! (from ! (stop !)) (look ! 9 refl)) (from ! (stop !)) (λ xs-8 filled-8.
         let long-8 : length xs-8 ≡ 65535 = filled-8 .long in
         assigns ! (of-opd ! (load ! (from ! (fld ! refl (stop !))) (look-in ! 7 (sub ! 1 refl (whole !))))) (from ! (stop !)) (init ! 11 refl (tt, record { fits = (words-room .0) })) $
-        records-C.calls-records ! at-mem run fm (words-at .n) (words-room .0) (known-records (records-C.to 𝓤 H A at-mem run (words-at .n)))
-        (and-then ! (load ! (from ! (stop !)) (look ! 12 refl)) (no-more !)) (λ z-records s-records.
+        calls-any W fm (records-C.rule (words-at .n)) ! ((refl, (words-room .0)), tt) tt (λ cs. known-records (records-C.to (words-at .n) 𝓤 H A at-mem run cs))
+          (and-then ! (load ! (from ! (stop !)) (look ! 12 refl)) (no-more !)) (λ z-records s-records.
         let says-records : (2 * (z-records .0) ≤ (words-at .n)) × ((z-records .0) ≤ 65535) = s-records .1 in
         land ! (from ! (stop !)) (init ! 10 refl (tt, record { fits = ((s-records .0) .1) })) $
         assigns ! (addr ! (from ! (fld ! refl (hop ! (look-in ! 6 (sub ! 0 refl (whole !))) (stop !))))) (from ! (stop !)) (init ! 12 refl (tt, tt)) $
@@ -202,8 +206,8 @@ module _ {M : Type 1} (𝓤 : URA M) (H : Heap 𝓤) (A : Atoms 𝓤) (W : Given
         assigns ! (agg ! (and-then ! (load ! (from ! (stop !)) (look ! 18 refl)) (and-then ! (load ! (from ! (fld ! refl (stop !))) (look-in ! 8 (sub ! 1 refl (whole !)))) (no-more !)))) (from ! (stop !)) (init ! 19 refl (tt, (tt, (record { fits = (list-room .0) }, tt)))) $
         use1 W (later (some (λ (ν : ℕ). some (λ (δ : GName). ‵ (HasMut OpenStart-T.the-row (array l8 65535 ν δ) xs-8) ⊛ ‵ (KeptArray OpenStart-T.the-row 65535 l8 ν δ))))) (lend-array OpenStart-T.the-row 65535 l8 𝓤 H A W tt (lit< tt, lit< tt) xs-8) $ await ! tt $ pick ! (λ ν-array-1. pick ! (λ δ-array-1. split ! $
         move ! (21 ∷ 22 ∷ 23 ∷ 24 ∷ 25 ∷ 0 ∷ 26 ∷ []) $ let req-check-with : (2 * (z-records .0) ≤ length words₀) × ((z-records .0) ≤ length xs-8) = all-inside _ _ _ _ says-records words-n long-8 in
-        check-with-C.calls-check-with ! at-mem run fm table-at table₀ source-at source₀ tape-at tape₀ seen-at seen₀ words-at words₀ (array l8 65535 ν-array-1 δ-array-1) xs-8 (z-records .0) list-at list₀ ((s-records .0) .1) req-check-with (λ ν-seen δ-seen ν-words δ-words ν-opens δ-opens ν-list δ-list. known-check-with (check-with-C.to 𝓤 H A at-mem run table-at table₀ source-at source₀ tape-at tape₀ seen-at seen₀ words-at words₀ (array l8 65535 ν-array-1 δ-array-1) xs-8 (z-records .0) list-at list₀ table-at source-at tape-at (relent seen-at ν-seen δ-seen) (relent words-at ν-words δ-words) (relent (array l8 65535 ν-array-1 δ-array-1) ν-opens δ-opens) (relent list-at ν-list δ-list)))
-        (and-then ! (load ! (from ! (stop !)) (look ! 4 refl)) (and-then ! (load ! (from ! (stop !)) (look ! 5 refl)) (and-then ! (load ! (from ! (stop !)) (look ! 6 refl)) (and-then ! (load ! (from ! (stop !)) (look ! 14 refl)) (and-then ! (load ! (from ! (stop !)) (look ! 16 refl)) (and-then ! (load ! (from ! (stop !)) (look ! 18 refl)) (and-then ! (load ! (from ! (stop !)) (look ! 11 refl)) (and-then ! (load ! (from ! (stop !)) (look ! 20 refl)) (no-more !))))))))) (λ z-check-with s-check-with.
+        calls-any W fm (check-with-C.rule table-at table₀ source-at source₀ tape-at tape₀ seen-at seen₀ words-at words₀ (array l8 65535 ν-array-1 δ-array-1) xs-8 (z-records .0) list-at list₀) ! ((refl, ((s-records .0) .1)), tt) req-check-with (λ cs. known-check-with (check-with-C.to table-at table₀ source-at source₀ tape-at tape₀ seen-at seen₀ words-at words₀ (array l8 65535 ν-array-1 δ-array-1) xs-8 (z-records .0) list-at list₀ 𝓤 H A at-mem run cs))
+          (and-then ! (load ! (from ! (stop !)) (look ! 4 refl)) (and-then ! (load ! (from ! (stop !)) (look ! 5 refl)) (and-then ! (load ! (from ! (stop !)) (look ! 6 refl)) (and-then ! (load ! (from ! (stop !)) (look ! 14 refl)) (and-then ! (load ! (from ! (stop !)) (look ! 16 refl)) (and-then ! (load ! (from ! (stop !)) (look ! 18 refl)) (and-then ! (load ! (from ! (stop !)) (look ! 11 refl)) (and-then ! (load ! (from ! (stop !)) (look ! 20 refl)) (no-more !))))))))) (λ z-check-with s-check-with.
         let len-check-with-seen : length (z-check-with .1 .0) ≡ length seen₀ = s-check-with .1 .0 in
         let len-check-with-words : length (z-check-with .1 .1 .0) ≡ length words₀ = s-check-with .1 .1 .0 in
         let len-check-with-opens : length (z-check-with .1 .1 .1 .0) ≡ length xs-8 = s-check-with .1 .1 .1 .0 in
@@ -211,7 +215,7 @@ module _ {M : Type 1} (𝓤 : URA M) (H : Heap 𝓤) (A : Atoms 𝓤) (W : Given
         let says-check-with : length (z-check-with .1 .1 .0) ≡ length words₀ = s-check-with .1 .1 .1 .1 .1 in
         land ! (from ! (stop !)) (init ! 9 refl (EL.lawful Answer-T.the-type Answer-L.the-laws 𝓤 H A W tt .typed (z-check-with .0) _ (s-check-with .0) .0)) $
         move ! (5 ∷ 7 ∷ []) $ use2 W (later (‵ (ArrayAt OpenStart-T.the-row 65535 l8 (z-check-with .1 .1 .1 .0)))) (back-array OpenStart-T.the-row 65535 l8 𝓤 H A W ν-array-1 δ-array-1 (z-check-with .1 .1 .1 .0)) $ await ! tt $
-        use1 W (‵ (froom τ8 l8 0)) (free-array OpenStart-T.the-row 65535 l8 𝓤 H A W (z-check-with .1 .1 .1 .0)) $ returns-within ! Post refl (look ! 8 refl) $ move ! (7 ∷ 8 ∷ 9 ∷ 10 ∷ 11 ∷ 12 ∷ 13 ∷ 14 ∷ 15 ∷ 0 ∷ 16 ∷ 17 ∷ 18 ∷ 19 ∷ 20 ∷ 21 ∷ 22 ∷ 23 ∷ 24 ∷ 25 ∷ []) $ frees-any ! (full _ ∷ full _ ∷ full _ ∷ full _ ∷ full _ ∷ full _ ∷ full _ ∷ full _ ∷ empty ∷ full _ ∷ full _ ∷ full _ ∷ full _ ∷ full _ ∷ full _ ∷ full _ ∷ full _ ∷ full _ ∷ full _ ∷ []) $ keep ! (0 ∷ 1 ∷ 2 ∷ 3 ∷ 4 ∷ 5 ∷ []) $
+        use1 W (‵ (froom τ8 l8 0)) (free-array OpenStart-T.the-row 65535 l8 𝓤 H A W (z-check-with .1 .1 .1 .0)) $ returns-within ! Post refl (look ! 8 refl) $ move ! (7 ∷ 8 ∷ 9 ∷ 10 ∷ 11 ∷ 12 ∷ 13 ∷ 14 ∷ 15 ∷ 0 ∷ 16 ∷ 17 ∷ 18 ∷ 19 ∷ 20 ∷ 21 ∷ 22 ∷ 23 ∷ 24 ∷ 25 ∷ []) $ frees-any ! (full _ ∷ full _ ∷ full _ ∷ full _ ∷ full _ ∷ full _ ∷ full _ ∷ full _ ∷ empty ∷ full _ ∷ full _ ∷ full _ ∷ full _ ∷ full _ ∷ full _ ∷ full _ ∷ full _ ∷ full _ ∷ full _ ∷ []) $ keep ! (0 ∷ 1 ∷ 2 ∷ 3 ∷ 4 ∷ 5 ∷ []) $ 
         by ! (exits (z-check-with .0) (z-check-with .1 .0) (z-check-with .1 .1 .0) (z-check-with .1 .1 .1 .1 .0) (s-check-with .0) len-check-with-seen len-check-with-words len-check-with-list len-check-with-words))))))))))))))))))))))))))
 
 check-words-meets : {M : Type 1} (𝓤 : URA M) (H : Heap 𝓤) (A : Atoms 𝓤) (W : Given 𝓤 H A) (at-mem : Memory → SProp 𝓤) (run : Routine → Fun 𝓤) (𝓣 : Tables 𝓤 H) → Triple 𝓤 (𝓣 .C #by-words·records) (records-C.Con 𝓤 H A at-mem run) → Triple 𝓤 (𝓣 .C #by-words·check-with) (check-with-C.Con 𝓤 H A at-mem run) → Meets 𝓤 H A check-words-F.signature (WpFn 𝓤 H (𝓣 .C) (𝓣 .Λ) code.function) (check-words-F.spec 𝓤 H A at-mem run)

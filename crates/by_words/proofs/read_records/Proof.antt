@@ -49,6 +49,7 @@ use denote.Triple.Walked.{says, needs, Stays, stay-none, stay-none-slice, stay-r
 use denote.Exit.{yes}
 use Rattle.references.proofs.Flow.{if-then, skip-then, exit-then, switch-then, assoc-then, loop-then, meets-at, frees-any}
 use Rattle.references.proofs.Hand.{At, lent as relent, ptrVal, fatVal, ref, HasRef, HasMut, HasShr, KeptRef, KeptMut, KeptShr, OpenRef, OpenAt, lend-ref, back-ref, lend-mut, back-mut, lend-shr, back-shr, open-ref, shut-ref, open-at, shut-at, back-at}
+use Rattle.references.proofs.Call.{calls-any, calls-any-last}
 use Rattle.marking.specs.declared.Report.{Report}
 use Rattle.marking.proofs.Report as Report-T
 use Rattle.marking.proofs.Report.Laws as Report-L
@@ -76,6 +77,7 @@ use Rattle.validate.specs.Outcome.{noStart, answer, listAfter, seenAfter, openA
 use Rattle.marking.specs.Entry.{answerOf, lent}
 use Rattle.references.proofs.Sizes.{scaled, more-fits, nearer}
 use Rattle.by_words.proofs.Numbers.{here, pair-inside}
+
 use Rattle.by_words.proofs.read_records.Statement as stated
 use Rattle.by_words.proofs.read_records.Key.{name as #by-words·read-records}
 use base.Logic.{fst∗}
@@ -118,6 +120,7 @@ abbrev τ9 : Ty
 abbrev τ10 : Ty
 τ10 = tyPtr
 
+
 module _ {M : Type 1} (𝓤 : URA M) (H : Heap 𝓤) (A : Atoms 𝓤) (W : Given 𝓤 H A) (at-mem : Memory → SProp 𝓤) (run : Routine → Fun 𝓤) (words-at : At) (words₀ : List ℕ) (opens-at : At) (opens₀ : List OpenStart) (n₀ : ℕ)
     (words-room : SizeOf u64 (words-at .n)) (words-n : words-at .n ≡ length words₀) (opens-room : SizeOf OpenStart-T.the-row (opens-at .n)) (opens-n : opens-at .n ≡ length opens₀) (n₀-is : n₀ < 2 ^ 64) (req : (2 * n₀ ≤ length words₀) × (n₀ ≤ length opens₀)) where
   abbrev Y : walkOf 𝓤 H A read-records-F.ended stayed (read-records-F.clauses 𝓤 H A at-mem run) .Ghost
@@ -143,6 +146,7 @@ module _ {M : Type 1} (𝓤 : URA M) (H : Heap 𝓤) (A : Atoms 𝓤) (W : Given
   abbrev μ-loop-0 : ℕ × ((List ℕ) × ((List OpenStart) × Unit {0})) → ℕ
   μ-loop-0 y = n₀ - (y .0)
 
+
   module _ (𝓣 : Tables 𝓤 H) (known-record-at : Triple 𝓤 (𝓣 .C #by-words·record-at) (record-at-C.Con 𝓤 H A at-mem run)) where
     abbrev fm : FmC 𝓤 H (W .laws) (𝓣 .C)
     fm = fmOf 𝓤 H (W .laws) 𝓣
@@ -155,7 +159,7 @@ module _ {M : Type 1} (𝓤 : URA M) (H : Heap 𝓤) (A : Atoms 𝓤) (W : Given
         move ! (21 ∷ 19 ∷ 17 ∷ 15 ∷ 13 ∷ 11 ∷ 9 ∷ 7 ∷ 5 ∷ 3 ∷ 1 ∷ 20 ∷ 18 ∷ 16 ∷ 14 ∷ 12 ∷ 10 ∷ 8 ∷ 6 ∷ 4 ∷ 2 ∷ 0 ∷ []) $ group ! 11 $
         assigns ! (of-opd ! (lit ! tt)) (from ! (stop !)) (init ! 5 refl (tt, record { fits = (lit< tt) })) $
         use0 W (raw (fact 𝓤 ((0 < 2 ^ 64) × ((length words₀ ≡ length words₀) × ((length opens₀ ≡ length opens₀) × ((Unit {0}))))))) (factI 𝓤 ((0 < 2 ^ 64) × ((length words₀ ≡ length words₀) × ((length opens₀ ≡ length opens₀) × ((Unit {0}))))) (emp 𝓤) ((lit< tt), (refl, (refl, tt)))) $
-        keep ! (0 ∷ 1 ∷ 2 ∷ 3 ∷ 4 ∷ 5 ∷ 6 ∷ 7 ∷ 8 ∷ 9 ∷ 10 ∷ 11 ∷ 12 ∷ 13 ∷ 14 ∷ []) $
+        keep ! (0 ∷ 1 ∷ 2 ∷ 3 ∷ 4 ∷ 5 ∷ 6 ∷ 7 ∷ 8 ∷ 9 ∷ 10 ∷ 11 ∷ 12 ∷ 13 ∷ 14 ∷ []) $ 
         loop-then ! 𝓣 (λ (a b : ℕ × ((List ℕ) × ((List OpenStart) × Unit {0}))). μ-loop-0 a < μ-loop-0 b) (InvImage·wf (μ-loop-0) (Nat·lt-wfRel .wf)) (λ (y100 : ℕ × ((List ℕ) × ((List OpenStart) × Unit {0}))). raw (fact 𝓤 (((y100 .0) < 2 ^ 64) × ((length (y100 .1 .0) ≡ length words₀) × ((length (y100 .1 .1 .0) ≡ length opens₀) × ((Unit {0})))))) ∷ Dead l0 l1 l2 l3 l4 l5 l6 l7 l8 l9 l10 ∷ ‵ (froom τ0 l0 0) ∷ ‵ (fat fullShare τ1 l1 0 (fatVal words-at)) ∷ ‵ (fat fullShare τ2 l2 0 (fatVal opens-at)) ∷ ‵ (fat fullShare τ3 l3 0 (vint w64 n₀)) ∷ ‵ (fat fullShare τ4 l4 0 (vint w64 (y100 .0))) ∷ ‵ (froom τ5 l5 0) ∷ ‵ (froom τ6 l6 0) ∷ ‵ (froom τ7 l7 0) ∷ ‵ (froom τ8 l8 0) ∷ ‵ (froom τ9 l9 0) ∷ ‵ (froom τ10 l10 0) ∷ ‵ (HasMut u64 words-at (y100 .1 .0)) ∷ ‵ (HasMut OpenStart-T.the-row opens-at (y100 .1 .1 .0)) ∷ []) (λ y100 leave-0. heard ! (((y100 .0) < 2 ^ 64) × ((length (y100 .1 .0) ≡ length words₀) × ((length (y100 .1 .1 .0) ≡ length opens₀) × ((Unit {0}))))) (λ j100.
         let is-k-100 : (y100 .0) < 2 ^ 64 = j100 .0 in
         let len-ws-100 : length (y100 .1 .0) ≡ length words₀ = j100 .1 .0 in
@@ -168,8 +172,8 @@ module _ {M : Type 1} (𝓤 : URA M) (H : Heap 𝓤) (A : Atoms 𝓤) (W : Given
         assigns ! (addr ! (from ! (fld ! refl (hop ! (look-in ! 2 (sub ! 0 refl (whole !))) (stop !))))) (from ! (stop !)) (init ! 8 refl (tt, tt)) $
         assigns ! (agg ! (and-then ! (load ! (from ! (stop !)) (look ! 8 refl)) (and-then ! (load ! (from ! (fld ! refl (stop !))) (look-in ! 2 (sub ! 1 refl (whole !)))) (no-more !)))) (from ! (stop !)) (init ! 9 refl (tt, (tt, (record { fits = (words-room .0) }, tt)))) $
         move ! (12 ∷ []) $ let req-record-at : 2 * (y100 .0) + 2 ≤ length (y100 .1 .0) = pair-inside _ _ _ test-0 (rw len-ws-100 (req .0)) in
-        record-at-C.calls-record-at ! at-mem run fm words-at (y100 .1 .0) (y100 .0) is-k-100 req-record-at (λ ν-words δ-words. known-record-at (record-at-C.to 𝓤 H A at-mem run words-at (y100 .1 .0) (y100 .0) (relent words-at ν-words δ-words)))
-        (and-then ! (load ! (from ! (stop !)) (look ! 10 refl)) (and-then ! (load ! (from ! (stop !)) (look ! 6 refl)) (no-more !))) (λ z-record-at s-record-at.
+        calls-any W fm (record-at-C.rule words-at (y100 .1 .0) (y100 .0)) ! ((refl, is-k-100), tt) req-record-at (λ cs. known-record-at (record-at-C.to words-at (y100 .1 .0) (y100 .0) 𝓤 H A at-mem run cs))
+          (and-then ! (load ! (from ! (stop !)) (look ! 10 refl)) (and-then ! (load ! (from ! (stop !)) (look ! 6 refl)) (no-more !))) (λ z-record-at s-record-at.
         let len-record-at-words : length (z-record-at .1 .0) ≡ length (y100 .1 .0) = s-record-at .1 in
         land ! (from ! (stop !)) (init ! 7 refl (LL.lawful OpenStart-T.the-type OpenStart-L.the-laws 𝓤 H A W .typed (z-record-at .0) _ (s-record-at .0) .0)) $
         let fits-1 : ((y100 .0) * 8) < 2 ^ 64 = scaled _ _ _ (here _ _ _ test-0 (req .1)) opens-n (opens-room .1) in
@@ -187,7 +191,7 @@ module _ {M : Type 1} (𝓤 : URA M) (H : Heap 𝓤) (A : Atoms 𝓤) (W : Given
         (λ h0. let test-0 : n₀ ≤ (y100 .0) = nltb→le (y100 .0) n₀ h0 in
         exit-then ! $ leave-0 _ $
         assigns ! (of-opd ! (unit-lit !)) (from ! (stop !)) (init ! 1 refl (tt, tt)) $
-        returns-within ! Post refl (look ! 1 refl) $ frees-any ! (full _ ∷ full _ ∷ full _ ∷ full _ ∷ full _ ∷ empty ∷ full _ ∷ empty ∷ empty ∷ empty ∷ empty ∷ []) $ keep ! (0 ∷ 1 ∷ []) $
+        returns-within ! Post refl (look ! 1 refl) $ frees-any ! (full _ ∷ full _ ∷ full _ ∷ full _ ∷ full _ ∷ empty ∷ full _ ∷ empty ∷ empty ∷ empty ∷ empty ∷ []) $ keep ! (0 ∷ 1 ∷ []) $ 
         by ! (exits tt (y100 .1 .0) (y100 .1 .1 .0) len-ws-100 len-ys-100 len-ws-100)))) (0, (words₀, (opens₀, tt)))))))))))))))
 
 read-records-meets : {M : Type 1} (𝓤 : URA M) (H : Heap 𝓤) (A : Atoms 𝓤) (W : Given 𝓤 H A) (at-mem : Memory → SProp 𝓤) (run : Routine → Fun 𝓤) (𝓣 : Tables 𝓤 H) → Triple 𝓤 (𝓣 .C #by-words·record-at) (record-at-C.Con 𝓤 H A at-mem run) → Meets 𝓤 H A read-records-F.signature (WpFn 𝓤 H (𝓣 .C) (𝓣 .Λ) code.function) (read-records-F.spec 𝓤 H A at-mem run)

@@ -49,6 +49,7 @@ use denote.Triple.Walked.{says, needs, Stays, stay-none, stay-none-slice, stay-r
 use denote.Exit.{yes}
 use Rattle.references.proofs.Flow.{if-then, skip-then, exit-then, switch-then, assoc-then, loop-then, meets-at, frees-any}
 use Rattle.references.proofs.Hand.{At, lent as relent, ptrVal, fatVal, ref, HasRef, HasMut, HasShr, KeptRef, KeptMut, KeptShr, OpenRef, OpenAt, lend-ref, back-ref, lend-mut, back-mut, lend-shr, back-shr, open-ref, shut-ref, open-at, shut-at, back-at}
+use Rattle.references.proofs.Call.{calls-any, calls-any-last}
 use Rattle.attachment.specs.declared.Attached.{Attached}
 use Rattle.attachment.proofs.Attached as Attached-T
 use Rattle.attachment.proofs.Attached.Laws as Attached-L
@@ -106,6 +107,7 @@ use Rattle.references.proofs.Sizes.{scaled, less-fits, more-fits, nearer, wide}
 use Rattle.checker.proofs.Going.{Going, going-start, going-end, going-below, passable, going-past, visit-asks, going-visited, going-nearer}
 use Rattle.checker.proofs.Visiting.{visit-with, visit-run, visit-below, visit-children, visited-calm, own-room, visit-deep, steppable, enters, Entered, inner-run, visited-still, Inner, inner-asks, inner-less, visited-whole, next-fits, same-depth}
 use Rattle.checker.proofs.Steps.{leafy-asks, was-number, was-other}
+
 use Rattle.checker.proofs.visit_leaf.Statement as stated
 use Rattle.checker.proofs.visit_leaf.Key.{name as #checker·visit-leaf}
 use base.Logic.{fst∗}
@@ -182,6 +184,7 @@ abbrev τ19 : Ty
 abbrev τ20 : Ty
 τ20 = sliceTy (tyRef erased mut (tyInt w64))
 
+
 module _ {M : Type 1} (𝓤 : URA M) (H : Heap 𝓤) (A : Atoms 𝓤) (W : Given 𝓤 H A) (at-mem : Memory → SProp 𝓤) (run : Routine → Fun 𝓤) (table-at : At) (table₀ : List ℕ) (words-at : At) (words₀ : List ℕ) (count₀ : ℕ) (source-at : At) (source₀ : List ℕ) (tape-at : At) (tape₀ : List ℕ) (i₀ : ℕ) (next₀ : ℕ) (to₀ : ℕ) (around₀ : Around) (numbers₀ : Attached) (rec-at : At) (rec₀ : Record) (seen-at : At) (seen₀ : List ℕ) (list-at : At) (list₀ : List ℕ)
     (table-room : SizeOf u8 (table-at .n)) (table-n : table-at .n ≡ length table₀) (words-room : SizeOf u64 (words-at .n)) (words-n : words-at .n ≡ length words₀) (count₀-is : count₀ < 2 ^ 64) (source-room : SizeOf u8 (source-at .n)) (source-n : source-at .n ≡ length source₀) (tape-room : SizeOf u8 (tape-at .n)) (tape-n : tape-at .n ≡ length tape₀) (i₀-is : i₀ < 2 ^ 64) (next₀-is : next₀ < 2 ^ 64) (to₀-is : to₀ < 2 ^ 64) (around₀-is : Is Around-T.the-row around₀ (LL.val Around-T.the-type Around-L.the-laws around₀ ∷ [])) (numbers₀-is : Is Attached-T.the-row numbers₀ (LL.val Attached-T.the-type Attached-L.the-laws numbers₀ ∷ [])) (seen-room : SizeOf u32 (seen-at .n)) (seen-n : seen-at .n ≡ length seen₀) (list-room : SizeOf u64 (list-at .n)) (list-n : list-at .n ≡ length list₀) (req : Passable table₀ words₀ count₀ source₀ tape₀ (aroundOf around₀) i₀ next₀ to₀ seen₀ rec₀) where
   abbrev Y : walkOf 𝓤 H A visit-leaf-F.ended stayed (visit-leaf-F.clauses 𝓤 H A at-mem run) .Ghost
@@ -204,6 +207,7 @@ module _ {M : Type 1} (𝓤 : URA M) (H : Heap 𝓤) (A : Atoms 𝓤) (W : Given
   abbrev Dead : ℕ → ℕ → ℕ → ℕ → ℕ → ℕ → ℕ → ℕ → ℕ → ℕ → ℕ → ℕ → ℕ → ℕ → ℕ → ℕ → ℕ → ℕ → ℕ → ℕ → ℕ → Item 𝓤
   Dead l0 l1 l2 l3 l4 l5 l6 l7 l8 l9 l10 l11 l12 l13 l14 l15 l16 l17 l18 l19 l20 = Dies 𝓤 H (τ0, l0) ((τ1, l1) ∷ (τ2, l2) ∷ (τ3, l3) ∷ (τ4, l4) ∷ (τ5, l5) ∷ (τ6, l6) ∷ (τ7, l7) ∷ (τ8, l8) ∷ (τ9, l9) ∷ (τ10, l10) ∷ (τ11, l11) ∷ (τ12, l12) ∷ (τ13, l13) ∷ (τ14, l14) ∷ (τ15, l15) ∷ (τ16, l16) ∷ (τ17, l17) ∷ (τ18, l18) ∷ (τ19, l19) ∷ (τ20, l20) ∷ [])
 
+
   module _ (𝓣 : Tables 𝓤 H) (known-is-number : Triple 𝓤 (𝓣 .C #checker·is-number) (is-number-C.Con 𝓤 H A at-mem run)) (known-leaf : Triple 𝓤 (𝓣 .C #checker·leaf) (leaf-C.Con 𝓤 H A at-mem run)) (known-numbers-after : Triple 𝓤 (𝓣 .C #checker·numbers-after) (numbers-after-C.Con 𝓤 H A at-mem run)) where
     abbrev fm : FmC 𝓤 H (W .laws) (𝓣 .C)
     fm = fmOf 𝓤 H (W .laws) 𝓣
@@ -215,8 +219,8 @@ module _ {M : Type 1} (𝓤 : URA M) (H : Heap 𝓤) (A : Atoms 𝓤) (W : Given
         alloc1 ! (λ l0. alloc1 ! (λ l1. alloc1 ! (λ l2. alloc1 ! (λ l3. alloc1 ! (λ l4. alloc1 ! (λ l5. alloc1 ! (λ l6. alloc1 ! (λ l7. alloc1 ! (λ l8. alloc1 ! (λ l9. alloc1 ! (λ l10. alloc1 ! (λ l11. alloc1 ! (λ l12. alloc1 ! (λ l13. alloc1 ! (λ l14. alloc1 ! (λ l15. alloc1 ! (λ l16. alloc1 ! (λ l17. alloc1 ! (λ l18. alloc1 ! (λ l19. alloc1 ! (λ l20. alloc0 ! $ params1 ! $ pass1 ! (init ! 38 refl (tt, (tt, (record { fits = (table-room .0) }, tt)))) $ pass1 ! (init ! 36 refl (tt, (tt, (record { fits = (words-room .0) }, tt)))) $ pass1 ! (init ! 34 refl (tt, record { fits = count₀-is })) $ pass1 ! (init ! 32 refl (tt, (tt, (record { fits = (source-room .0) }, tt)))) $ pass1 ! (init ! 30 refl (tt, (tt, (record { fits = (tape-room .0) }, tt)))) $ pass1 ! (init ! 28 refl (tt, record { fits = i₀-is })) $ pass1 ! (init ! 26 refl (tt, record { fits = next₀-is })) $ pass1 ! (init ! 24 refl (tt, record { fits = to₀-is })) $ pass1 ! (init ! 22 refl (LL.lawful Around-T.the-type Around-L.the-laws 𝓤 H A W .typed around₀ _ around₀-is .0)) $ pass1 ! (init ! 20 refl (LL.lawful Attached-T.the-type Attached-L.the-laws 𝓤 H A W .typed numbers₀ _ numbers₀-is .0)) $ pass1 ! (init ! 18 refl (tt, tt)) $ pass1 ! (init ! 16 refl (tt, (tt, (record { fits = (seen-room .0) }, tt)))) $ pass1 ! (init ! 14 refl (tt, (tt, (record { fits = (list-room .0) }, tt)))) $ pass0 ! $
         move ! (41 ∷ 39 ∷ 37 ∷ 35 ∷ 33 ∷ 31 ∷ 29 ∷ 27 ∷ 25 ∷ 23 ∷ 21 ∷ 19 ∷ 17 ∷ 15 ∷ 13 ∷ 11 ∷ 9 ∷ 7 ∷ 5 ∷ 3 ∷ 1 ∷ 40 ∷ 38 ∷ 36 ∷ 34 ∷ 32 ∷ 30 ∷ 28 ∷ 26 ∷ 24 ∷ 22 ∷ 20 ∷ 18 ∷ 16 ∷ 14 ∷ 12 ∷ 10 ∷ 8 ∷ 6 ∷ 4 ∷ 2 ∷ 0 ∷ []) $ group ! 21 $
         move ! (25 ∷ []) $ let req-is-number : i₀ < nodes tape₀ = req .inside in
-        is-number-C.calls-is-number ! at-mem run fm tape-at tape₀ i₀ i₀-is req-is-number (known-is-number (is-number-C.to 𝓤 H A at-mem run tape-at tape₀ i₀ tape-at))
-        (and-then ! (load ! (from ! (stop !)) (look ! 7 refl)) (and-then ! (load ! (from ! (stop !)) (look ! 8 refl)) (no-more !))) (λ z-is-number s-is-number.
+        calls-any W fm (is-number-C.rule tape-at tape₀ i₀) ! ((refl, i₀-is), tt) req-is-number (λ cs. known-is-number (is-number-C.to tape-at tape₀ i₀ 𝓤 H A at-mem run cs))
+          (and-then ! (load ! (from ! (stop !)) (look ! 7 refl)) (and-then ! (load ! (from ! (stop !)) (look ! 8 refl)) (no-more !))) (λ z-is-number s-is-number.
         let says-is-number : (z-is-number .0) ≡ numbered (kindAt tape₀ i₀) = s-is-number .1 in
         land ! (from ! (stop !)) (init ! 17 refl (tt, tt)) $
         if-then ! (load ! (from ! (stop !)) (look ! 17 refl))
@@ -229,8 +233,8 @@ module _ {M : Type 1} (𝓤 : URA M) (H : Heap 𝓤) (A : Atoms 𝓤) (W : Given
         assoc-then 𝓣 ! $ assigns ! (addr ! (from ! (fld ! refl (hop ! (look-in ! 16 (sub ! 0 refl (whole !))) (stop !))))) (from ! (stop !)) (init ! 22 refl (tt, tt)) $
         assoc-then 𝓣 ! $ assigns ! (agg ! (and-then ! (load ! (from ! (stop !)) (look ! 22 refl)) (and-then ! (load ! (from ! (fld ! refl (stop !))) (look-in ! 16 (sub ! 1 refl (whole !)))) (no-more !)))) (from ! (stop !)) (init ! 23 refl (tt, (tt, (record { fits = (list-room .0) }, tt)))) $
         assoc-then 𝓣 ! $ move ! (24 ∷ 25 ∷ 26 ∷ 1 ∷ 27 ∷ 28 ∷ []) $ let req-leaf : (Indexed table₀ words₀ count₀) × (Spanned source₀ tape₀ i₀) × Sane rec₀ × (rec₀ .seen < length seen₀) × (rec₀ .verses < 4611686018427387904) × Room (countsOf rec₀) (leafTold table₀ (aroundOf around₀) (stateOf source₀ tape₀ seen₀ [] rec₀) (nodeAt source₀ tape₀ i₀) .findings) = leafy-asks (req .leafy (sym says-is-number ∙ test-0)) in
-        leaf-C.calls-leaf ! at-mem run fm table-at table₀ words-at words₀ count₀ source-at source₀ tape-at tape₀ i₀ around₀ rec₀ seen-at seen₀ list-at list₀ count₀-is i₀-is around₀-is open-1 req-leaf (λ ν-seen δ-seen ν-list δ-list. known-leaf (leaf-C.to 𝓤 H A at-mem run table-at table₀ words-at words₀ count₀ source-at source₀ tape-at tape₀ i₀ around₀ rec₀ seen-at seen₀ list-at list₀ table-at words-at source-at tape-at (relent seen-at ν-seen δ-seen) (relent list-at ν-list δ-list)))
-        (and-then ! (load ! (from ! (stop !)) (look ! 4 refl)) (and-then ! (load ! (from ! (stop !)) (look ! 5 refl)) (and-then ! (load ! (from ! (stop !)) (look ! 6 refl)) (and-then ! (load ! (from ! (stop !)) (look ! 7 refl)) (and-then ! (load ! (from ! (stop !)) (look ! 8 refl)) (and-then ! (load ! (from ! (stop !)) (look ! 9 refl)) (and-then ! (load ! (from ! (stop !)) (look ! 12 refl)) (and-then ! (load ! (from ! (stop !)) (look ! 17 refl)) (and-then ! (load ! (from ! (stop !)) (look ! 21 refl)) (and-then ! (load ! (from ! (stop !)) (look ! 23 refl)) (no-more !))))))))))) (λ z-leaf s-leaf.
+        calls-any W fm (leaf-C.rule table-at table₀ words-at words₀ count₀ source-at source₀ tape-at tape₀ i₀ around₀ rec₀ seen-at seen₀ list-at list₀) ! ((refl, count₀-is), ((refl, i₀-is), (around₀-is, (open-1, tt)))) req-leaf (λ cs. known-leaf (leaf-C.to table-at table₀ words-at words₀ count₀ source-at source₀ tape-at tape₀ i₀ around₀ rec₀ seen-at seen₀ list-at list₀ 𝓤 H A at-mem run cs))
+          (and-then ! (load ! (from ! (stop !)) (look ! 4 refl)) (and-then ! (load ! (from ! (stop !)) (look ! 5 refl)) (and-then ! (load ! (from ! (stop !)) (look ! 6 refl)) (and-then ! (load ! (from ! (stop !)) (look ! 7 refl)) (and-then ! (load ! (from ! (stop !)) (look ! 8 refl)) (and-then ! (load ! (from ! (stop !)) (look ! 9 refl)) (and-then ! (load ! (from ! (stop !)) (look ! 12 refl)) (and-then ! (load ! (from ! (stop !)) (look ! 17 refl)) (and-then ! (load ! (from ! (stop !)) (look ! 21 refl)) (and-then ! (load ! (from ! (stop !)) (look ! 23 refl)) (no-more !))))))))))) (λ z-leaf s-leaf.
         let len-leaf-seen : length (z-leaf .1 .0) ≡ length seen₀ = s-leaf .1 .0 in
         let len-leaf-list : length (z-leaf .1 .1 .0) ≡ length list₀ = s-leaf .1 .1 .0 in
         let says-leaf : LeafPassed table₀ source₀ tape₀ (aroundOf around₀) i₀ seen₀ list₀ rec₀ (z-leaf .1 .0) (z-leaf .1 .1 .0) (z-leaf .0) = s-leaf .1 .1 .1 in
@@ -239,16 +243,16 @@ module _ {M : Type 1} (𝓤 : URA M) (H : Heap 𝓤) (A : Atoms 𝓤) (W : Given
         assigns ! (of-opd ! (load ! (from ! (stop !)) (look ! 25 refl))) (from ! (hop ! (look ! 20 refl) (stop !))) (store-raw ! 0 refl (LL.lawful Record-T.the-type Record-L.the-laws 𝓤 H A W .typed (z-leaf .0) _ (s-leaf .0) .0)) $
         use2 W (later (‵ (HasRef Record-T.the-row rec-at (z-leaf .0)))) (shut-ref Record-T.the-row 𝓤 H A W rec-at (LL.vals Record-T.the-type Record-L.the-laws) (LL.tells Record-T.the-type Record-L.the-laws) (LL.makes Record-T.the-type Record-L.the-plain 𝓤 H A) rec₀ (z-leaf .0) (s-leaf .0)) $ await ! tt $
         assoc-then 𝓣 ! $ move ! (3 ∷ 4 ∷ []) $ let req-numbers-after : (i₀ < nodes tape₀) × (Run source₀ tape₀ next₀ to₀) = (req .inside, req .leafy (sym says-is-number ∙ test-0) .rest) in
-        numbers-after-C.calls-numbers-after ! at-mem run fm source-at source₀ tape-at tape₀ i₀ next₀ to₀ numbers₀ i₀-is next₀-is to₀-is numbers₀-is req-numbers-after (known-numbers-after (numbers-after-C.to 𝓤 H A at-mem run source-at source₀ tape-at tape₀ i₀ next₀ to₀ numbers₀ source-at tape-at))
-        (and-then ! (load ! (from ! (stop !)) (look ! 11 refl)) (and-then ! (load ! (from ! (stop !)) (look ! 12 refl)) (and-then ! (load ! (from ! (stop !)) (look ! 13 refl)) (and-then ! (load ! (from ! (stop !)) (look ! 14 refl)) (and-then ! (load ! (from ! (stop !)) (look ! 15 refl)) (and-then ! (load ! (from ! (stop !)) (look ! 17 refl)) (no-more !))))))) (λ z-numbers-after s-numbers-after.
+        calls-any W fm (numbers-after-C.rule source-at source₀ tape-at tape₀ i₀ next₀ to₀ numbers₀) ! ((refl, i₀-is), ((refl, next₀-is), ((refl, to₀-is), (numbers₀-is, tt)))) req-numbers-after (λ cs. known-numbers-after (numbers-after-C.to source-at source₀ tape-at tape₀ i₀ next₀ to₀ numbers₀ 𝓤 H A at-mem run cs))
+          (and-then ! (load ! (from ! (stop !)) (look ! 11 refl)) (and-then ! (load ! (from ! (stop !)) (look ! 12 refl)) (and-then ! (load ! (from ! (stop !)) (look ! 13 refl)) (and-then ! (load ! (from ! (stop !)) (look ! 14 refl)) (and-then ! (load ! (from ! (stop !)) (look ! 15 refl)) (and-then ! (load ! (from ! (stop !)) (look ! 17 refl)) (no-more !))))))) (λ z-numbers-after s-numbers-after.
         let says-numbers-after : startsOf (z-numbers-after .0) ≡ numbersAfter source₀ tape₀ i₀ next₀ to₀ (startsOf numbers₀) = s-numbers-after .1 in
         land ! (from ! (stop !)) (init ! 8 refl (LL.lawful Attached-T.the-type Attached-L.the-laws 𝓤 H A W .typed (z-numbers-after .0) _ (s-numbers-after .0) .0)) $
-        first ! $ returns-within ! Post refl (look ! 8 refl) $ move ! (7 ∷ 8 ∷ 9 ∷ 10 ∷ 11 ∷ 12 ∷ 13 ∷ 14 ∷ 15 ∷ 16 ∷ 17 ∷ 18 ∷ 19 ∷ 20 ∷ 21 ∷ 22 ∷ 23 ∷ 24 ∷ 25 ∷ 26 ∷ 27 ∷ 28 ∷ []) $ frees-any ! (full _ ∷ full _ ∷ full _ ∷ full _ ∷ full _ ∷ full _ ∷ full _ ∷ full _ ∷ full _ ∷ full _ ∷ full _ ∷ full _ ∷ full _ ∷ full _ ∷ full _ ∷ full _ ∷ full _ ∷ full _ ∷ full _ ∷ full _ ∷ full _ ∷ []) $ keep ! (3 ∷ 4 ∷ 0 ∷ 1 ∷ 2 ∷ 5 ∷ 6 ∷ []) $
+        first ! $ returns-within ! Post refl (look ! 8 refl) $ move ! (7 ∷ 8 ∷ 9 ∷ 10 ∷ 11 ∷ 12 ∷ 13 ∷ 14 ∷ 15 ∷ 16 ∷ 17 ∷ 18 ∷ 19 ∷ 20 ∷ 21 ∷ 22 ∷ 23 ∷ 24 ∷ 25 ∷ 26 ∷ 27 ∷ 28 ∷ []) $ frees-any ! (full _ ∷ full _ ∷ full _ ∷ full _ ∷ full _ ∷ full _ ∷ full _ ∷ full _ ∷ full _ ∷ full _ ∷ full _ ∷ full _ ∷ full _ ∷ full _ ∷ full _ ∷ full _ ∷ full _ ∷ full _ ∷ full _ ∷ full _ ∷ full _ ∷ []) $ keep ! (3 ∷ 4 ∷ 0 ∷ 1 ∷ 2 ∷ 5 ∷ 6 ∷ []) $ 
         by ! (exits (z-numbers-after .0) (z-leaf .0) (z-leaf .1 .0) (z-leaf .1 .1 .0) (s-numbers-after .0) len-leaf-seen len-leaf-list (was-number (sym says-is-number ∙ test-0) (record { leaf = says-leaf; attached = says-numbers-after }))))))))
         (λ h0. let test-0 : z-is-number .0 ≡ false = is-false (z-is-number .0) h0 in
         skip-then ! $
         assigns ! (of-opd ! (load ! (from ! (stop !)) (look ! 12 refl))) (from ! (stop !)) (init ! 2 refl (LL.lawful Attached-T.the-type Attached-L.the-laws 𝓤 H A W .typed numbers₀ _ numbers₀-is .0)) $
-        returns-within ! Post refl (look ! 2 refl) $ move ! (1 ∷ 2 ∷ 3 ∷ 4 ∷ 5 ∷ 6 ∷ 7 ∷ 8 ∷ 9 ∷ 10 ∷ 11 ∷ 12 ∷ 13 ∷ 14 ∷ 15 ∷ 16 ∷ 17 ∷ 18 ∷ 19 ∷ 20 ∷ 21 ∷ 22 ∷ []) $ frees-any ! (full _ ∷ full _ ∷ full _ ∷ full _ ∷ full _ ∷ full _ ∷ full _ ∷ full _ ∷ full _ ∷ full _ ∷ full _ ∷ full _ ∷ full _ ∷ full _ ∷ empty ∷ full _ ∷ empty ∷ empty ∷ empty ∷ empty ∷ empty ∷ []) $ keep ! (1 ∷ 2 ∷ 3 ∷ 0 ∷ 4 ∷ 5 ∷ 6 ∷ []) $
+        returns-within ! Post refl (look ! 2 refl) $ move ! (1 ∷ 2 ∷ 3 ∷ 4 ∷ 5 ∷ 6 ∷ 7 ∷ 8 ∷ 9 ∷ 10 ∷ 11 ∷ 12 ∷ 13 ∷ 14 ∷ 15 ∷ 16 ∷ 17 ∷ 18 ∷ 19 ∷ 20 ∷ 21 ∷ 22 ∷ []) $ frees-any ! (full _ ∷ full _ ∷ full _ ∷ full _ ∷ full _ ∷ full _ ∷ full _ ∷ full _ ∷ full _ ∷ full _ ∷ full _ ∷ full _ ∷ full _ ∷ full _ ∷ empty ∷ full _ ∷ empty ∷ empty ∷ empty ∷ empty ∷ empty ∷ []) $ keep ! (1 ∷ 2 ∷ 3 ∷ 0 ∷ 4 ∷ 5 ∷ 6 ∷ []) $ 
         by ! (exits numbers₀ rec₀ seen₀ list₀ numbers₀-is refl refl (was-other (sym says-is-number ∙ test-0)))))))))))))))))))))))))))
 
 visit-leaf-meets : {M : Type 1} (𝓤 : URA M) (H : Heap 𝓤) (A : Atoms 𝓤) (W : Given 𝓤 H A) (at-mem : Memory → SProp 𝓤) (run : Routine → Fun 𝓤) (𝓣 : Tables 𝓤 H) → Triple 𝓤 (𝓣 .C #checker·is-number) (is-number-C.Con 𝓤 H A at-mem run) → Triple 𝓤 (𝓣 .C #checker·leaf) (leaf-C.Con 𝓤 H A at-mem run) → Triple 𝓤 (𝓣 .C #checker·numbers-after) (numbers-after-C.Con 𝓤 H A at-mem run) → Meets 𝓤 H A visit-leaf-F.signature (WpFn 𝓤 H (𝓣 .C) (𝓣 .Λ) code.function) (visit-leaf-F.spec 𝓤 H A at-mem run)

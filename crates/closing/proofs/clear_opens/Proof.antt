@@ -49,6 +49,7 @@ use denote.Triple.Walked.{says, needs, Stays, stay-none, stay-none-slice, stay-r
 use denote.Exit.{yes}
 use Rattle.references.proofs.Flow.{if-then, skip-then, exit-then, switch-then, assoc-then, loop-then, meets-at, frees-any}
 use Rattle.references.proofs.Hand.{At, lent as relent, ptrVal, fatVal, ref, HasRef, HasMut, HasShr, KeptRef, KeptMut, KeptShr, OpenRef, OpenAt, lend-ref, back-ref, lend-mut, back-mut, lend-shr, back-shr, open-ref, shut-ref, open-at, shut-at, back-at}
+use Rattle.references.proofs.Call.{calls-any, calls-any-last}
 use Rattle.findings.specs.declared.Counts.{Counts}
 use Rattle.findings.proofs.Counts as Counts-T
 use Rattle.findings.proofs.Counts.Laws as Counts-L
@@ -77,6 +78,7 @@ use Rattle.closing.specs.Ends.{Left, ofOpen, Tellable}
 use Rattle.references.proofs.Sizes.{scaled, less-fits, more-fits, nearer}
 use Rattle.closing.proofs.Starts.{Told, told-none, told-all, told-inside, tellable, told-more}
 use Rattle.closing.proofs.Zeroed.{cleared-none, cleared-more, cleared-all, here}
+
 use Rattle.closing.proofs.clear_opens.Statement as stated
 use Rattle.closing.proofs.clear_opens.Key.{name as #closing·clear-opens}
 use base.Logic.{fst∗}
@@ -108,6 +110,7 @@ abbrev τ6 : Ty
 abbrev τ7 : Ty
 τ7 = tyPtr
 
+
 module _ {M : Type 1} (𝓤 : URA M) (H : Heap 𝓤) (A : Atoms 𝓤) (W : Given 𝓤 H A) (at-mem : Memory → SProp 𝓤) (run : Routine → Fun 𝓤) (opens-at : At) (opens₀ : List OpenStart) (n₀ : ℕ)
     (opens-room : SizeOf OpenStart-T.the-row (opens-at .n)) (opens-n : opens-at .n ≡ length opens₀) (n₀-is : n₀ < 2 ^ 64) (req : n₀ ≤ length opens₀) where
   abbrev Y : walkOf 𝓤 H A clear-opens-F.ended stayed (clear-opens-F.clauses 𝓤 H A at-mem run) .Ghost
@@ -133,7 +136,8 @@ module _ {M : Type 1} (𝓤 : URA M) (H : Heap 𝓤) (A : Atoms 𝓤) (W : Given
   abbrev μ-loop-0 : ℕ × ((List OpenStart) × Unit {0}) → ℕ
   μ-loop-0 y = n₀ - (y .0)
 
-  module _ (𝓣 : Tables 𝓤 H) where
+
+  module _ (𝓣 : Tables 𝓤 H)  where
     abbrev fm : FmC 𝓤 H (W .laws) (𝓣 .C)
     fm = fmOf 𝓤 H (W .laws) 𝓣
 
@@ -148,7 +152,7 @@ module _ {M : Type 1} (𝓤 : URA M) (H : Heap 𝓤) (A : Atoms 𝓤) (W : Given
         assigns ! (agg ! (and-then ! (lit ! tt) (and-then ! (lit ! tt) (no-more !)))) (from ! (stop !)) (init ! 4 refl (LL.lawful OpenStart-T.the-type OpenStart-L.the-laws 𝓤 H A W .typed made-1 _ made-1-is .0)) $
         assigns ! (of-opd ! (lit ! tt)) (from ! (stop !)) (init ! 5 refl (tt, record { fits = (lit< tt) })) $
         use0 W (raw (fact 𝓤 ((0 < 2 ^ 64) × ((length opens₀ ≡ length opens₀) × (((0 ≤ n₀) × (opens₀ ≡ cleared noStart 0 opens₀))))))) (factI 𝓤 ((0 < 2 ^ 64) × ((length opens₀ ≡ length opens₀) × (((0 ≤ n₀) × (opens₀ ≡ cleared noStart 0 opens₀))))) (emp 𝓤) ((lit< tt), (refl, (omega arith, cleared-none noStart opens₀)))) $
-        keep ! (0 ∷ 1 ∷ 2 ∷ 3 ∷ 4 ∷ 5 ∷ 6 ∷ 7 ∷ 8 ∷ 9 ∷ 10 ∷ []) $
+        keep ! (0 ∷ 1 ∷ 2 ∷ 3 ∷ 4 ∷ 5 ∷ 6 ∷ 7 ∷ 8 ∷ 9 ∷ 10 ∷ []) $ 
         loop-then ! 𝓣 (λ (a b : ℕ × ((List OpenStart) × Unit {0})). μ-loop-0 a < μ-loop-0 b) (InvImage·wf (μ-loop-0) (Nat·lt-wfRel .wf)) (λ (y100 : ℕ × ((List OpenStart) × Unit {0})). raw (fact 𝓤 (((y100 .0) < 2 ^ 64) × ((length (y100 .1 .0) ≡ length opens₀) × ((((y100 .0) ≤ n₀) × ((y100 .1 .0) ≡ cleared noStart (y100 .0) opens₀)))))) ∷ Dead l0 l1 l2 l3 l4 l5 l6 l7 ∷ ‵ (froom τ0 l0 0) ∷ ‵ (fat fullShare τ1 l1 0 (fatVal opens-at)) ∷ ‵ (fat fullShare τ2 l2 0 (vint w64 n₀)) ∷ ‵ (fat fullShare τ3 l3 0 (LL.val OpenStart-T.the-type OpenStart-L.the-laws made-1)) ∷ ‵ (fat fullShare τ4 l4 0 (vint w64 (y100 .0))) ∷ ‵ (froom τ5 l5 0) ∷ ‵ (froom τ6 l6 0) ∷ ‵ (froom τ7 l7 0) ∷ ‵ (HasMut OpenStart-T.the-row opens-at (y100 .1 .0)) ∷ []) (λ y100 leave-0. heard ! (((y100 .0) < 2 ^ 64) × ((length (y100 .1 .0) ≡ length opens₀) × ((((y100 .0) ≤ n₀) × ((y100 .1 .0) ≡ cleared noStart (y100 .0) opens₀))))) (λ j100.
         let is-i-100 : (y100 .0) < 2 ^ 64 = j100 .0 in
         let len-ys-100 : length (y100 .1 .0) ≡ length opens₀ = j100 .1 .0 in
@@ -172,13 +176,13 @@ module _ {M : Type 1} (𝓤 : URA M) (H : Heap 𝓤) (A : Atoms 𝓤) (W : Given
         (λ h0. let test-0 : n₀ ≤ (y100 .0) = nltb→le (y100 .0) n₀ h0 in
         exit-then ! $ leave-0 _ $
         assigns ! (of-opd ! (unit-lit !)) (from ! (stop !)) (init ! 1 refl (tt, tt)) $
-        returns-within ! Post refl (look ! 1 refl) $ frees-any ! (full _ ∷ full _ ∷ full _ ∷ full _ ∷ full _ ∷ full _ ∷ empty ∷ empty ∷ []) $ keep ! (0 ∷ []) $
+        returns-within ! Post refl (look ! 1 refl) $ frees-any ! (full _ ∷ full _ ∷ full _ ∷ full _ ∷ full _ ∷ full _ ∷ empty ∷ empty ∷ []) $ keep ! (0 ∷ []) $ 
         by ! (exits tt (y100 .1 .0) len-ys-100 (cleared-all noStart opens₀ _ _ _ (inv-100 .1) (inv-100 .0) test-0))))) (0, (opens₀, tt)))))))))))
 
 clear-opens-meets : {M : Type 1} (𝓤 : URA M) (H : Heap 𝓤) (A : Atoms 𝓤) (W : Given 𝓤 H A) (at-mem : Memory → SProp 𝓤) (run : Routine → Fun 𝓤) (𝓣 : Tables 𝓤 H) → Meets 𝓤 H A clear-opens-F.signature (WpFn 𝓤 H (𝓣 .C) (𝓣 .Λ) code.function) (clear-opens-F.spec 𝓤 H A at-mem run)
-clear-opens-meets 𝓤 H A W at-mem run 𝓣 y =
+clear-opens-meets 𝓤 H A W at-mem run 𝓣  y =
     walk-meets-at 𝓤 H A clear-opens-F.ended stayed W (goes-slice 𝓤 H A W 1 0 tt (plain (λ _. OpenStart-T.the-row)), (goes-none 𝓤 H A W 1 (λ _. usize) yes (λ κs x f. refl), tt)) (clear-opens-F.clauses 𝓤 H A at-mem run) (WpFn 𝓤 H (𝓣 .C) (𝓣 .Λ) code.function) (WpFn-mono 𝓤 H (W .laws) 𝓣 code.function) y
-    (walked-at 𝓤 H A clear-opens-F.ended stayed (clear-opens-F.clauses 𝓤 H A at-mem run) (WpFn 𝓤 H (𝓣 .C) (𝓣 .Λ) code.function) y (slice-vals, ((uint-vals w64), tt)) (mut-slice-tells (named 0) (y .0 .0 .0) OpenStart-T.the-row, ((uint-tells w64), tt)) (λ are. needs 𝓤 ((y .0 .3 .1 .0) ≤ length (y .0 .3 .0 .now)) _ (λ req. walk 𝓤 H A W at-mem run (record { κ = y .0 .0 .0; q = y .0 .1 .0; γ = y .0 .3 .0 .name; b = y .0 .3 .0 .ptr .0; o = y .0 .3 .0 .ptr .1; n = length (y .0 .3 .0 .now) }) (y .0 .3 .0 .now) (y .0 .3 .1 .0) (are .0 .0 .1) refl (are .1 .0 .1) req 𝓣)))
+    (walked-at 𝓤 H A clear-opens-F.ended stayed (clear-opens-F.clauses 𝓤 H A at-mem run) (WpFn 𝓤 H (𝓣 .C) (𝓣 .Λ) code.function) y (slice-vals, ((uint-vals w64), tt)) (mut-slice-tells (named 0) (y .0 .0 .0) OpenStart-T.the-row, ((uint-tells w64), tt)) (λ are. needs 𝓤 ((y .0 .3 .1 .0) ≤ length (y .0 .3 .0 .now)) _ (λ req. walk 𝓤 H A W at-mem run (record { κ = y .0 .0 .0; q = y .0 .1 .0; γ = y .0 .3 .0 .name; b = y .0 .3 .0 .ptr .0; o = y .0 .3 .0 .ptr .1; n = length (y .0 .3 .0 .now) }) (y .0 .3 .0 .now) (y .0 .3 .1 .0) (are .0 .0 .1) refl (are .1 .0 .1) req 𝓣 )))
 
 pub clear-opens-spec : {M : Type 1} → stated.statement M
 unfolding code.routine tablesOf

@@ -49,6 +49,7 @@ use denote.Triple.Walked.{says, needs, Stays, stay-none, stay-none-slice, stay-r
 use denote.Exit.{yes}
 use Rattle.references.proofs.Flow.{if-then, skip-then, exit-then, switch-then, assoc-then, loop-then, meets-at, frees-any}
 use Rattle.references.proofs.Hand.{At, lent as relent, ptrVal, fatVal, ref, HasRef, HasMut, HasShr, KeptRef, KeptMut, KeptShr, OpenRef, OpenAt, lend-ref, back-ref, lend-mut, back-mut, lend-shr, back-shr, open-ref, shut-ref, open-at, shut-at, back-at}
+use Rattle.references.proofs.Call.{calls-any, calls-any-last}
 use Rattle.findings.specs.declared.Counts.{Counts}
 use Rattle.findings.proofs.Counts as Counts-T
 use Rattle.findings.proofs.Counts.Laws as Counts-L
@@ -81,6 +82,7 @@ use Rattle.closing.specs.Ends.{Left, ofOpen, Tellable}
 use Rattle.references.proofs.Sizes.{scaled, less-fits, more-fits, nearer}
 use Rattle.closing.proofs.Starts.{Told, told-none, told-all, told-inside, tellable, told-more}
 use Rattle.closing.proofs.Zeroed.{cleared-none, cleared-more, cleared-all, here}
+
 use Rattle.closing.proofs.unclosed.Statement as stated
 use Rattle.closing.proofs.unclosed.Key.{name as #closing·unclosed}
 use base.Logic.{fst∗}
@@ -140,6 +142,7 @@ abbrev τ14 : Ty
 abbrev τ15 : Ty
 τ15 = sliceTy (tyRef erased mut (tyInt w64))
 
+
 module _ {M : Type 1} (𝓤 : URA M) (H : Heap 𝓤) (A : Atoms 𝓤) (W : Given 𝓤 H A) (at-mem : Memory → SProp 𝓤) (run : Routine → Fun 𝓤) (source-at : At) (source₀ : List ℕ) (tape-at : At) (tape₀ : List ℕ) (opens-at : At) (opens₀ : List OpenStart) (rec₀ : Record) (list-at : At) (list₀ : List ℕ)
     (source-room : SizeOf u8 (source-at .n)) (source-n : source-at .n ≡ length source₀) (tape-room : SizeOf u8 (tape-at .n)) (tape-n : tape-at .n ≡ length tape₀) (opens-room : SizeOf OpenStart-T.the-row (opens-at .n)) (opens-n : opens-at .n ≡ length opens₀) (rec₀-is : Is Record-T.the-row rec₀ (LL.val Record-T.the-type Record-L.the-laws rec₀ ∷ [])) (list-room : SizeOf u64 (list-at .n)) (list-n : list-at .n ≡ length list₀) (req : Left source₀ tape₀ opens₀ rec₀) where
   abbrev Y : walkOf 𝓤 H A unclosed-F.ended stayed (unclosed-F.clauses 𝓤 H A at-mem run) .Ghost
@@ -165,6 +168,7 @@ module _ {M : Type 1} (𝓤 : URA M) (H : Heap 𝓤) (A : Atoms 𝓤) (W : Given
   abbrev μ-loop-0 : Counts × (ℕ × ((List ℕ) × Unit {0})) → ℕ
   μ-loop-0 y = rec₀ .«open» - (y .1 .0)
 
+
   module _ (𝓣 : Tables 𝓤 H) (known-counts : Triple 𝓤 (𝓣 .C #running·counts) (counts-C.Con 𝓤 H A at-mem run)) (known-tell-open : Triple 𝓤 (𝓣 .C #closing·tell-open) (tell-open-C.Con 𝓤 H A at-mem run)) where
     abbrev fm : FmC 𝓤 H (W .laws) (𝓣 .C)
     fm = fmOf 𝓤 H (W .laws) 𝓣
@@ -176,13 +180,13 @@ module _ {M : Type 1} (𝓤 : URA M) (H : Heap 𝓤) (A : Atoms 𝓤) (W : Given
         alloc1 ! (λ l0. alloc1 ! (λ l1. alloc1 ! (λ l2. alloc1 ! (λ l3. alloc1 ! (λ l4. alloc1 ! (λ l5. alloc1 ! (λ l6. alloc1 ! (λ l7. alloc1 ! (λ l8. alloc1 ! (λ l9. alloc1 ! (λ l10. alloc1 ! (λ l11. alloc1 ! (λ l12. alloc1 ! (λ l13. alloc1 ! (λ l14. alloc1 ! (λ l15. alloc0 ! $ params1 ! $ pass1 ! (init ! 28 refl (tt, (tt, (record { fits = (source-room .0) }, tt)))) $ pass1 ! (init ! 26 refl (tt, (tt, (record { fits = (tape-room .0) }, tt)))) $ pass1 ! (init ! 24 refl (tt, (tt, (record { fits = (opens-room .0) }, tt)))) $ pass1 ! (init ! 22 refl (LL.lawful Record-T.the-type Record-L.the-laws 𝓤 H A W .typed rec₀ _ rec₀-is .0)) $ pass1 ! (init ! 20 refl (tt, (tt, (record { fits = (list-room .0) }, tt)))) $ pass0 ! $
         move ! (31 ∷ 29 ∷ 27 ∷ 25 ∷ 23 ∷ 21 ∷ 19 ∷ 17 ∷ 15 ∷ 13 ∷ 11 ∷ 9 ∷ 7 ∷ 5 ∷ 3 ∷ 1 ∷ 30 ∷ 28 ∷ 26 ∷ 24 ∷ 22 ∷ 20 ∷ 18 ∷ 16 ∷ 14 ∷ 12 ∷ 10 ∷ 8 ∷ 6 ∷ 4 ∷ 2 ∷ 0 ∷ []) $ group ! 16 $
         assigns ! (of-opd ! (load ! (from ! (fld ! refl (stop !))) (look-in ! 5 (sub ! 8 refl (whole !))))) (from ! (stop !)) (init ! 7 refl (tt, record { fits = (LL.lawful Record-T.the-type Record-L.the-laws 𝓤 H A W .typed rec₀ _ rec₀-is .0) .1 .1 .1 .1 .1 .1 .1 .1 .1 .0 .fits })) $
-        counts-C.calls-counts ! at-mem run fm rec₀ rec₀-is (known-counts (counts-C.to 𝓤 H A at-mem run rec₀))
-        (and-then ! (load ! (from ! (stop !)) (look ! 6 refl)) (no-more !)) (λ z-counts s-counts.
+        calls-any W fm (counts-C.rule rec₀) ! (rec₀-is, tt) tt (λ cs. known-counts (counts-C.to rec₀ 𝓤 H A at-mem run cs))
+          (and-then ! (load ! (from ! (stop !)) (look ! 6 refl)) (no-more !)) (λ z-counts s-counts.
         let says-counts : (z-counts .0) ≡ countsOf rec₀ = s-counts .1 in
         land ! (from ! (stop !)) (init ! 8 refl (LL.lawful Counts-T.the-type Counts-L.the-laws 𝓤 H A W .typed (z-counts .0) _ (s-counts .0) .0)) $
         assigns ! (of-opd ! (lit ! tt)) (from ! (stop !)) (init ! 9 refl (tt, record { fits = (lit< tt) })) $
         use0 W (raw (fact 𝓤 ((Is Counts-T.the-row (z-counts .0) (LL.val Counts-T.the-type Counts-L.the-laws (z-counts .0) ∷ [])) × ((0 < 2 ^ 64) × ((length list₀ ≡ length list₀) × ((Told source₀ tape₀ opens₀ (rec₀ .«open») list₀ (countsOf rec₀) list₀ (z-counts .0) 0))))))) (factI 𝓤 ((Is Counts-T.the-row (z-counts .0) (LL.val Counts-T.the-type Counts-L.the-laws (z-counts .0) ∷ [])) × ((0 < 2 ^ 64) × ((length list₀ ≡ length list₀) × ((Told source₀ tape₀ opens₀ (rec₀ .«open») list₀ (countsOf rec₀) list₀ (z-counts .0) 0))))) (emp 𝓤) ((s-counts .0), ((lit< tt), (refl, (told-none source₀ tape₀ opens₀ (rec₀ .«open») list₀ (countsOf rec₀) (z-counts .0) says-counts (req .known) (req .room)))))) $
-        keep ! (0 ∷ 1 ∷ 2 ∷ 3 ∷ 4 ∷ 5 ∷ 6 ∷ 7 ∷ 8 ∷ 9 ∷ 10 ∷ 11 ∷ 12 ∷ 13 ∷ 14 ∷ 15 ∷ 16 ∷ 17 ∷ 18 ∷ 19 ∷ 20 ∷ 21 ∷ []) $
+        keep ! (0 ∷ 1 ∷ 2 ∷ 3 ∷ 4 ∷ 5 ∷ 6 ∷ 7 ∷ 8 ∷ 9 ∷ 10 ∷ 11 ∷ 12 ∷ 13 ∷ 14 ∷ 15 ∷ 16 ∷ 17 ∷ 18 ∷ 19 ∷ 20 ∷ 21 ∷ []) $ 
         loop-then ! 𝓣 (λ (a b : Counts × (ℕ × ((List ℕ) × Unit {0}))). μ-loop-0 a < μ-loop-0 b) (InvImage·wf (μ-loop-0) (Nat·lt-wfRel .wf)) (λ (y100 : Counts × (ℕ × ((List ℕ) × Unit {0}))). raw (fact 𝓤 ((Is Counts-T.the-row (y100 .0) (LL.val Counts-T.the-type Counts-L.the-laws (y100 .0) ∷ [])) × (((y100 .1 .0) < 2 ^ 64) × ((length (y100 .1 .1 .0) ≡ length list₀) × ((Told source₀ tape₀ opens₀ (rec₀ .«open») list₀ (countsOf rec₀) (y100 .1 .1 .0) (y100 .0) (y100 .1 .0))))))) ∷ Dead l0 l1 l2 l3 l4 l5 l6 l7 l8 l9 l10 l11 l12 l13 l14 l15 ∷ ‵ (froom τ0 l0 0) ∷ ‵ (fat fullShare τ1 l1 0 (fatVal source-at)) ∷ ‵ (fat fullShare τ2 l2 0 (fatVal tape-at)) ∷ ‵ (fat fullShare τ3 l3 0 (fatVal opens-at)) ∷ ‵ (fat fullShare τ4 l4 0 (LL.val Record-T.the-type Record-L.the-laws rec₀)) ∷ ‵ (fat fullShare τ5 l5 0 (fatVal list-at)) ∷ ‵ (fat fullShare τ6 l6 0 (vint w64 (rec₀ .«open»))) ∷ ‵ (fat fullShare τ7 l7 0 (LL.val Counts-T.the-type Counts-L.the-laws (y100 .0))) ∷ ‵ (fat fullShare τ8 l8 0 (vint w64 (y100 .1 .0))) ∷ ‵ (froom τ9 l9 0) ∷ ‵ (froom τ10 l10 0) ∷ ‵ (froom τ11 l11 0) ∷ ‵ (froom τ12 l12 0) ∷ ‵ (froom τ13 l13 0) ∷ ‵ (froom τ14 l14 0) ∷ ‵ (froom τ15 l15 0) ∷ ‵ (HasShr u8 source-at source₀) ∷ ‵ (HasShr u8 tape-at tape₀) ∷ ‵ (HasMut OpenStart-T.the-row opens-at opens₀) ∷ ‵ (HasMut u64 list-at (y100 .1 .1 .0)) ∷ []) (λ y100 leave-0. heard ! ((Is Counts-T.the-row (y100 .0) (LL.val Counts-T.the-type Counts-L.the-laws (y100 .0) ∷ [])) × (((y100 .1 .0) < 2 ^ 64) × ((length (y100 .1 .1 .0) ≡ length list₀) × ((Told source₀ tape₀ opens₀ (rec₀ .«open») list₀ (countsOf rec₀) (y100 .1 .1 .0) (y100 .0) (y100 .1 .0)))))) (λ j100.
         let is-c-100 : Is Counts-T.the-row (y100 .0) (LL.val Counts-T.the-type Counts-L.the-laws (y100 .0) ∷ []) = j100 .0 in
         let is-k-100 : (y100 .1 .0) < 2 ^ 64 = j100 .1 .0 in
@@ -204,8 +208,8 @@ module _ {M : Type 1} (𝓤 : URA M) (H : Heap 𝓤) (A : Atoms 𝓤) (W : Given
         assigns ! (addr ! (from ! (fld ! refl (hop ! (look-in ! 7 (sub ! 0 refl (whole !))) (stop !))))) (from ! (stop !)) (init ! 16 refl (tt, tt)) $
         assigns ! (agg ! (and-then ! (load ! (from ! (stop !)) (look ! 16 refl)) (and-then ! (load ! (from ! (fld ! refl (stop !))) (look-in ! 7 (sub ! 1 refl (whole !)))) (no-more !)))) (from ! (stop !)) (init ! 17 refl (tt, (tt, (record { fits = (list-room .0) }, tt)))) $
         move ! (19 ∷ 20 ∷ []) $ let req-tell-open : Tellable tape₀ (getD opens₀ (y100 .1 .0) (noStart)) (y100 .0) = tellable inv-100 test-0 in
-        tell-open-C.calls-tell-open ! at-mem run fm tape-at tape₀ (getD opens₀ (y100 .1 .0) (noStart)) list-at (y100 .1 .1 .0) (y100 .0) open-1 is-c-100 req-tell-open (λ ν-list δ-list. known-tell-open (tell-open-C.to 𝓤 H A at-mem run tape-at tape₀ (getD opens₀ (y100 .1 .0) (noStart)) list-at (y100 .1 .1 .0) (y100 .0) tape-at (relent list-at ν-list δ-list)))
-        (and-then ! (load ! (from ! (stop !)) (look ! 5 refl)) (and-then ! (load ! (from ! (stop !)) (look ! 12 refl)) (and-then ! (load ! (from ! (stop !)) (look ! 18 refl)) (and-then ! (load ! (from ! (stop !)) (look ! 10 refl)) (no-more !))))) (λ z-tell-open s-tell-open.
+        calls-any W fm (tell-open-C.rule tape-at tape₀ (getD opens₀ (y100 .1 .0) (noStart)) list-at (y100 .1 .1 .0) (y100 .0)) ! (open-1, (is-c-100, tt)) req-tell-open (λ cs. known-tell-open (tell-open-C.to tape-at tape₀ (getD opens₀ (y100 .1 .0) (noStart)) list-at (y100 .1 .1 .0) (y100 .0) 𝓤 H A at-mem run cs))
+          (and-then ! (load ! (from ! (stop !)) (look ! 5 refl)) (and-then ! (load ! (from ! (stop !)) (look ! 12 refl)) (and-then ! (load ! (from ! (stop !)) (look ! 18 refl)) (and-then ! (load ! (from ! (stop !)) (look ! 10 refl)) (no-more !))))) (λ z-tell-open s-tell-open.
         let len-tell-open-list : length (z-tell-open .1 .0) ≡ length (y100 .1 .1 .0) = s-tell-open .1 .0 in
         let says-tell-open : Wrote (ofOpen tape₀ (getD opens₀ (y100 .1 .0) (noStart))) (y100 .1 .1 .0) (y100 .0) (z-tell-open .1 .0) (z-tell-open .0) = s-tell-open .1 .1 in
         land ! (from ! (stop !)) (store ! 11 refl (LL.lawful Counts-T.the-type Counts-L.the-laws 𝓤 H A W .typed (z-tell-open .0) _ (s-tell-open .0) .0)) $
@@ -216,7 +220,7 @@ module _ {M : Type 1} (𝓤 : URA M) (H : Heap 𝓤) (A : Atoms 𝓤) (W : Given
         (λ h0. let test-0 : (rec₀ .«open») ≤ (y100 .1 .0) = nltb→le (y100 .1 .0) (rec₀ .«open») h0 in
         exit-then ! $ leave-0 _ $
         assigns ! (of-opd ! (load ! (from ! (stop !)) (look ! 8 refl))) (from ! (stop !)) (init ! 1 refl (LL.lawful Counts-T.the-type Counts-L.the-laws 𝓤 H A W .typed (y100 .0) _ is-c-100 .0)) $
-        returns-within ! Post refl (look ! 1 refl) $ frees-any ! (full _ ∷ full _ ∷ full _ ∷ full _ ∷ full _ ∷ full _ ∷ full _ ∷ full _ ∷ full _ ∷ empty ∷ full _ ∷ empty ∷ empty ∷ empty ∷ empty ∷ empty ∷ []) $ keep ! (0 ∷ 1 ∷ 2 ∷ 3 ∷ []) $
+        returns-within ! Post refl (look ! 1 refl) $ frees-any ! (full _ ∷ full _ ∷ full _ ∷ full _ ∷ full _ ∷ full _ ∷ full _ ∷ full _ ∷ full _ ∷ empty ∷ full _ ∷ empty ∷ empty ∷ empty ∷ empty ∷ empty ∷ []) $ keep ! (0 ∷ 1 ∷ 2 ∷ 3 ∷ []) $ 
         by ! (exits (y100 .0) opens₀ (y100 .1 .1 .0) is-c-100 refl len-l-100 (refl, told-all inv-100 test-0))))) (z-counts .0, (0, (list₀, tt)))))))))))))))))))))
 
 unclosed-meets : {M : Type 1} (𝓤 : URA M) (H : Heap 𝓤) (A : Atoms 𝓤) (W : Given 𝓤 H A) (at-mem : Memory → SProp 𝓤) (run : Routine → Fun 𝓤) (𝓣 : Tables 𝓤 H) → Triple 𝓤 (𝓣 .C #running·counts) (counts-C.Con 𝓤 H A at-mem run) → Triple 𝓤 (𝓣 .C #closing·tell-open) (tell-open-C.Con 𝓤 H A at-mem run) → Meets 𝓤 H A unclosed-F.signature (WpFn 𝓤 H (𝓣 .C) (𝓣 .Λ) code.function) (unclosed-F.spec 𝓤 H A at-mem run)

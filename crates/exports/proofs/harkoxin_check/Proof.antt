@@ -49,6 +49,7 @@ use denote.Triple.Walked.{says, needs, Stays, stay-none, stay-none-slice, stay-r
 use denote.Exit.{yes}
 use Rattle.references.proofs.Flow.{if-then, skip-then, exit-then, switch-then, assoc-then, loop-then, meets-at, frees-any}
 use Rattle.references.proofs.Hand.{At, lent as relent, ptrVal, fatVal, ref, HasRef, HasMut, HasShr, KeptRef, KeptMut, KeptShr, OpenRef, OpenAt, lend-ref, back-ref, lend-mut, back-mut, lend-shr, back-shr, open-ref, shut-ref, open-at, shut-at, back-at}
+use Rattle.references.proofs.Call.{calls-any, calls-any-last}
 use Rattle.marking.specs.declared.Report.{Report}
 use Rattle.marking.proofs.Report as Report-T
 use Rattle.marking.proofs.Report.Laws as Report-L
@@ -89,6 +90,7 @@ use Rattle.laying.specs.Over.{over}
 use Rattle.telling.specs.Telling.{textsOf, joined, endsFrom}
 use Rattle.exports.specs.Words.{answerWords, textsWords}
 use Rattle.exports.specs.Report.{heldOf, heldIn, toldHeld, turnedWords, reportTold, reportText, reportEnds}
+
 use Rattle.exports.proofs.harkoxin_check.Statement as stated
 use Rattle.exports.proofs.harkoxin_check.Key.{name as #exports·harkoxin-check}
 use base.Logic.{fst∗}
@@ -154,6 +156,7 @@ abbrev τ16 : Ty
 abbrev τ17 : Ty
 τ17 = sliceTy (tyRef erased mut (tyInt w64))
 
+
 module _ {M : Type 1} (𝓤 : URA M) (H : Heap 𝓤) (A : Atoms 𝓤) (W : Given 𝓤 H A) (at-mem : Memory → SProp 𝓤) (run : Routine → Fun 𝓤) (table-at : At) (table₀ : List ℕ) (source-at : At) (source₀ : List ℕ) (tape-at : At) (tape₀ : List ℕ) (seen-at : At) (seen₀ : List ℕ) (opens-at : At) (opens₀ : List OpenStart) (list-at : At) (list₀ : List ℕ) (out-at : At) (out₀ : List ℕ)
     (table-room : SizeOf u8 (table-at .n)) (table-n : table-at .n ≡ length table₀) (source-room : SizeOf u8 (source-at .n)) (source-n : source-at .n ≡ length source₀) (tape-room : SizeOf u8 (tape-at .n)) (tape-n : tape-at .n ≡ length tape₀) (seen-room : SizeOf u32 (seen-at .n)) (seen-n : seen-at .n ≡ length seen₀) (opens-room : SizeOf OpenStart-T.the-row (opens-at .n)) (opens-n : opens-at .n ≡ length opens₀) (list-room : SizeOf u64 (list-at .n)) (list-n : list-at .n ≡ length list₀) (out-room : SizeOf u64 (out-at .n)) (out-n : out-at .n ≡ length out₀) where
   abbrev Y : walkOf 𝓤 H A harkoxin-check-F.ended stayed (harkoxin-check-F.clauses 𝓤 H A at-mem run) .Ghost
@@ -164,7 +167,7 @@ module _ {M : Type 1} (𝓤 : URA M) (H : Heap 𝓤) (A : Atoms 𝓤) (W : Given
 
   exits : (r : Unit {0}) (seen₁ : List ℕ) (opens₁ : List OpenStart) (list₁ : List ℕ) (out₁ : List ℕ) (len-seen : length seen₁ ≡ length seen₀) (len-opens : length opens₁ ≡ length opens₀) (len-list : length list₁ ≡ length list₀) (len-out : length out₁ ≡ length out₀) (e : (out₁ ≡ over out₀ 0 (answerWords (answer (lent table₀ source₀ tape₀ seen₀ opens₀ list₀)))) × (list₁ ≡ listAfter (lent table₀ source₀ tape₀ seen₀ opens₀ list₀)) × (seen₁ ≡ seenAfter (lent table₀ source₀ tape₀ seen₀ opens₀ list₀)) × (opens₁ ≡ openAfter (lent table₀ source₀ tape₀ seen₀ opens₀ list₀))) → ent 𝓤 (⋆ 𝓤 H A (‵ (HasShr u8 table-at table₀) ∷ ‵ (HasShr u8 source-at source₀) ∷ ‵ (HasShr u8 tape-at tape₀) ∷ ‵ (HasMut u32 seen-at seen₁) ∷ ‵ (HasMut OpenStart-T.the-row opens-at opens₁) ∷ ‵ (HasMut u64 list-at list₁) ∷ ‵ (HasMut u64 out-at out₁) ∷ [])) (Post (vunit))
   exits r seen₁ opens₁ list₁ out₁ len-seen len-opens len-list len-out e =
-      qed W (‵ (HasShr u8 table-at table₀) ∷ ‵ (HasShr u8 source-at source₀) ∷ ‵ (HasShr u8 tape-at tape₀) ∷ ‵ (HasMut u32 seen-at seen₁) ∷ ‵ (HasMut OpenStart-T.the-row opens-at opens₁) ∷ ‵ (HasMut u64 list-at list₁) ∷ ‵ (HasMut u64 out-at out₁) ∷ []) ∵ suffices ! _ (exit-at 𝓤 H A harkoxin-check-F.ended stayed (harkoxin-check-F.clauses 𝓤 H A at-mem run) W Y (vunit) r (tt, (tt, (tt, (seen₁, (opens₁, (list₁, (out₁, tt))))))) (tt, (tt, (tt, (len-seen, (len-opens, (len-list, (len-out, tt)))))))) $ fsplit ! $ move ! (2 ∷ []) $ fsplit ! $ move ! (4 ∷ []) $ fsplit ! $ move ! (6 ∷ []) $ fsplit ! $ move ! (8 ∷ []) $ fsplit ! $ move ! (10 ∷ []) $ fsplit ! $ move ! (12 ∷ []) $ fsplit ! $ nothing ! $ move ! (2 ∷ 0 ∷ []) $ join ! $ move ! (3 ∷ 0 ∷ []) $ join ! $ move ! (4 ∷ 0 ∷ []) $ join ! $ move ! (5 ∷ 0 ∷ []) $ join ! $ move ! (6 ∷ 0 ∷ []) $ join ! $ move ! (7 ∷ 0 ∷ []) $ join ! $ move ! (8 ∷ 0 ∷ []) $ join ! $ nothing ! $ move ! (2 ∷ 0 ∷ []) $ fjoin ! $ move ! (2 ∷ 0 ∷ []) $ fjoin ! $ move ! (2 ∷ 0 ∷ []) $ fjoin ! $ move ! (2 ∷ 0 ∷ []) $ fjoin ! $ move ! (2 ∷ 0 ∷ []) $ fjoin ! $ move ! (2 ∷ 0 ∷ []) $ fjoin ! $ move ! (2 ∷ 0 ∷ []) $ fjoin ! $ owned ! unit (Is unit) (nothing-makes 𝓤 H A W) r _ refl $ move ! (1 ∷ 0 ∷ []) $ join ! $ move ! (1 ∷ 0 ∷ []) $ join ! $ use0 W (raw (fact 𝓤 (opens₁ ≡ openAfter (lent table₀ source₀ tape₀ seen₀ opens₀ list₀)))) (factI 𝓤 (opens₁ ≡ openAfter (lent table₀ source₀ tape₀ seen₀ opens₀ list₀)) (emp 𝓤) (e .3)) $ use0 W (raw (fact 𝓤 (seen₁ ≡ seenAfter (lent table₀ source₀ tape₀ seen₀ opens₀ list₀)))) (factI 𝓤 (seen₁ ≡ seenAfter (lent table₀ source₀ tape₀ seen₀ opens₀ list₀)) (emp 𝓤) (e .2)) $ join ! $ use0 W (raw (fact 𝓤 (list₁ ≡ listAfter (lent table₀ source₀ tape₀ seen₀ opens₀ list₀)))) (factI 𝓤 (list₁ ≡ listAfter (lent table₀ source₀ tape₀ seen₀ opens₀ list₀)) (emp 𝓤) (e .1)) $ join ! $ use0 W (raw (fact 𝓤 (out₁ ≡ over out₀ 0 (answerWords (answer (lent table₀ source₀ tape₀ seen₀ opens₀ list₀)))))) (factI 𝓤 (out₁ ≡ over out₀ 0 (answerWords (answer (lent table₀ source₀ tape₀ seen₀ opens₀ list₀)))) (emp 𝓤) (e .0)) $ join ! $ move ! (1 ∷ 0 ∷ []) $ done !
+      qed W (‵ (HasShr u8 table-at table₀) ∷ ‵ (HasShr u8 source-at source₀) ∷ ‵ (HasShr u8 tape-at tape₀) ∷ ‵ (HasMut u32 seen-at seen₁) ∷ ‵ (HasMut OpenStart-T.the-row opens-at opens₁) ∷ ‵ (HasMut u64 list-at list₁) ∷ ‵ (HasMut u64 out-at out₁) ∷ []) ∵ suffices ! _ (exit-at 𝓤 H A harkoxin-check-F.ended stayed (harkoxin-check-F.clauses 𝓤 H A at-mem run) W Y (vunit) r (tt, (tt, (tt, (seen₁, (opens₁, (list₁, (out₁, tt))))))) (tt, (tt, (tt, (len-seen, (len-opens, (len-list, (len-out, tt)))))))) $  fsplit ! $ move ! (2 ∷ []) $ fsplit ! $ move ! (4 ∷ []) $ fsplit ! $ move ! (6 ∷ []) $ fsplit ! $ move ! (8 ∷ []) $ fsplit ! $ move ! (10 ∷ []) $ fsplit ! $ move ! (12 ∷ []) $ fsplit ! $ nothing ! $ move ! (2 ∷ 0 ∷ []) $ join ! $ move ! (3 ∷ 0 ∷ []) $ join ! $ move ! (4 ∷ 0 ∷ []) $ join ! $ move ! (5 ∷ 0 ∷ []) $ join ! $ move ! (6 ∷ 0 ∷ []) $ join ! $ move ! (7 ∷ 0 ∷ []) $ join ! $ move ! (8 ∷ 0 ∷ []) $ join ! $ nothing ! $ move ! (2 ∷ 0 ∷ []) $ fjoin ! $ move ! (2 ∷ 0 ∷ []) $ fjoin ! $ move ! (2 ∷ 0 ∷ []) $ fjoin ! $ move ! (2 ∷ 0 ∷ []) $ fjoin ! $ move ! (2 ∷ 0 ∷ []) $ fjoin ! $ move ! (2 ∷ 0 ∷ []) $ fjoin ! $ move ! (2 ∷ 0 ∷ []) $ fjoin ! $ owned ! unit (Is unit) (nothing-makes 𝓤 H A W) r _ refl $ move ! (1 ∷ 0 ∷ []) $ join ! $ move ! (1 ∷ 0 ∷ []) $ join ! $ use0 W (raw (fact 𝓤 (opens₁ ≡ openAfter (lent table₀ source₀ tape₀ seen₀ opens₀ list₀)))) (factI 𝓤 (opens₁ ≡ openAfter (lent table₀ source₀ tape₀ seen₀ opens₀ list₀)) (emp 𝓤) (e .3)) $ use0 W (raw (fact 𝓤 (seen₁ ≡ seenAfter (lent table₀ source₀ tape₀ seen₀ opens₀ list₀)))) (factI 𝓤 (seen₁ ≡ seenAfter (lent table₀ source₀ tape₀ seen₀ opens₀ list₀)) (emp 𝓤) (e .2)) $ join ! $ use0 W (raw (fact 𝓤 (list₁ ≡ listAfter (lent table₀ source₀ tape₀ seen₀ opens₀ list₀)))) (factI 𝓤 (list₁ ≡ listAfter (lent table₀ source₀ tape₀ seen₀ opens₀ list₀)) (emp 𝓤) (e .1)) $ join ! $ use0 W (raw (fact 𝓤 (out₁ ≡ over out₀ 0 (answerWords (answer (lent table₀ source₀ tape₀ seen₀ opens₀ list₀)))))) (factI 𝓤 (out₁ ≡ over out₀ 0 (answerWords (answer (lent table₀ source₀ tape₀ seen₀ opens₀ list₀)))) (emp 𝓤) (e .0)) $ join ! $ move ! (1 ∷ 0 ∷ []) $ done !
 
   entry : ent 𝓤 (onEntry 𝓤 H A harkoxin-check-F.signature (table-at .κ, (source-at .κ, (tape-at .κ, (seen-at .κ, (opens-at .κ, (list-at .κ, (out-at .κ, tt))))))) (table-at .q, (source-at .q, (tape-at .q, (seen-at .q, (opens-at .q, (list-at .q, (out-at .q, tt))))))) (ref table-at table₀, (ref source-at source₀, (ref tape-at tape₀, (ref seen-at seen₀, (ref opens-at opens₀, (ref list-at list₀, (ref out-at out₀, tt))))))) (fatVal table-at ∷ [], (fatVal source-at ∷ [], (fatVal tape-at ∷ [], (fatVal seen-at ∷ [], (fatVal opens-at ∷ [], (fatVal list-at ∷ [], (fatVal out-at ∷ [], tt)))))))) (⋆ 𝓤 H A (‵ (HasShr u8 table-at table₀) ∷ ‵ (HasShr u8 source-at source₀) ∷ ‵ (HasShr u8 tape-at tape₀) ∷ ‵ (HasMut u32 seen-at seen₀) ∷ ‵ (HasMut OpenStart-T.the-row opens-at opens₀) ∷ ‵ (HasMut u64 list-at list₀) ∷ ‵ (HasMut u64 out-at out₀) ∷ []))
   entry =
@@ -175,6 +178,7 @@ module _ {M : Type 1} (𝓤 : URA M) (H : Heap 𝓤) (A : Atoms 𝓤) (W : Given
 
   abbrev Dead : ℕ → ℕ → ℕ → ℕ → ℕ → ℕ → ℕ → ℕ → ℕ → ℕ → ℕ → ℕ → ℕ → ℕ → ℕ → ℕ → ℕ → ℕ → Item 𝓤
   Dead l0 l1 l2 l3 l4 l5 l6 l7 l8 l9 l10 l11 l12 l13 l14 l15 l16 l17 = Dies 𝓤 H (τ0, l0) ((τ1, l1) ∷ (τ2, l2) ∷ (τ3, l3) ∷ (τ4, l4) ∷ (τ5, l5) ∷ (τ6, l6) ∷ (τ7, l7) ∷ (τ8, l8) ∷ (τ9, l9) ∷ (τ10, l10) ∷ (τ11, l11) ∷ (τ12, l12) ∷ (τ13, l13) ∷ (τ14, l14) ∷ (τ15, l15) ∷ (τ16, l16) ∷ (τ17, l17) ∷ [])
+
 
   module _ (𝓣 : Tables 𝓤 H) (known-check : Triple 𝓤 (𝓣 .C #marking·check) (check-C.Con 𝓤 H A at-mem run)) (known-lay-answer : Triple 𝓤 (𝓣 .C #exports·lay-answer) (lay-answer-C.Con 𝓤 H A at-mem run)) where
     abbrev fm : FmC 𝓤 H (W .laws) (𝓣 .C)
@@ -192,12 +196,12 @@ module _ {M : Type 1} (𝓤 : URA M) (H : Heap 𝓤) (A : Atoms 𝓤) (W : Given
         assigns ! (agg ! (and-then ! (load ! (from ! (stop !)) (look ! 13 refl)) (and-then ! (load ! (from ! (fld ! refl (stop !))) (look-in ! 6 (sub ! 1 refl (whole !)))) (no-more !)))) (from ! (stop !)) (init ! 14 refl (tt, (tt, (record { fits = (opens-room .0) }, tt)))) $
         assigns ! (addr ! (from ! (fld ! refl (hop ! (look-in ! 7 (sub ! 0 refl (whole !))) (stop !))))) (from ! (stop !)) (init ! 15 refl (tt, tt)) $
         assigns ! (agg ! (and-then ! (load ! (from ! (stop !)) (look ! 15 refl)) (and-then ! (load ! (from ! (fld ! refl (stop !))) (look-in ! 7 (sub ! 1 refl (whole !)))) (no-more !)))) (from ! (stop !)) (init ! 16 refl (tt, (tt, (record { fits = (list-room .0) }, tt)))) $
-        move ! (19 ∷ 20 ∷ 21 ∷ 22 ∷ 23 ∷ 24 ∷ []) $ check-C.calls-check ! at-mem run fm table-at table₀ source-at source₀ tape-at tape₀ seen-at seen₀ opens-at opens₀ list-at list₀ (λ ν-seen δ-seen ν-opens δ-opens ν-list δ-list. known-check (check-C.to 𝓤 H A at-mem run table-at table₀ source-at source₀ tape-at tape₀ seen-at seen₀ opens-at opens₀ list-at list₀ table-at source-at tape-at (relent seen-at ν-seen δ-seen) (relent opens-at ν-opens δ-opens) (relent list-at ν-list δ-list)))
-        (and-then ! (load ! (from ! (stop !)) (look ! 3 refl)) (and-then ! (load ! (from ! (stop !)) (look ! 4 refl)) (and-then ! (load ! (from ! (stop !)) (look ! 5 refl)) (and-then ! (load ! (from ! (stop !)) (look ! 13 refl)) (and-then ! (load ! (from ! (stop !)) (look ! 15 refl)) (and-then ! (load ! (from ! (stop !)) (look ! 17 refl)) (no-more !))))))) (λ z-check s-check.
+        move ! (19 ∷ 20 ∷ 21 ∷ 22 ∷ 23 ∷ 24 ∷ []) $ calls-any W fm (check-C.rule table-at table₀ source-at source₀ tape-at tape₀ seen-at seen₀ opens-at opens₀ list-at list₀) ! tt tt (λ cs. known-check (check-C.to table-at table₀ source-at source₀ tape-at tape₀ seen-at seen₀ opens-at opens₀ list-at list₀ 𝓤 H A at-mem run cs))
+          (and-then ! (load ! (from ! (stop !)) (look ! 3 refl)) (and-then ! (load ! (from ! (stop !)) (look ! 4 refl)) (and-then ! (load ! (from ! (stop !)) (look ! 5 refl)) (and-then ! (load ! (from ! (stop !)) (look ! 13 refl)) (and-then ! (load ! (from ! (stop !)) (look ! 15 refl)) (and-then ! (load ! (from ! (stop !)) (look ! 17 refl)) (no-more !))))))) (λ z-check s-check.
         let len-check-seen : length (z-check .1 .0) ≡ length seen₀ = s-check .1 .0 in
         let len-check-opens : length (z-check .1 .1 .0) ≡ length opens₀ = s-check .1 .1 .0 in
         let len-check-list : length (z-check .1 .1 .1 .0) ≡ length list₀ = s-check .1 .1 .1 .0 in
-        let says-check : (answerOf (z-check .0) ≡ answer (lent table₀ source₀ tape₀ seen₀ opens₀ list₀)) × ((z-check .1 .1 .1 .0) ≡ listAfter (lent table₀ source₀ tape₀ seen₀ opens₀ list₀)) × ((z-check .1 .0) ≡ seenAfter (lent table₀ source₀ tape₀ seen₀ opens₀ list₀)) × ((z-check .1 .1 .0) ≡ openAfter (lent table₀ source₀ tape₀ seen₀ opens₀ list₀)) = s-check .1 .1 .1 .1 in
+        let says-check : (answerOf (z-check .0) ≡ answer (lent table₀ source₀ tape₀ seen₀ opens₀ list₀)) × ((z-check .1 .1 .1 .0) ≡ listAfter (lent table₀ source₀ tape₀ seen₀ opens₀ list₀)) × ((z-check .1 .0) ≡ seenAfter (lent table₀ source₀ tape₀ seen₀ opens₀ list₀)) × ((z-check .1 .1 .0) ≡ openAfter (lent table₀ source₀ tape₀ seen₀ opens₀ list₀)) = (s-check .1 .1 .1 .1 .0, s-check .1 .1 .1 .1 .1 .0, s-check .1 .1 .1 .1 .1 .1 .0, s-check .1 .1 .1 .1 .1 .1 .1) in
         let says-check-answer : answerOf (z-check .0) ≡ answer (lent table₀ source₀ tape₀ seen₀ opens₀ list₀) = says-check .0 in
         let says-check-list : (z-check .1 .1 .1 .0) ≡ listAfter (lent table₀ source₀ tape₀ seen₀ opens₀ list₀) = says-check .1 in
         let says-check-seen : (z-check .1 .0) ≡ seenAfter (lent table₀ source₀ tape₀ seen₀ opens₀ list₀) = says-check .2 in
@@ -205,13 +209,13 @@ module _ {M : Type 1} (𝓤 : URA M) (H : Heap 𝓤) (A : Atoms 𝓤) (W : Given
         land ! (from ! (stop !)) (init ! 16 refl (EL.lawful Answer-T.the-type Answer-L.the-laws 𝓤 H A W tt .typed (z-check .0) _ (s-check .0) .0)) $
         assigns ! (addr ! (from ! (fld ! refl (hop ! (look-in ! 14 (sub ! 0 refl (whole !))) (stop !))))) (from ! (stop !)) (init ! 23 refl (tt, tt)) $
         assigns ! (agg ! (and-then ! (load ! (from ! (stop !)) (look ! 23 refl)) (and-then ! (load ! (from ! (fld ! refl (stop !))) (look-in ! 14 (sub ! 1 refl (whole !)))) (no-more !)))) (from ! (stop !)) (init ! 24 refl (tt, (tt, (record { fits = (out-room .0) }, tt)))) $
-        move ! (25 ∷ []) $ lay-answer-C.calls-lay-answer ! at-mem run fm (z-check .0) out-at out₀ (s-check .0) (λ ν-out δ-out. known-lay-answer (lay-answer-C.to 𝓤 H A at-mem run (z-check .0) out-at out₀ (relent out-at ν-out δ-out)))
-        (and-then ! (load ! (from ! (stop !)) (look ! 17 refl)) (and-then ! (load ! (from ! (stop !)) (look ! 25 refl)) (no-more !))) (λ z-lay-answer s-lay-answer.
+        move ! (25 ∷ []) $ calls-any W fm (lay-answer-C.rule (z-check .0) out-at out₀) ! ((s-check .0), tt) tt (λ cs. known-lay-answer (lay-answer-C.to (z-check .0) out-at out₀ 𝓤 H A at-mem run cs))
+          (and-then ! (load ! (from ! (stop !)) (look ! 17 refl)) (and-then ! (load ! (from ! (stop !)) (look ! 25 refl)) (no-more !))) (λ z-lay-answer s-lay-answer.
         let len-lay-answer-out : length (z-lay-answer .1 .0) ≡ length out₀ = s-lay-answer .1 .0 in
         let says-lay-answer : (z-lay-answer .1 .0) ≡ over out₀ 0 (answerWords (answerOf (z-check .0))) = s-lay-answer .1 .1 in
         land ! (from ! (stop !)) (init ! 16 refl (tt, tt)) $
         assigns ! (of-opd ! (unit-lit !)) (from ! (stop !)) (init ! 8 refl (tt, tt)) $
-        returns-within ! Post refl (look ! 8 refl) $ move ! (7 ∷ 8 ∷ 9 ∷ 10 ∷ 11 ∷ 12 ∷ 13 ∷ 14 ∷ 15 ∷ 16 ∷ 17 ∷ 18 ∷ 19 ∷ 20 ∷ 21 ∷ 22 ∷ 23 ∷ 24 ∷ 25 ∷ []) $ frees-any ! (full _ ∷ full _ ∷ full _ ∷ full _ ∷ full _ ∷ full _ ∷ full _ ∷ full _ ∷ full _ ∷ full _ ∷ full _ ∷ full _ ∷ full _ ∷ full _ ∷ full _ ∷ full _ ∷ full _ ∷ full _ ∷ []) $ keep ! (1 ∷ 2 ∷ 3 ∷ 4 ∷ 5 ∷ 6 ∷ 0 ∷ []) $
+        returns-within ! Post refl (look ! 8 refl) $ move ! (7 ∷ 8 ∷ 9 ∷ 10 ∷ 11 ∷ 12 ∷ 13 ∷ 14 ∷ 15 ∷ 16 ∷ 17 ∷ 18 ∷ 19 ∷ 20 ∷ 21 ∷ 22 ∷ 23 ∷ 24 ∷ 25 ∷ []) $ frees-any ! (full _ ∷ full _ ∷ full _ ∷ full _ ∷ full _ ∷ full _ ∷ full _ ∷ full _ ∷ full _ ∷ full _ ∷ full _ ∷ full _ ∷ full _ ∷ full _ ∷ full _ ∷ full _ ∷ full _ ∷ full _ ∷ []) $ keep ! (1 ∷ 2 ∷ 3 ∷ 4 ∷ 5 ∷ 6 ∷ 0 ∷ []) $ 
         by ! (exits tt (z-check .1 .0) (z-check .1 .1 .0) (z-check .1 .1 .1 .0) (z-lay-answer .1 .0) len-check-seen len-check-opens len-check-list len-lay-answer-out (says-lay-answer ∙ ap (λ (x : outcome.Answer). over out₀ 0 (answerWords x)) says-check-answer, says-check-list, says-check-seen, says-check-opens)))))))))))))))))))))))
 
 harkoxin-check-meets : {M : Type 1} (𝓤 : URA M) (H : Heap 𝓤) (A : Atoms 𝓤) (W : Given 𝓤 H A) (at-mem : Memory → SProp 𝓤) (run : Routine → Fun 𝓤) (𝓣 : Tables 𝓤 H) → Triple 𝓤 (𝓣 .C #marking·check) (check-C.Con 𝓤 H A at-mem run) → Triple 𝓤 (𝓣 .C #exports·lay-answer) (lay-answer-C.Con 𝓤 H A at-mem run) → Meets 𝓤 H A harkoxin-check-F.signature (WpFn 𝓤 H (𝓣 .C) (𝓣 .Λ) code.function) (harkoxin-check-F.spec 𝓤 H A at-mem run)

@@ -49,6 +49,7 @@ use denote.Triple.Walked.{says, needs, Stays, stay-none, stay-none-slice, stay-r
 use denote.Exit.{yes}
 use Rattle.references.proofs.Flow.{if-then, skip-then, exit-then, switch-then, assoc-then, loop-then, meets-at, frees-any}
 use Rattle.references.proofs.Hand.{At, lent as relent, ptrVal, fatVal, ref, HasRef, HasMut, HasShr, KeptRef, KeptMut, KeptShr, OpenRef, OpenAt, lend-ref, back-ref, lend-mut, back-mut, lend-shr, back-shr, open-ref, shut-ref, open-at, shut-at, back-at}
+use Rattle.references.proofs.Call.{calls-any, calls-any-last}
 use Rattle.marking.specs.declared.Report.{Report}
 use Rattle.marking.proofs.Report as Report-T
 use Rattle.marking.proofs.Report.Laws as Report-L
@@ -111,6 +112,7 @@ use Rattle.marking.specs.Entry.{gateOf, fromTable, Passed, lent}
 use Rattle.references.proofs.Sizes.{less-fits, wide, part-fits}
 use Rattle.tape.proofs.OneNumber.{some-nodes}
 use Rattle.marking.proofs.Course.{first-run, walk-asks, left-asks, end-asks, ran-whole, seen-inside, opens-inside, finished-whole}
+
 use Rattle.marking.proofs.checked.Statement as stated
 use Rattle.marking.proofs.checked.Key.{name as #marking·checked}
 use base.Logic.{fst∗}
@@ -197,6 +199,7 @@ abbrev τ21 : Ty
 abbrev τ22 : Ty
 τ22 = tyInt w64
 
+
 module _ {M : Type 1} (𝓤 : URA M) (H : Heap 𝓤) (A : Atoms 𝓤) (W : Given 𝓤 H A) (at-mem : Memory → SProp 𝓤) (run : Routine → Fun 𝓤) (table-at : At) (table₀ : List ℕ) (words-at : At) (words₀ : List ℕ) (entries₀ : ℕ) (source-at : At) (source₀ : List ℕ) (tape-at : At) (tape₀ : List ℕ) (seen-at : At) (seen₀ : List ℕ) (opens-at : At) (opens₀ : List OpenStart) (list-at : At) (list₀ : List ℕ)
     (table-room : SizeOf u8 (table-at .n)) (table-n : table-at .n ≡ length table₀) (words-room : SizeOf u64 (words-at .n)) (words-n : words-at .n ≡ length words₀) (entries₀-is : entries₀ < 2 ^ 64) (source-room : SizeOf u8 (source-at .n)) (source-n : source-at .n ≡ length source₀) (tape-room : SizeOf u8 (tape-at .n)) (tape-n : tape-at .n ≡ length tape₀) (seen-room : SizeOf u32 (seen-at .n)) (seen-n : seen-at .n ≡ length seen₀) (opens-room : SizeOf OpenStart-T.the-row (opens-at .n)) (opens-n : opens-at .n ≡ length opens₀) (list-room : SizeOf u64 (list-at .n)) (list-n : list-at .n ≡ length list₀) (req : Fit table₀ words₀ entries₀ source₀ tape₀ seen₀ opens₀) where
   abbrev Y : walkOf 𝓤 H A checked-F.ended stayed (checked-F.clauses 𝓤 H A at-mem run) .Ghost
@@ -219,6 +222,7 @@ module _ {M : Type 1} (𝓤 : URA M) (H : Heap 𝓤) (A : Atoms 𝓤) (W : Given
   abbrev Dead : ℕ → ℕ → ℕ → ℕ → ℕ → ℕ → ℕ → ℕ → ℕ → ℕ → ℕ → ℕ → ℕ → ℕ → ℕ → ℕ → ℕ → ℕ → ℕ → ℕ → ℕ → ℕ → ℕ → Item 𝓤
   Dead l0 l1 l2 l3 l4 l5 l6 l7 l8 l9 l10 l11 l12 l13 l14 l15 l16 l17 l18 l19 l20 l21 l22 = Dies 𝓤 H (τ0, l0) ((τ1, l1) ∷ (τ2, l2) ∷ (τ3, l3) ∷ (τ4, l4) ∷ (τ5, l5) ∷ (τ6, l6) ∷ (τ7, l7) ∷ (τ8, l8) ∷ (τ9, l9) ∷ (τ10, l10) ∷ (τ11, l11) ∷ (τ12, l12) ∷ (τ13, l13) ∷ (τ14, l14) ∷ (τ15, l15) ∷ (τ16, l16) ∷ (τ17, l17) ∷ (τ18, l18) ∷ (τ19, l19) ∷ (τ20, l20) ∷ (τ21, l21) ∷ (τ22, l22) ∷ [])
 
+
   module _ (𝓣 : Tables 𝓤 H) (known-run : Triple 𝓤 (𝓣 .C #marking·run) (run-C.Con 𝓤 H A at-mem run)) (known-node-count : Triple 𝓤 (𝓣 .C #marking·node-count) (node-count-C.Con 𝓤 H A at-mem run)) (known-clear-seen : Triple 𝓤 (𝓣 .C #closing·clear-seen) (clear-seen-C.Con 𝓤 H A at-mem run)) (known-clear-opens : Triple 𝓤 (𝓣 .C #closing·clear-opens) (clear-opens-C.Con 𝓤 H A at-mem run)) (known-reported : Triple 𝓤 (𝓣 .C #marking·reported) (reported-C.Con 𝓤 H A at-mem run)) where
     abbrev fm : FmC 𝓤 H (W .laws) (𝓣 .C)
     fm = fmOf 𝓤 H (W .laws) 𝓣
@@ -236,40 +240,40 @@ module _ {M : Type 1} (𝓤 : URA M) (H : Heap 𝓤) (A : Atoms 𝓤) (W : Given
         assigns ! (addr ! (from ! (fld ! refl (hop ! (look-in ! 9 (sub ! 0 refl (whole !))) (stop !))))) (from ! (stop !)) (init ! 16 refl (tt, tt)) $
         assigns ! (agg ! (and-then ! (load ! (from ! (stop !)) (look ! 16 refl)) (and-then ! (load ! (from ! (fld ! refl (stop !))) (look-in ! 9 (sub ! 1 refl (whole !)))) (no-more !)))) (from ! (stop !)) (init ! 17 refl (tt, (tt, (record { fits = (list-room .0) }, tt)))) $
         move ! (24 ∷ 25 ∷ 26 ∷ 27 ∷ 28 ∷ 29 ∷ 30 ∷ []) $ let req-run : Fit table₀ words₀ entries₀ source₀ tape₀ seen₀ opens₀ = req in
-        run-C.calls-run ! at-mem run fm table-at table₀ words-at words₀ entries₀ source-at source₀ tape-at tape₀ seen-at seen₀ opens-at opens₀ list-at list₀ entries₀-is req-run (λ ν-seen δ-seen ν-opens δ-opens ν-list δ-list. known-run (run-C.to 𝓤 H A at-mem run table-at table₀ words-at words₀ entries₀ source-at source₀ tape-at tape₀ seen-at seen₀ opens-at opens₀ list-at list₀ table-at words-at source-at tape-at (relent seen-at ν-seen δ-seen) (relent opens-at ν-opens δ-opens) (relent list-at ν-list δ-list)))
-        (and-then ! (load ! (from ! (stop !)) (look ! 3 refl)) (and-then ! (load ! (from ! (stop !)) (look ! 4 refl)) (and-then ! (load ! (from ! (stop !)) (look ! 5 refl)) (and-then ! (load ! (from ! (stop !)) (look ! 6 refl)) (and-then ! (load ! (from ! (stop !)) (look ! 7 refl)) (and-then ! (load ! (from ! (stop !)) (look ! 14 refl)) (and-then ! (load ! (from ! (stop !)) (look ! 16 refl)) (and-then ! (load ! (from ! (stop !)) (look ! 18 refl)) (no-more !))))))))) (λ z-run s-run.
+        calls-any W fm (run-C.rule table-at table₀ words-at words₀ entries₀ source-at source₀ tape-at tape₀ seen-at seen₀ opens-at opens₀ list-at list₀) ! ((refl, entries₀-is), tt) req-run (λ cs. known-run (run-C.to table-at table₀ words-at words₀ entries₀ source-at source₀ tape-at tape₀ seen-at seen₀ opens-at opens₀ list-at list₀ 𝓤 H A at-mem run cs))
+          (and-then ! (load ! (from ! (stop !)) (look ! 3 refl)) (and-then ! (load ! (from ! (stop !)) (look ! 4 refl)) (and-then ! (load ! (from ! (stop !)) (look ! 5 refl)) (and-then ! (load ! (from ! (stop !)) (look ! 6 refl)) (and-then ! (load ! (from ! (stop !)) (look ! 7 refl)) (and-then ! (load ! (from ! (stop !)) (look ! 14 refl)) (and-then ! (load ! (from ! (stop !)) (look ! 16 refl)) (and-then ! (load ! (from ! (stop !)) (look ! 18 refl)) (no-more !))))))))) (λ z-run s-run.
         let len-run-seen : length (z-run .1 .0) ≡ length seen₀ = s-run .1 .0 in
         let len-run-opens : length (z-run .1 .1 .0) ≡ length opens₀ = s-run .1 .1 .0 in
         let len-run-list : length (z-run .1 .1 .1 .0) ≡ length list₀ = s-run .1 .1 .1 .0 in
         let says-run : Ran table₀ source₀ tape₀ list₀ (z-run .1 .1 .1 .0) (z-run .0) = s-run .1 .1 .1 .1 in
         land ! (from ! (stop !)) (init ! 17 refl (LL.lawful Record-T.the-type Record-L.the-laws 𝓤 H A W .typed (z-run .0) _ (s-run .0) .0)) $
-        move ! (3 ∷ []) $ node-count-C.calls-node-count ! at-mem run fm tape-at tape₀ (known-node-count (node-count-C.to 𝓤 H A at-mem run tape-at tape₀ tape-at))
-        (and-then ! (load ! (from ! (stop !)) (look ! 13 refl)) (no-more !)) (λ z-node-count s-node-count.
+        move ! (3 ∷ []) $ calls-any W fm (node-count-C.rule tape-at tape₀) ! tt tt (λ cs. known-node-count (node-count-C.to tape-at tape₀ 𝓤 H A at-mem run cs))
+          (and-then ! (load ! (from ! (stop !)) (look ! 13 refl)) (no-more !)) (λ z-node-count s-node-count.
         let says-node-count : (z-node-count .0) ≡ nodes tape₀ = s-node-count .1 in
         land ! (from ! (stop !)) (init ! 18 refl (tt, record { fits = ((s-node-count .0) .1) })) $
         assigns ! (addr ! (from ! (fld ! refl (hop ! (look-in ! 14 (sub ! 0 refl (whole !))) (stop !))))) (from ! (stop !)) (init ! 26 refl (tt, tt)) $
         assigns ! (agg ! (and-then ! (load ! (from ! (stop !)) (look ! 26 refl)) (and-then ! (load ! (from ! (fld ! refl (stop !))) (look-in ! 14 (sub ! 1 refl (whole !)))) (no-more !)))) (from ! (stop !)) (init ! 27 refl (tt, (tt, (record { fits = (seen-room .0) }, tt)))) $
         move ! (4 ∷ []) $ let req-clear-seen : (z-node-count .0) ≤ length (z-run .1 .0) = seen-inside req (z-run .1 .0) _ len-run-seen says-node-count in
-        clear-seen-C.calls-clear-seen ! at-mem run fm seen-at (z-run .1 .0) (z-node-count .0) ((s-node-count .0) .1) req-clear-seen (λ ν-seen δ-seen. known-clear-seen (clear-seen-C.to 𝓤 H A at-mem run seen-at (z-run .1 .0) (z-node-count .0) (relent seen-at ν-seen δ-seen)))
-        (and-then ! (load ! (from ! (stop !)) (look ! 27 refl)) (and-then ! (load ! (from ! (stop !)) (look ! 18 refl)) (no-more !))) (λ z-clear-seen s-clear-seen.
+        calls-any W fm (clear-seen-C.rule seen-at (z-run .1 .0) (z-node-count .0)) ! ((refl, ((s-node-count .0) .1)), tt) req-clear-seen (λ cs. known-clear-seen (clear-seen-C.to seen-at (z-run .1 .0) (z-node-count .0) 𝓤 H A at-mem run cs))
+          (and-then ! (load ! (from ! (stop !)) (look ! 27 refl)) (and-then ! (load ! (from ! (stop !)) (look ! 18 refl)) (no-more !))) (λ z-clear-seen s-clear-seen.
         let len-clear-seen-seen : length (z-clear-seen .1 .0) ≡ length (z-run .1 .0) = s-clear-seen .1 .0 in
         let says-clear-seen : (z-clear-seen .1 .0) ≡ cleared 0 (z-node-count .0) (z-run .1 .0) = s-clear-seen .1 .1 in
         land ! (from ! (stop !)) (init ! 25 refl (tt, tt)) $
         assigns ! (addr ! (from ! (fld ! refl (hop ! (look-in ! 15 (sub ! 0 refl (whole !))) (stop !))))) (from ! (stop !)) (init ! 28 refl (tt, tt)) $
         assigns ! (agg ! (and-then ! (load ! (from ! (stop !)) (look ! 28 refl)) (and-then ! (load ! (from ! (fld ! refl (stop !))) (look-in ! 15 (sub ! 1 refl (whole !)))) (no-more !)))) (from ! (stop !)) (init ! 29 refl (tt, (tt, (record { fits = (opens-room .0) }, tt)))) $
         move ! (5 ∷ []) $ let req-clear-opens : (z-node-count .0) ≤ length (z-run .1 .1 .0) = opens-inside req (z-run .1 .1 .0) _ len-run-opens says-node-count in
-        clear-opens-C.calls-clear-opens ! at-mem run fm opens-at (z-run .1 .1 .0) (z-node-count .0) ((s-node-count .0) .1) req-clear-opens (λ ν-opens δ-opens. known-clear-opens (clear-opens-C.to 𝓤 H A at-mem run opens-at (z-run .1 .1 .0) (z-node-count .0) (relent opens-at ν-opens δ-opens)))
-        (and-then ! (load ! (from ! (stop !)) (look ! 29 refl)) (and-then ! (load ! (from ! (stop !)) (look ! 18 refl)) (no-more !))) (λ z-clear-opens s-clear-opens.
+        calls-any W fm (clear-opens-C.rule opens-at (z-run .1 .1 .0) (z-node-count .0)) ! ((refl, ((s-node-count .0) .1)), tt) req-clear-opens (λ cs. known-clear-opens (clear-opens-C.to opens-at (z-run .1 .1 .0) (z-node-count .0) 𝓤 H A at-mem run cs))
+          (and-then ! (load ! (from ! (stop !)) (look ! 29 refl)) (and-then ! (load ! (from ! (stop !)) (look ! 18 refl)) (no-more !))) (λ z-clear-opens s-clear-opens.
         let len-clear-opens-opens : length (z-clear-opens .1 .0) ≡ length (z-run .1 .1 .0) = s-clear-opens .1 .0 in
         let says-clear-opens : (z-clear-opens .1 .0) ≡ cleared noStart (z-node-count .0) (z-run .1 .1 .0) = s-clear-opens .1 .1 in
         land ! (from ! (stop !)) (store ! 25 refl (tt, tt)) $
         assigns ! (of-opd ! (load ! (from ! (fld ! refl (stop !))) (look-in ! 16 (sub ! 1 refl (whole !))))) (from ! (stop !)) (init ! 30 refl (tt, record { fits = (list-room .0) })) $
         let req-reported : total (countsOf (z-run .0)) ≤ limit = says-run .low in
-        reported-C.calls-reported ! at-mem run fm (z-run .0) (list-at .n) (s-run .0) (list-room .0) req-reported (known-reported (reported-C.to 𝓤 H A at-mem run (z-run .0) (list-at .n)))
-        (and-then ! (load ! (from ! (stop !)) (look ! 18 refl)) (and-then ! (load ! (from ! (stop !)) (look ! 31 refl)) (no-more !))) (λ z-reported s-reported.
+        calls-any W fm (reported-C.rule (z-run .0) (list-at .n)) ! ((s-run .0), ((refl, (list-room .0)), tt)) req-reported (λ cs. known-reported (reported-C.to (z-run .0) (list-at .n) 𝓤 H A at-mem run cs))
+          (and-then ! (load ! (from ! (stop !)) (look ! 18 refl)) (and-then ! (load ! (from ! (stop !)) (look ! 31 refl)) (no-more !))) (λ z-reported s-reported.
         let says-reported : answerOf (z-reported .0) ≡ reported (z-run .0) ((list-at .n) / 8) = s-reported .1 in
         land ! (from ! (stop !)) (init ! 8 refl (EL.lawful Answer-T.the-type Answer-L.the-laws 𝓤 H A W tt .typed (z-reported .0) _ (s-reported .0) .0)) $
-        returns-within ! Post refl (look ! 8 refl) $ move ! (7 ∷ 8 ∷ 9 ∷ 10 ∷ 11 ∷ 12 ∷ 13 ∷ 14 ∷ 15 ∷ 16 ∷ 17 ∷ 18 ∷ 19 ∷ 20 ∷ 21 ∷ 22 ∷ 23 ∷ 24 ∷ 25 ∷ 26 ∷ 27 ∷ 28 ∷ 29 ∷ 30 ∷ []) $ frees-any ! (full _ ∷ full _ ∷ full _ ∷ full _ ∷ full _ ∷ full _ ∷ full _ ∷ full _ ∷ full _ ∷ full _ ∷ full _ ∷ full _ ∷ full _ ∷ full _ ∷ full _ ∷ full _ ∷ full _ ∷ full _ ∷ full _ ∷ full _ ∷ full _ ∷ full _ ∷ full _ ∷ []) $ keep ! (3 ∷ 4 ∷ 5 ∷ 2 ∷ 1 ∷ 0 ∷ 6 ∷ []) $
+        returns-within ! Post refl (look ! 8 refl) $ move ! (7 ∷ 8 ∷ 9 ∷ 10 ∷ 11 ∷ 12 ∷ 13 ∷ 14 ∷ 15 ∷ 16 ∷ 17 ∷ 18 ∷ 19 ∷ 20 ∷ 21 ∷ 22 ∷ 23 ∷ 24 ∷ 25 ∷ 26 ∷ 27 ∷ 28 ∷ 29 ∷ 30 ∷ []) $ frees-any ! (full _ ∷ full _ ∷ full _ ∷ full _ ∷ full _ ∷ full _ ∷ full _ ∷ full _ ∷ full _ ∷ full _ ∷ full _ ∷ full _ ∷ full _ ∷ full _ ∷ full _ ∷ full _ ∷ full _ ∷ full _ ∷ full _ ∷ full _ ∷ full _ ∷ full _ ∷ full _ ∷ []) $ keep ! (3 ∷ 4 ∷ 5 ∷ 2 ∷ 1 ∷ 0 ∷ 6 ∷ []) $ 
         by ! (exits (z-reported .0) (z-clear-seen .1 .0) (z-clear-opens .1 .0) (z-run .1 .1 .1 .0) (s-reported .0) (len-clear-seen-seen ∙ len-run-seen) (len-clear-opens-opens ∙ len-run-opens) len-run-list (finished-whole req list₀ (z-run .1 .1 .1 .0) _ says-run len-run-list _ _ says-node-count (ap (λ (k : ℕ). k / 8) (list-n ∙ sym len-run-list)) (z-run .1 .0) _ (z-run .1 .1 .0) _ len-run-seen len-run-opens says-clear-seen says-clear-opens _ says-reported)))))))))))))))))))))))))))))))
 
 checked-meets : {M : Type 1} (𝓤 : URA M) (H : Heap 𝓤) (A : Atoms 𝓤) (W : Given 𝓤 H A) (at-mem : Memory → SProp 𝓤) (run : Routine → Fun 𝓤) (𝓣 : Tables 𝓤 H) → Triple 𝓤 (𝓣 .C #marking·run) (run-C.Con 𝓤 H A at-mem run) → Triple 𝓤 (𝓣 .C #marking·node-count) (node-count-C.Con 𝓤 H A at-mem run) → Triple 𝓤 (𝓣 .C #closing·clear-seen) (clear-seen-C.Con 𝓤 H A at-mem run) → Triple 𝓤 (𝓣 .C #closing·clear-opens) (clear-opens-C.Con 𝓤 H A at-mem run) → Triple 𝓤 (𝓣 .C #marking·reported) (reported-C.Con 𝓤 H A at-mem run) → Meets 𝓤 H A checked-F.signature (WpFn 𝓤 H (𝓣 .C) (𝓣 .Λ) code.function) (checked-F.spec 𝓤 H A at-mem run)

@@ -49,6 +49,7 @@ use denote.Triple.Walked.{says, needs, Stays, stay-none, stay-none-slice, stay-r
 use denote.Exit.{yes}
 use Rattle.references.proofs.Flow.{if-then, skip-then, exit-then, switch-then, assoc-then, loop-then, meets-at, frees-any}
 use Rattle.references.proofs.Hand.{At, lent as relent, ptrVal, fatVal, ref, HasRef, HasMut, HasShr, KeptRef, KeptMut, KeptShr, OpenRef, OpenAt, lend-ref, back-ref, lend-mut, back-mut, lend-shr, back-shr, open-ref, shut-ref, open-at, shut-at, back-at}
+use Rattle.references.proofs.Call.{calls-any, calls-any-last}
 use Rattle.marking.specs.declared.Report.{Report}
 use Rattle.marking.proofs.Report as Report-T
 use Rattle.marking.proofs.Report.Laws as Report-L
@@ -112,6 +113,7 @@ use Rattle.references.proofs.Sizes.{less-fits, wide, part-fits}
 use Rattle.tape.proofs.OneNumber.{some-nodes}
 use Rattle.marking.proofs.Course.{first-run, walk-asks, left-asks, end-asks, ran-whole, seen-inside, opens-inside, finished-whole}
 use Rattle.references.proofs.Hand.{local, KeptLocal, lend-local, back-local}
+
 use Rattle.marking.proofs.run.Statement as stated
 use Rattle.marking.proofs.run.Key.{name as #marking·run}
 use base.Logic.{fst∗}
@@ -222,6 +224,7 @@ abbrev τ29 : Ty
 abbrev τ30 : Ty
 τ30 = sliceTy (tyRef erased mut (tyInt w64))
 
+
 module _ {M : Type 1} (𝓤 : URA M) (H : Heap 𝓤) (A : Atoms 𝓤) (W : Given 𝓤 H A) (at-mem : Memory → SProp 𝓤) (run : Routine → Fun 𝓤) (table-at : At) (table₀ : List ℕ) (words-at : At) (words₀ : List ℕ) (count₀ : ℕ) (source-at : At) (source₀ : List ℕ) (tape-at : At) (tape₀ : List ℕ) (seen-at : At) (seen₀ : List ℕ) (opens-at : At) (opens₀ : List OpenStart) (list-at : At) (list₀ : List ℕ)
     (table-room : SizeOf u8 (table-at .n)) (table-n : table-at .n ≡ length table₀) (words-room : SizeOf u64 (words-at .n)) (words-n : words-at .n ≡ length words₀) (count₀-is : count₀ < 2 ^ 64) (source-room : SizeOf u8 (source-at .n)) (source-n : source-at .n ≡ length source₀) (tape-room : SizeOf u8 (tape-at .n)) (tape-n : tape-at .n ≡ length tape₀) (seen-room : SizeOf u32 (seen-at .n)) (seen-n : seen-at .n ≡ length seen₀) (opens-room : SizeOf OpenStart-T.the-row (opens-at .n)) (opens-n : opens-at .n ≡ length opens₀) (list-room : SizeOf u64 (list-at .n)) (list-n : list-at .n ≡ length list₀) (req : Fit table₀ words₀ count₀ source₀ tape₀ seen₀ opens₀) where
   abbrev Y : walkOf 𝓤 H A run-F.ended stayed (run-F.clauses 𝓤 H A at-mem run) .Ghost
@@ -244,6 +247,7 @@ module _ {M : Type 1} (𝓤 : URA M) (H : Heap 𝓤) (A : Atoms 𝓤) (W : Given
   abbrev Dead : ℕ → ℕ → ℕ → ℕ → ℕ → ℕ → ℕ → ℕ → ℕ → ℕ → ℕ → ℕ → ℕ → ℕ → ℕ → ℕ → ℕ → ℕ → ℕ → ℕ → ℕ → ℕ → ℕ → ℕ → ℕ → ℕ → ℕ → ℕ → ℕ → ℕ → ℕ → Item 𝓤
   Dead l0 l1 l2 l3 l4 l5 l6 l7 l8 l9 l10 l11 l12 l13 l14 l15 l16 l17 l18 l19 l20 l21 l22 l23 l24 l25 l26 l27 l28 l29 l30 = Dies 𝓤 H (τ0, l0) ((τ1, l1) ∷ (τ2, l2) ∷ (τ3, l3) ∷ (τ4, l4) ∷ (τ5, l5) ∷ (τ6, l6) ∷ (τ7, l7) ∷ (τ8, l8) ∷ (τ9, l9) ∷ (τ10, l10) ∷ (τ11, l11) ∷ (τ12, l12) ∷ (τ13, l13) ∷ (τ14, l14) ∷ (τ15, l15) ∷ (τ16, l16) ∷ (τ17, l17) ∷ (τ18, l18) ∷ (τ19, l19) ∷ (τ20, l20) ∷ (τ21, l21) ∷ (τ22, l22) ∷ (τ23, l23) ∷ (τ24, l24) ∷ (τ25, l25) ∷ (τ26, l26) ∷ (τ27, l27) ∷ (τ28, l28) ∷ (τ29, l29) ∷ (τ30, l30) ∷ [])
 
+
   module _ (𝓣 : Tables 𝓤 H) (known-link-at : Triple 𝓤 (𝓣 .C #tape·link-at) (link-at-C.Con 𝓤 H A at-mem run)) (known-begun : Triple 𝓤 (𝓣 .C #marking·begun) (begun-C.Con 𝓤 H A at-mem run)) (known-walk : Triple 𝓤 (𝓣 .C #checker·walk) (walk-C.Con 𝓤 H A at-mem run)) (known-unclosed : Triple 𝓤 (𝓣 .C #closing·unclosed) (unclosed-C.Con 𝓤 H A at-mem run)) (known-ended : Triple 𝓤 (𝓣 .C #marking·ended) (ended-C.Con 𝓤 H A at-mem run)) where
     abbrev fm : FmC 𝓤 H (W .laws) (𝓣 .C)
     fm = fmOf 𝓤 H (W .laws) 𝓣
@@ -255,8 +259,8 @@ module _ {M : Type 1} (𝓤 : URA M) (H : Heap 𝓤) (A : Atoms 𝓤) (W : Given
         alloc1 ! (λ l0. alloc1 ! (λ l1. alloc1 ! (λ l2. alloc1 ! (λ l3. alloc1 ! (λ l4. alloc1 ! (λ l5. alloc1 ! (λ l6. alloc1 ! (λ l7. alloc1 ! (λ l8. alloc1 ! (λ l9. alloc1 ! (λ l10. alloc1 ! (λ l11. alloc1 ! (λ l12. alloc1 ! (λ l13. alloc1 ! (λ l14. alloc1 ! (λ l15. alloc1 ! (λ l16. alloc1 ! (λ l17. alloc1 ! (λ l18. alloc1 ! (λ l19. alloc1 ! (λ l20. alloc1 ! (λ l21. alloc1 ! (λ l22. alloc1 ! (λ l23. alloc1 ! (λ l24. alloc1 ! (λ l25. alloc1 ! (λ l26. alloc1 ! (λ l27. alloc1 ! (λ l28. alloc1 ! (λ l29. alloc1 ! (λ l30. alloc0 ! $ params1 ! $ pass1 ! (init ! 58 refl (tt, (tt, (record { fits = (table-room .0) }, tt)))) $ pass1 ! (init ! 56 refl (tt, (tt, (record { fits = (words-room .0) }, tt)))) $ pass1 ! (init ! 54 refl (tt, record { fits = count₀-is })) $ pass1 ! (init ! 52 refl (tt, (tt, (record { fits = (source-room .0) }, tt)))) $ pass1 ! (init ! 50 refl (tt, (tt, (record { fits = (tape-room .0) }, tt)))) $ pass1 ! (init ! 48 refl (tt, (tt, (record { fits = (seen-room .0) }, tt)))) $ pass1 ! (init ! 46 refl (tt, (tt, (record { fits = (opens-room .0) }, tt)))) $ pass1 ! (init ! 44 refl (tt, (tt, (record { fits = (list-room .0) }, tt)))) $ pass0 ! $
         move ! (61 ∷ 59 ∷ 57 ∷ 55 ∷ 53 ∷ 51 ∷ 49 ∷ 47 ∷ 45 ∷ 43 ∷ 41 ∷ 39 ∷ 37 ∷ 35 ∷ 33 ∷ 31 ∷ 29 ∷ 27 ∷ 25 ∷ 23 ∷ 21 ∷ 19 ∷ 17 ∷ 15 ∷ 13 ∷ 11 ∷ 9 ∷ 7 ∷ 5 ∷ 3 ∷ 1 ∷ 60 ∷ 58 ∷ 56 ∷ 54 ∷ 52 ∷ 50 ∷ 48 ∷ 46 ∷ 44 ∷ 42 ∷ 40 ∷ 38 ∷ 36 ∷ 34 ∷ 32 ∷ 30 ∷ 28 ∷ 26 ∷ 24 ∷ 22 ∷ 20 ∷ 18 ∷ 16 ∷ 14 ∷ 12 ∷ 10 ∷ 8 ∷ 6 ∷ 4 ∷ 2 ∷ 0 ∷ []) $ group ! 31 $
         move ! (35 ∷ []) $ let req-link-at : 0 < count tape₀ = some-nodes source₀ tape₀ (req .accepted .sized) in
-        link-at-C.calls-link-at ! at-mem run fm tape-at tape₀ 0 (lit< tt) req-link-at (known-link-at (link-at-C.to 𝓤 H A at-mem run tape-at tape₀ 0 tape-at))
-        (and-then ! (load ! (from ! (stop !)) (look ! 7 refl)) (and-then ! (lit ! tt) (no-more !))) (λ z-link-at s-link-at.
+        calls-any W fm (link-at-C.rule tape-at tape₀ 0) ! ((refl, (lit< tt)), tt) req-link-at (λ cs. known-link-at (link-at-C.to tape-at tape₀ 0 𝓤 H A at-mem run cs))
+          (and-then ! (load ! (from ! (stop !)) (look ! 7 refl)) (and-then ! (lit ! tt) (no-more !))) (λ z-link-at s-link-at.
         let says-link-at : (z-link-at .0) ≡ linkAt tape₀ 0 = s-link-at .1 in
         land ! (from ! (stop !)) (init ! 15 refl (tt, record { fits = ((s-link-at .0) .1) })) $
         let fits-1 : (z-link-at .0) < 2 ^ 64 = wide _ (s-link-at .0 .1) in
@@ -264,8 +268,8 @@ module _ {M : Type 1} (𝓤 : URA M) (H : Heap 𝓤) (A : Atoms 𝓤) (W : Given
         assigns ! (addr ! (from ! (fld ! refl (hop ! (look-in ! 10 (sub ! 0 refl (whole !))) (stop !))))) (from ! (stop !)) (init ! 17 refl (tt, tt)) $
         assigns ! (agg ! (and-then ! (load ! (from ! (stop !)) (look ! 17 refl)) (and-then ! (load ! (from ! (fld ! refl (stop !))) (look-in ! 10 (sub ! 1 refl (whole !)))) (no-more !)))) (from ! (stop !)) (init ! 18 refl (tt, (tt, (record { fits = (list-room .0) }, tt)))) $
         move ! (35 ∷ 0 ∷ 38 ∷ []) $ let req-begun : (Run source₀ tape₀ 1 (z-link-at .0)) × ((z-link-at .0) ≡ linkAt tape₀ 0) = (first-run req _ says-link-at, says-link-at) in
-        begun-C.calls-begun ! at-mem run fm source-at source₀ tape-at tape₀ (z-link-at .0) list-at list₀ fits-1 req-begun (λ ν-list δ-list. known-begun (begun-C.to 𝓤 H A at-mem run source-at source₀ tape-at tape₀ (z-link-at .0) list-at list₀ source-at tape-at (relent list-at ν-list δ-list)))
-        (and-then ! (load ! (from ! (stop !)) (look ! 6 refl)) (and-then ! (load ! (from ! (stop !)) (look ! 7 refl)) (and-then ! (load ! (from ! (stop !)) (look ! 11 refl)) (and-then ! (load ! (from ! (stop !)) (look ! 18 refl)) (no-more !))))) (λ z-begun s-begun.
+        calls-any W fm (begun-C.rule source-at source₀ tape-at tape₀ (z-link-at .0) list-at list₀) ! ((refl, fits-1), tt) req-begun (λ cs. known-begun (begun-C.to source-at source₀ tape-at tape₀ (z-link-at .0) list-at list₀ 𝓤 H A at-mem run cs))
+          (and-then ! (load ! (from ! (stop !)) (look ! 6 refl)) (and-then ! (load ! (from ! (stop !)) (look ! 7 refl)) (and-then ! (load ! (from ! (stop !)) (look ! 11 refl)) (and-then ! (load ! (from ! (stop !)) (look ! 18 refl)) (no-more !))))) (λ z-begun s-begun.
         let len-begun-list : length (z-begun .1 .0) ≡ length list₀ = s-begun .1 .0 in
         let says-begun : Begun source₀ tape₀ list₀ (z-begun .1 .0) (z-begun .0) = s-begun .1 .1 in
         land ! (from ! (stop !)) (init ! 18 refl (LL.lawful Record-T.the-type Record-L.the-laws 𝓤 H A W .typed (z-begun .0) _ (s-begun .0) .0)) $
@@ -282,8 +286,8 @@ module _ {M : Type 1} (𝓤 : URA M) (H : Heap 𝓤) (A : Atoms 𝓤) (W : Given
         assigns ! (agg ! (and-then ! (load ! (from ! (stop !)) (look ! 27 refl)) (and-then ! (load ! (from ! (fld ! refl (stop !))) (look-in ! 12 (sub ! 1 refl (whole !)))) (no-more !)))) (from ! (stop !)) (init ! 28 refl (tt, (tt, (record { fits = (list-room .0) }, tt)))) $
         move ! (14 ∷ []) $ use1 W (‵ (cellAt fullShare (Record-T.the-row .mir) ((LL.vals Record-T.the-type Record-L.the-laws) (z-begun .0)) l10 0)) (W .laws .at-raw fullShare τ10 l10 0 (LL.val Record-T.the-type Record-L.the-laws (z-begun .0))) $ use1 W (later (some (λ (ν : ℕ). some (λ (δ : GName). ‵ (HasRef Record-T.the-row (local l10 ν δ) (z-begun .0)) ⊛ ‵ (KeptLocal Record-T.the-row l10 ν δ))))) (lend-local Record-T.the-row 𝓤 H A W (LL.vals Record-T.the-type Record-L.the-laws) (LL.makes Record-T.the-type Record-L.the-plain 𝓤 H A) l10 (z-begun .0) (s-begun .0)) $ await ! tt $ pick ! (λ ν10. pick ! (λ δ10. split ! $
         move ! (36 ∷ 37 ∷ 2 ∷ 3 ∷ 0 ∷ 38 ∷ 39 ∷ 4 ∷ []) $ let req-walk : (Ready table₀ words₀ count₀ source₀ tape₀ 64 1 (z-link-at .0) seen₀ opens₀ (z-begun .0)) × Room (countsOf (z-begun .0)) (walkAt table₀ source₀ tape₀ (aroundOf made-1) 1 (z-link-at .0) seen₀ opens₀ (z-begun .0) .findings) = walk-asks req (z-link-at .0) says-link-at (aroundOf (record { body = false; note = false; char = false })) refl list₀ (z-begun .1 .0) _ says-begun in
-        walk-C.calls-walk ! at-mem run fm table-at table₀ words-at words₀ count₀ source-at source₀ tape-at tape₀ 1 (z-link-at .0) 64 made-1 (local l10 ν10 δ10) (z-begun .0) seen-at seen₀ opens-at opens₀ list-at (z-begun .1 .0) count₀-is (lit< tt) fits-1 (lit< tt) made-1-is req-walk (λ ν-rec δ-rec ν-seen δ-seen ν-opens δ-opens ν-list δ-list. known-walk (walk-C.to 𝓤 H A at-mem run table-at table₀ words-at words₀ count₀ source-at source₀ tape-at tape₀ 1 (z-link-at .0) 64 made-1 (local l10 ν10 δ10) (z-begun .0) seen-at seen₀ opens-at opens₀ list-at (z-begun .1 .0) table-at words-at source-at tape-at (relent (local l10 ν10 δ10) ν-rec δ-rec) (relent seen-at ν-seen δ-seen) (relent opens-at ν-opens δ-opens) (relent list-at ν-list δ-list)))
-        (and-then ! (load ! (from ! (stop !)) (look ! 4 refl)) (and-then ! (load ! (from ! (stop !)) (look ! 5 refl)) (and-then ! (load ! (from ! (stop !)) (look ! 6 refl)) (and-then ! (load ! (from ! (stop !)) (look ! 7 refl)) (and-then ! (load ! (from ! (stop !)) (look ! 8 refl)) (and-then ! (lit ! tt) (and-then ! (load ! (from ! (stop !)) (look ! 12 refl)) (and-then ! (lit ! tt) (and-then ! (load ! (from ! (stop !)) (look ! 13 refl)) (and-then ! (load ! (from ! (stop !)) (look ! 20 refl)) (and-then ! (load ! (from ! (stop !)) (look ! 22 refl)) (and-then ! (load ! (from ! (stop !)) (look ! 24 refl)) (and-then ! (load ! (from ! (stop !)) (look ! 26 refl)) (no-more !)))))))))))))) (λ z-walk s-walk.
+        calls-any W fm (walk-C.rule table-at table₀ words-at words₀ count₀ source-at source₀ tape-at tape₀ 1 (z-link-at .0) 64 made-1 (local l10 ν10 δ10) (z-begun .0) seen-at seen₀ opens-at opens₀ list-at (z-begun .1 .0)) ! ((refl, count₀-is), ((refl, (lit< tt)), ((refl, fits-1), ((refl, (lit< tt)), (made-1-is, tt))))) req-walk (λ cs. known-walk (walk-C.to table-at table₀ words-at words₀ count₀ source-at source₀ tape-at tape₀ 1 (z-link-at .0) 64 made-1 (local l10 ν10 δ10) (z-begun .0) seen-at seen₀ opens-at opens₀ list-at (z-begun .1 .0) 𝓤 H A at-mem run cs))
+          (and-then ! (load ! (from ! (stop !)) (look ! 4 refl)) (and-then ! (load ! (from ! (stop !)) (look ! 5 refl)) (and-then ! (load ! (from ! (stop !)) (look ! 6 refl)) (and-then ! (load ! (from ! (stop !)) (look ! 7 refl)) (and-then ! (load ! (from ! (stop !)) (look ! 8 refl)) (and-then ! (lit ! tt) (and-then ! (load ! (from ! (stop !)) (look ! 12 refl)) (and-then ! (lit ! tt) (and-then ! (load ! (from ! (stop !)) (look ! 13 refl)) (and-then ! (load ! (from ! (stop !)) (look ! 20 refl)) (and-then ! (load ! (from ! (stop !)) (look ! 22 refl)) (and-then ! (load ! (from ! (stop !)) (look ! 24 refl)) (and-then ! (load ! (from ! (stop !)) (look ! 26 refl)) (no-more !)))))))))))))) (λ z-walk s-walk.
         let len-walk-seen : length (z-walk .1 .1 .0) ≡ length seen₀ = s-walk .1 .0 in
         let len-walk-opens : length (z-walk .1 .1 .1 .0) ≡ length opens₀ = s-walk .1 .1 .0 in
         let len-walk-list : length (z-walk .1 .1 .1 .1 .0) ≡ length (z-begun .1 .0) = s-walk .1 .1 .1 .0 in
@@ -296,8 +300,8 @@ module _ {M : Type 1} (𝓤 : URA M) (H : Heap 𝓤) (A : Atoms 𝓤) (W : Given
         assigns ! (addr ! (from ! (fld ! refl (hop ! (look-in ! 17 (sub ! 0 refl (whole !))) (stop !))))) (from ! (stop !)) (init ! 35 refl (tt, tt)) $
         assigns ! (agg ! (and-then ! (load ! (from ! (stop !)) (look ! 35 refl)) (and-then ! (load ! (from ! (fld ! refl (stop !))) (look-in ! 17 (sub ! 1 refl (whole !)))) (no-more !)))) (from ! (stop !)) (init ! 36 refl (tt, (tt, (record { fits = (list-room .0) }, tt)))) $
         move ! (3 ∷ 4 ∷ 6 ∷ 7 ∷ []) $ let req-unclosed : Left source₀ tape₀ (z-walk .1 .1 .1 .0) (z-walk .1 .0) = left-asks req (z-link-at .0) says-link-at (aroundOf (record { body = false; note = false; char = false })) refl list₀ (z-begun .1 .0) (z-begun .0) says-begun _ _ _ _ says-walk in
-        unclosed-C.calls-unclosed ! at-mem run fm source-at source₀ tape-at tape₀ opens-at (z-walk .1 .1 .1 .0) (z-walk .1 .0) list-at (z-walk .1 .1 .1 .1 .0) is-10 req-unclosed (λ ν-opens δ-opens ν-list δ-list. known-unclosed (unclosed-C.to 𝓤 H A at-mem run source-at source₀ tape-at tape₀ opens-at (z-walk .1 .1 .1 .0) (z-walk .1 .0) list-at (z-walk .1 .1 .1 .1 .0) source-at tape-at (relent opens-at ν-opens δ-opens) (relent list-at ν-list δ-list)))
-        (and-then ! (load ! (from ! (stop !)) (look ! 10 refl)) (and-then ! (load ! (from ! (stop !)) (look ! 11 refl)) (and-then ! (load ! (from ! (stop !)) (look ! 31 refl)) (and-then ! (load ! (from ! (stop !)) (look ! 19 refl)) (and-then ! (load ! (from ! (stop !)) (look ! 33 refl)) (no-more !)))))) (λ z-unclosed s-unclosed.
+        calls-any W fm (unclosed-C.rule source-at source₀ tape-at tape₀ opens-at (z-walk .1 .1 .1 .0) (z-walk .1 .0) list-at (z-walk .1 .1 .1 .1 .0)) ! (is-10, tt) req-unclosed (λ cs. known-unclosed (unclosed-C.to source-at source₀ tape-at tape₀ opens-at (z-walk .1 .1 .1 .0) (z-walk .1 .0) list-at (z-walk .1 .1 .1 .1 .0) 𝓤 H A at-mem run cs))
+          (and-then ! (load ! (from ! (stop !)) (look ! 10 refl)) (and-then ! (load ! (from ! (stop !)) (look ! 11 refl)) (and-then ! (load ! (from ! (stop !)) (look ! 31 refl)) (and-then ! (load ! (from ! (stop !)) (look ! 19 refl)) (and-then ! (load ! (from ! (stop !)) (look ! 33 refl)) (no-more !)))))) (λ z-unclosed s-unclosed.
         let len-unclosed-opens : length (z-unclosed .1 .0) ≡ length (z-walk .1 .1 .1 .0) = s-unclosed .1 .0 in
         let len-unclosed-list : length (z-unclosed .1 .1 .0) ≡ length (z-walk .1 .1 .1 .1 .0) = s-unclosed .1 .1 .0 in
         let says-unclosed : ((z-unclosed .1 .0) ≡ (z-walk .1 .1 .1 .0)) × Wrote (Document.unclosed (starts source₀ tape₀ (z-walk .1 .1 .1 .0) ((z-walk .1 .0) .«open»))) (z-walk .1 .1 .1 .1 .0) (countsOf (z-walk .1 .0)) (z-unclosed .1 .1 .0) (z-unclosed .0) = s-unclosed .1 .1 .1 in
@@ -306,12 +310,12 @@ module _ {M : Type 1} (𝓤 : URA M) (H : Heap 𝓤) (A : Atoms 𝓤) (W : Given
         assigns ! (addr ! (from ! (fld ! refl (hop ! (look-in ! 17 (sub ! 0 refl (whole !))) (stop !))))) (from ! (stop !)) (init ! 37 refl (tt, tt)) $
         assigns ! (agg ! (and-then ! (load ! (from ! (stop !)) (look ! 37 refl)) (and-then ! (load ! (from ! (fld ! refl (stop !))) (look-in ! 17 (sub ! 1 refl (whole !)))) (no-more !)))) (from ! (stop !)) (init ! 38 refl (tt, (tt, (record { fits = (list-room .0) }, tt)))) $
         move ! (3 ∷ []) $ let req-ended : Endable (z-walk .1 .0) (z-unclosed .0) = end-asks req (z-link-at .0) says-link-at (aroundOf (record { body = false; note = false; char = false })) refl list₀ (z-begun .1 .0) (z-begun .0) says-begun _ _ _ _ says-walk _ _ (says-unclosed .1) in
-        ended-C.calls-ended ! at-mem run fm (z-walk .1 .0) list-at (z-unclosed .1 .1 .0) (z-unclosed .0) is-10 (s-unclosed .0) req-ended (λ ν-list δ-list. known-ended (ended-C.to 𝓤 H A at-mem run (z-walk .1 .0) list-at (z-unclosed .1 .1 .0) (z-unclosed .0) (relent list-at ν-list δ-list)))
-        (and-then ! (load ! (from ! (stop !)) (look ! 22 refl)) (and-then ! (load ! (from ! (stop !)) (look ! 38 refl)) (and-then ! (load ! (from ! (stop !)) (look ! 20 refl)) (no-more !)))) (λ z-ended s-ended.
+        calls-any W fm (ended-C.rule (z-walk .1 .0) list-at (z-unclosed .1 .1 .0) (z-unclosed .0)) ! (is-10, ((s-unclosed .0), tt)) req-ended (λ cs. known-ended (ended-C.to (z-walk .1 .0) list-at (z-unclosed .1 .1 .0) (z-unclosed .0) 𝓤 H A at-mem run cs))
+          (and-then ! (load ! (from ! (stop !)) (look ! 22 refl)) (and-then ! (load ! (from ! (stop !)) (look ! 38 refl)) (and-then ! (load ! (from ! (stop !)) (look ! 20 refl)) (no-more !)))) (λ z-ended s-ended.
         let len-ended-list : length (z-ended .1 .0) ≡ length (z-unclosed .1 .1 .0) = s-ended .1 .0 in
         let says-ended : Ended (z-walk .1 .0) (z-unclosed .0) (z-unclosed .1 .1 .0) (z-ended .1 .0) (z-ended .0) = s-ended .1 .1 in
         land ! (from ! (stop !)) (init ! 9 refl (LL.lawful Record-T.the-type Record-L.the-laws 𝓤 H A W .typed (z-ended .0) _ (s-ended .0) .0)) $
-        returns-within ! Post refl (look ! 9 refl) $ move ! (8 ∷ 9 ∷ 10 ∷ 11 ∷ 12 ∷ 13 ∷ 14 ∷ 15 ∷ 16 ∷ 17 ∷ 18 ∷ 4 ∷ 19 ∷ 20 ∷ 21 ∷ 22 ∷ 23 ∷ 24 ∷ 25 ∷ 26 ∷ 27 ∷ 28 ∷ 29 ∷ 30 ∷ 31 ∷ 32 ∷ 33 ∷ 34 ∷ 35 ∷ 36 ∷ 37 ∷ 38 ∷ []) $ frees-any ! (full _ ∷ full _ ∷ full _ ∷ full _ ∷ full _ ∷ full _ ∷ full _ ∷ full _ ∷ full _ ∷ full _ ∷ full _ ∷ full _ ∷ full _ ∷ full _ ∷ full _ ∷ full _ ∷ full _ ∷ full _ ∷ full _ ∷ full _ ∷ full _ ∷ full _ ∷ full _ ∷ full _ ∷ full _ ∷ full _ ∷ full _ ∷ full _ ∷ full _ ∷ full _ ∷ full _ ∷ []) $ keep ! (4 ∷ 5 ∷ 1 ∷ 2 ∷ 6 ∷ 3 ∷ 0 ∷ []) $
+        returns-within ! Post refl (look ! 9 refl) $ move ! (8 ∷ 9 ∷ 10 ∷ 11 ∷ 12 ∷ 13 ∷ 14 ∷ 15 ∷ 16 ∷ 17 ∷ 18 ∷ 4 ∷ 19 ∷ 20 ∷ 21 ∷ 22 ∷ 23 ∷ 24 ∷ 25 ∷ 26 ∷ 27 ∷ 28 ∷ 29 ∷ 30 ∷ 31 ∷ 32 ∷ 33 ∷ 34 ∷ 35 ∷ 36 ∷ 37 ∷ 38 ∷ []) $ frees-any ! (full _ ∷ full _ ∷ full _ ∷ full _ ∷ full _ ∷ full _ ∷ full _ ∷ full _ ∷ full _ ∷ full _ ∷ full _ ∷ full _ ∷ full _ ∷ full _ ∷ full _ ∷ full _ ∷ full _ ∷ full _ ∷ full _ ∷ full _ ∷ full _ ∷ full _ ∷ full _ ∷ full _ ∷ full _ ∷ full _ ∷ full _ ∷ full _ ∷ full _ ∷ full _ ∷ full _ ∷ []) $ keep ! (4 ∷ 5 ∷ 1 ∷ 2 ∷ 6 ∷ 3 ∷ 0 ∷ []) $ 
         by ! (exits (z-ended .0) (z-walk .1 .1 .0) (z-unclosed .1 .0) (z-ended .1 .0) (s-ended .0) len-walk-seen (len-unclosed-opens ∙ len-walk-opens) (len-ended-list ∙ (len-unclosed-list ∙ (len-walk-list ∙ len-begun-list))) (ran-whole req (z-link-at .0) says-link-at (aroundOf (record { body = false; note = false; char = false })) refl list₀ (z-begun .1 .0) (z-begun .0) says-begun _ _ _ _ says-walk _ _ (says-unclosed .1) _ _ says-ended))))))))))))))))))))))))))))))))))))))))))
 
 run-meets : {M : Type 1} (𝓤 : URA M) (H : Heap 𝓤) (A : Atoms 𝓤) (W : Given 𝓤 H A) (at-mem : Memory → SProp 𝓤) (run : Routine → Fun 𝓤) (𝓣 : Tables 𝓤 H) → Triple 𝓤 (𝓣 .C #tape·link-at) (link-at-C.Con 𝓤 H A at-mem run) → Triple 𝓤 (𝓣 .C #marking·begun) (begun-C.Con 𝓤 H A at-mem run) → Triple 𝓤 (𝓣 .C #checker·walk) (walk-C.Con 𝓤 H A at-mem run) → Triple 𝓤 (𝓣 .C #closing·unclosed) (unclosed-C.Con 𝓤 H A at-mem run) → Triple 𝓤 (𝓣 .C #marking·ended) (ended-C.Con 𝓤 H A at-mem run) → Meets 𝓤 H A run-F.signature (WpFn 𝓤 H (𝓣 .C) (𝓣 .Λ) code.function) (run-F.spec 𝓤 H A at-mem run)
