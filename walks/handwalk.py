@@ -1404,7 +1404,7 @@ class Walk:
         # after
         e = {p.name: proj(z, 1 + f.muts.index(p)) if p in f.muts else dn[p.name] for p in f.params}
         nsl = [p for p in f.muts if p.kind == 'mut']
-        tot = 1 + len(nsl) + (1 if f.ens else 0)
+        tot = 2 + len(nsl)
         st.ctx = ['H-' + k for k in keys] + gam.ctx[1:]
         lets = ''
         ki = 0

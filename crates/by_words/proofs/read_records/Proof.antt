@@ -174,7 +174,7 @@ module _ {M : Type 1} (𝓤 : URA M) (H : Heap 𝓤) (A : Atoms 𝓤) (W : Given
         move ! (12 ∷ []) $ let req-record-at : 2 * (y100 .0) + 2 ≤ length (y100 .1 .0) = pair-inside _ _ _ test-0 (rw len-ws-100 (req .0)) in
         calls-any W fm (record-at-C.rule words-at (y100 .1 .0) (y100 .0)) ! ((refl, is-k-100), tt) req-record-at (λ cs. known-record-at (record-at-C.to words-at (y100 .1 .0) (y100 .0) 𝓤 H A at-mem run cs))
           (and-then ! (load ! (from ! (stop !)) (look ! 10 refl)) (and-then ! (load ! (from ! (stop !)) (look ! 6 refl)) (no-more !))) (λ z-record-at s-record-at.
-        let len-record-at-words : length (z-record-at .1 .0) ≡ length (y100 .1 .0) = s-record-at .1 in
+        let len-record-at-words : length (z-record-at .1 .0) ≡ length (y100 .1 .0) = s-record-at .1 .0 in
         land ! (from ! (stop !)) (init ! 7 refl (LL.lawful OpenStart-T.the-type OpenStart-L.the-laws 𝓤 H A W .typed (z-record-at .0) _ (s-record-at .0) .0)) $
         let fits-1 : ((y100 .0) * 8) < 2 ^ 64 = scaled _ _ _ (here _ _ _ test-0 (req .1)) opens-n (opens-room .1) in
         assigns ! (bin ! (load ! (from ! (stop !)) (look ! 6 refl)) (lit ! tt) (record { fits = fits-1 })) (from ! (stop !)) (init ! 11 refl (tt, record { fits = fits-1 })) $

@@ -188,7 +188,7 @@ module _ {M : Type 1} (𝓤 : URA M) (H : Heap 𝓤) (A : Atoms 𝓤) (W : Given
         move ! (15 ∷ []) $ let req-put-record : 2 * (y100 .0) + 2 ≤ length (y100 .1 .0) = pair-inside _ _ _ test-0 (rw len-ws-100 (req .0)) in
         calls-any W fm (put-record-C.rule words-at (y100 .1 .0) (y100 .0) (getD opens₀ (y100 .0) (noStart))) ! ((refl, is-k-100), (open-1, tt)) req-put-record (λ cs. known-put-record (put-record-C.to words-at (y100 .1 .0) (y100 .0) (getD opens₀ (y100 .0) (noStart)) 𝓤 H A at-mem run cs))
           (and-then ! (load ! (from ! (stop !)) (look ! 15 refl)) (and-then ! (load ! (from ! (stop !)) (look ! 7 refl)) (and-then ! (load ! (from ! (stop !)) (look ! 8 refl)) (no-more !)))) (λ z-put-record s-put-record.
-        let len-put-record-words : length (z-put-record .1 .0) ≡ length (y100 .1 .0) = s-put-record .1 in
+        let len-put-record-words : length (z-put-record .1 .0) ≡ length (y100 .1 .0) = s-put-record .1 .0 in
         land ! (from ! (stop !)) (init ! 13 refl (tt, tt)) $
         let fits-2 : ((y100 .0) + 1) < 2 ^ 64 = more-fits _ _ _ (here _ _ _ test-0 (req .1)) opens-n (opens-room .0) in
         assigns-last ! (bin ! (load ! (from ! (stop !)) (look ! 7 refl)) (lit ! tt) (record { fits = fits-2 })) (from ! (stop !)) (store ! 7 refl (tt, record { fits = fits-2 })) $
