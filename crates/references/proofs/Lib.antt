@@ -3,3 +3,4 @@ pub mod Hand
 pub mod Sizes
 pub mod Arrays
 pub mod Call
+pub mod Ends
