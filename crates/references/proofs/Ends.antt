@@ -19,10 +19,13 @@ use mir.Syntax.{Ty, Local, local, Fn, return, erased}
 use mir.Val.{Val, hasTy, WT}
 use base.Logic.{SProp, ent, sep, ex, emp, id⊢, via, fst∗, snd∗, mono∗, monoL, monoR}
 use base.Fml.{Fml, Lft, Share, ftrue, ffalse, feq, flt, fsep, fand, for, fwand, fex, fall, fupd, fat, froom, fdies, flft, fdead, fobs, fauth, fres, fbor, fobor, flent, fshr-bor}
-use prog.Wp.{Heap, Env, Calls, Loops, WpFn, returns as returnsᴼ, atReturn}
+use prog.Wp.{Heap, Env, Calls, Loops, WpFn, Closed, returns as returnsᴼ, atReturn}
+use prog.Model.{Model}
+use prog.Routine.{Name, Env as Named}
 use ghost.Atoms.{Atoms, sem}
 use contract.Monad.{Fun, fact, factI, fact-use}
 use contract.Lifetimes.{Lfts, Shares}
+use contract.Running.{Running, GhostRules, givenOf, tables}
 use types.Kit.{Given, Item, ‵, raw, some, given, later, Post, post, Seq, mean, ⋆, push, pop, ++⊢, ⊢++, Goal, allocs, params′, passes, runs, atRet, Sq, _⊛_, _$_, _∵_, !, qed, by, move, keep, drop, use0, use1, use2, split, join, fsplit, fsplit3, fjoin, feqI, suffices, frame, updating, now as at-once, show, done}
 use types.Run.{enter, alloc0, alloc1, params1, pass0, pass1, init, look, returns-within}
 use denote.Exit.{yes, Exit, unchanged, leaves as leavesᴱ, Last, left}
@@ -196,7 +199,7 @@ inputs (ref′ R ∷ ss) κs qs a = ((ref-at (κs .0) (qs .0) (a .0), a .0 .now)
 -- each parameter, and what is known of it
 abbrev pub Facing : (ss : List Sort) → (Inputs ss → Type 1) → Type 1
 Facing [] X = X tt
-Facing (val D ∷ ss) X = (d : D .row .Denot) → Is (D .row) d (D .val d ∷ []) → Facing ss (λ x. X (d, x))
+Facing (val D ∷ ss) X = (d : D .row .Denot) → D .fact d → Facing ss (λ x. X (d, x))
 Facing (shr R ∷ ss) X = (p : At) (ys : List (R .Denot)) → Room R (p .n) → p .n ≡ length ys → Facing ss (λ x. X ((p, ys), x))
 Facing (same R ∷ ss) X = (p : At) (ys : List (R .Denot)) → Room R (p .n) → p .n ≡ length ys → Facing ss (λ x. X ((p, ys), x))
 Facing (mut R ∷ ss) X = (p : At) (ys : List (R .Denot)) → Room R (p .n) → p .n ≡ length ys → Facing ss (λ x. X ((p, ys), x))
@@ -225,7 +228,7 @@ spelled κ (ref′ R ∷ ss) κs qs a vss g = λ i. (mut-tells erased (κs .0) R
 
 faced : (κ : Lft) (ss : List Sort) (X : Inputs ss → Type 1) → Facing ss X → (κs : Lfts (refs ss)) (qs : Shares (refs ss)) (a : Passed ss) → Related (given-by κ ss κs qs a) (Vss (given-by κ ss κs qs a)) → X (inputs ss κs qs a)
 faced κ [] X w κs qs a g = w
-faced κ (val D ∷ ss) X w κs qs a g = faced κ ss (λ x. X (a .0, x)) (w (a .0) (g .0)) κs qs (a .1) (g .1)
+faced κ (val D ∷ ss) X w κs qs a g = faced κ ss (λ x. X (a .0, x)) (w (a .0) (D .known (a .0) (g .0))) κs qs (a .1) (g .1)
 faced κ (shr R ∷ ss) X w κs qs a g = let p : At = slice-at (κs .0) (qs .0) (a .0) in faced κ ss (λ x. X ((p, a .0 .now), x)) (w p (a .0 .now) (g .0 .0 .1) refl) (κs .1) (qs .1) (a .1) (g .1)
 faced κ (same R ∷ ss) X w κs qs a g = let p : At = slice-at (κs .0) (qs .0) (a .0) in faced κ ss (λ x. X ((p, a .0 .now), x)) (w p (a .0 .now) (g .0 .0 .1) refl) (κs .1) (qs .1) (a .1) (g .1)
 faced κ (mut R ∷ ss) X w κs qs a g = let p : At = slice-at (κs .0) (qs .0) (a .0) in faced κ ss (λ x. X ((p, a .0 .now), x)) (w p (a .0 .now) (g .0 .0 .1) refl) (κs .1) (qs .1) (a .1) (g .1)
@@ -394,24 +397,52 @@ module _ {M : Type 1} (𝓤 : URA M) (H : Heap 𝓤) (A : Atoms 𝓤) (W : Given
   abbrev pub Walks : Inputs (F .sorts) → Type 1
   Walks x = Every (rule-of F x .requires) → Walked x
 
-  pub walks : (κs : Lfts (refs (F .sorts))) (qs : Shares (refs (F .sorts))) (a : Passed (F .sorts)) (vss : Each (rule-of F (inputs (F .sorts) κs qs a) .pars)) → TakesIn W (f .locals) (rule-of F (inputs (F .sorts) κs qs a) .pars) → Facing (F .sorts) Walks
-      → ent 𝓤 (Enters 𝓤 H A (rule-of F (inputs (F .sorts) κs qs a)) vss) (WpFn 𝓤 H C Λ f (flat-of (rule-of F (inputs (F .sorts) κs qs a) .pars) vss) (Leaves 𝓤 H A (rule-of F (inputs (F .sorts) κs qs a))))
-  walks κs qs a vss takes w =
-      let x : Inputs (F .sorts) = inputs (F .sorts) κs qs a in
-      let ρ : Rule = rule-of F x in
-      let κ : Lft = first-life (F .sorts) x in
-      let TO : SProp 𝓤 = sep 𝓤 (ToksIn 𝓤 H A (ρ .pars)) (sem 𝓤 H A (OwnsIn (ρ .pars) vss)) in
-      fact-use 𝓤 (Every (ρ .requires)) (via 𝓤 (clauses 𝓤 (ρ .requires)) (snd∗ 𝓤 TO (clauses 𝓤 (ρ .requires))) (hear-all 𝓤 (ρ .requires))) (λ req.
-      via 𝓤 TO (fst∗ 𝓤 TO (clauses 𝓤 (ρ .requires))) (
-      fact-use 𝓤 (Related (ρ .pars) vss) (via 𝓤 (sem 𝓤 H A (OwnsIn (ρ .pars) vss)) (snd∗ 𝓤 (ToksIn 𝓤 H A (ρ .pars)) (sem 𝓤 H A (OwnsIn (ρ .pars) vss))) (related 𝓤 H A (ρ .pars) vss)) (λ g.
-      let e : vss ≡ Vss (ρ .pars) = spelled κ (F .sorts) κs qs a vss g in
-      let g′ : Related (ρ .pars) (Vss (ρ .pars)) = subst (Related (ρ .pars)) e g in
-      subst (λ (us : Each (ρ .pars)). ent 𝓤 (sep 𝓤 (ToksIn 𝓤 H A (ρ .pars)) (sem 𝓤 H A (OwnsIn (ρ .pars) us))) (WpFn 𝓤 H C Λ f (flat-of (ρ .pars) us) (Leaves 𝓤 H A ρ))) (sym e)
-      (subst (λ (vs : List Val). ent 𝓤 (sep 𝓤 (ToksIn 𝓤 H A (ρ .pars)) (sem 𝓤 H A (OwnsIn (ρ .pars) (Vss (ρ .pars))))) (WpFn 𝓤 H C Λ f vs (Leaves 𝓤 H A ρ))) (sym (flat-Vss (ρ .pars)))
-      (via 𝓤 (⋆ 𝓤 H A (Held 𝓤 H A (ρ .pars))) (take-up 𝓤 H A W (ρ .pars)) (qed W (Held 𝓤 H A (ρ .pars)) ∵ enter ! C Λ f (Vs (ρ .pars)) (Leaves 𝓤 H A ρ) $
-      begin-all W (f .locals) (ρ .pars) (λ E. runs C Λ E (f .body) (atRet E (Leaves 𝓤 H A ρ))) (Held 𝓤 H A (ρ .pars)) takes (fitting κ (F .sorts) κs qs a g′) (faced κ (F .sorts) Walks w κs qs a g′ req)))))))
+  module _ (κs : Lfts (refs (F .sorts))) (qs : Shares (refs (F .sorts))) (a : Passed (F .sorts)) where
+    abbrev xᵢ : Inputs (F .sorts)
+    xᵢ = inputs (F .sorts) κs qs a
+
+    abbrev ρᵢ : Rule
+    ρᵢ = rule-of F xᵢ
+
+    walk-from : (vss : Each (ρᵢ .pars)) → TakesIn W (f .locals) (ρᵢ .pars) → (Related (ρᵢ .pars) (Vss (ρᵢ .pars)) → Walks xᵢ) → ent 𝓤 (Enters 𝓤 H A ρᵢ vss) (WpFn 𝓤 H C Λ f (flat-of (ρᵢ .pars) vss) (Leaves 𝓤 H A ρᵢ))
+    walk-from vss takes w =
+        let TO : SProp 𝓤 = sep 𝓤 (ToksIn 𝓤 H A (ρᵢ .pars)) (sem 𝓤 H A (OwnsIn (ρᵢ .pars) vss)) in
+        let κ : Lft = first-life (F .sorts) xᵢ in
+        fact-use 𝓤 (Every (ρᵢ .requires)) (via 𝓤 (clauses 𝓤 (ρᵢ .requires)) (snd∗ 𝓤 TO (clauses 𝓤 (ρᵢ .requires))) (hear-all 𝓤 (ρᵢ .requires))) (λ req.
+        via 𝓤 TO (fst∗ 𝓤 TO (clauses 𝓤 (ρᵢ .requires))) (
+        fact-use 𝓤 (Related (ρᵢ .pars) vss) (via 𝓤 (sem 𝓤 H A (OwnsIn (ρᵢ .pars) vss)) (snd∗ 𝓤 (ToksIn 𝓤 H A (ρᵢ .pars)) (sem 𝓤 H A (OwnsIn (ρᵢ .pars) vss))) (related 𝓤 H A (ρᵢ .pars) vss)) (λ g.
+        let e : vss ≡ Vss (ρᵢ .pars) = spelled κ (F .sorts) κs qs a vss g in
+        let g′ : Related (ρᵢ .pars) (Vss (ρᵢ .pars)) = subst (Related (ρᵢ .pars)) e g in
+        subst (λ (us : Each (ρᵢ .pars)). ent 𝓤 (sep 𝓤 (ToksIn 𝓤 H A (ρᵢ .pars)) (sem 𝓤 H A (OwnsIn (ρᵢ .pars) us))) (WpFn 𝓤 H C Λ f (flat-of (ρᵢ .pars) us) (Leaves 𝓤 H A ρᵢ))) (sym e)
+        (subst (λ (vs : List Val). ent 𝓤 (sep 𝓤 (ToksIn 𝓤 H A (ρᵢ .pars)) (sem 𝓤 H A (OwnsIn (ρᵢ .pars) (Vss (ρᵢ .pars))))) (WpFn 𝓤 H C Λ f vs (Leaves 𝓤 H A ρᵢ))) (sym (flat-Vss (ρᵢ .pars)))
+        (via 𝓤 (⋆ 𝓤 H A (Held 𝓤 H A (ρᵢ .pars))) (take-up 𝓤 H A W (ρᵢ .pars)) (qed W (Held 𝓤 H A (ρᵢ .pars)) ∵ enter ! C Λ f (Vs (ρᵢ .pars)) (Leaves 𝓤 H A ρᵢ) $
+        begin-all W (f .locals) (ρᵢ .pars) (λ E. runs C Λ E (f .body) (atRet E (Leaves 𝓤 H A ρᵢ))) (Held 𝓤 H A (ρᵢ .pars)) takes (fitting κ (F .sorts) κs qs a g′) (w g′ req)))))))
+
+    pub walks : (vss : Each (ρᵢ .pars)) → TakesIn W (f .locals) (ρᵢ .pars) → Facing (F .sorts) Walks → ent 𝓤 (Enters 𝓤 H A ρᵢ vss) (WpFn 𝓤 H C Λ f (flat-of (ρᵢ .pars) vss) (Leaves 𝓤 H A ρᵢ))
+    walks vss takes w = walk-from vss takes (λ g. faced (first-life (F .sorts) xᵢ) (F .sorts) Walks w κs qs a g)
+
+    -- a walk under what else is known of what is passed, as in a cycle of calls
+    pub walks-under : (P : Inputs (F .sorts) → Type 1) → P xᵢ → (vss : Each (ρᵢ .pars)) → TakesIn W (f .locals) (ρᵢ .pars) → Facing (F .sorts) (λ x. P x → Walks x) → ent 𝓤 (Enters 𝓤 H A ρᵢ vss) (WpFn 𝓤 H C Λ f (flat-of (ρᵢ .pars) vss) (Leaves 𝓤 H A ρᵢ))
+    walks-under P p vss takes w = walk-from vss takes (λ g. faced (first-life (F .sorts) xᵢ) (F .sorts) (λ x. P x → Walks x) w κs qs a g p)
+
+-- a function's theorem, at its own entry
+module _ {M : Type 1} (𝓤 : URA M) (H : Heap 𝓤) (𝓜 : Model 𝓤 H) (𝓖 : GhostRules 𝓤 H) (𝓡 : Running 𝓤 H 𝓜) (γ : Named) where
+  pub proves : (k : Name) (f : Fn) → Closed 𝓤 H (tables 𝓤 H 𝓜 𝓡 γ .C) (tables 𝓤 H 𝓜 𝓡 γ .Λ) k f → (F : Terms) (κs : Lfts (refs (F .sorts))) (qs : Shares (refs (F .sorts))) (a : Passed (F .sorts)) (vss : Each (rule-of F (inputs (F .sorts) κs qs a) .pars))
+      → TakesIn (givenOf 𝓤 H 𝓜 𝓖) (f .locals) (rule-of F (inputs (F .sorts) κs qs a) .pars) → Facing (F .sorts) (Walks 𝓤 H (𝓖 .A) (givenOf 𝓤 H 𝓜 𝓖) (tables 𝓤 H 𝓜 𝓡 γ .C) (tables 𝓤 H 𝓜 𝓡 γ .Λ) f F)
+      → ent 𝓤 (Enters 𝓤 H (𝓖 .A) (rule-of F (inputs (F .sorts) κs qs a)) vss) (tables 𝓤 H 𝓜 𝓡 γ .C k (flat-of (rule-of F (inputs (F .sorts) κs qs a) .pars) vss) (Leaves 𝓤 H (𝓖 .A) (rule-of F (inputs (F .sorts) κs qs a))))
+  proves k f closed F κs qs a vss takes w = via 𝓤 _ (walks 𝓤 H (𝓖 .A) (givenOf 𝓤 H 𝓜 𝓖) (tables 𝓤 H 𝓜 𝓡 γ .C) (tables 𝓤 H 𝓜 𝓡 γ .Λ) f F κs qs a vss takes w) (closed _ _)
 
 -- ---- the return
+-- the locals of a function at their blocks
+abbrev pub env-of : List Local → List ℕ → List (Ty × ℕ)
+env-of [] bs = []
+env-of (local τ h ∷ ls) [] = []
+env-of (local τ h ∷ ls) (b ∷ bs) = (τ, b) ∷ env-of ls bs
+
+-- where a walk stands: a fact, that the locals E may end, their cells, and what is held
+abbrev pub Stands : {M : Type 1} (𝓤 : URA M) (H : Heap 𝓤) → Type 0 → Env 𝓤 H → List (Option Val) → List (Item 𝓤) → List (Item 𝓤)
+Stands 𝓤 H φ E vs Γ = raw (fact 𝓤 φ) ∷ Dying 𝓤 H E ∷ (Cells 𝓤 H E vs ++ Γ)
+
 -- k, k + 1, .. (n of them), and then the rest
 abbrev pub span : ℕ → ℕ → List ℕ → List ℕ
 span k zero is = is
