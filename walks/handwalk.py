@@ -127,8 +127,6 @@ class UInt:
     lawful = property(lambda s: 'uint-lawful 𝓤 H A W w%d' % s.w)
     ret = property(lambda s: 'of-number w%d' % s.w)
 
-    def par(s, d):
-        return 'number w%d %s' % (s.w, P(d))
     zero = '0'
 
 class Bool:
@@ -136,8 +134,6 @@ class Bool:
     D = 'Bool'
     ret = 'of-truth'
 
-    def par(s, d):
-        return 'truth ' + P(d)
 
     makes = 'bool-makes 𝓤 H A W'
     vals = 'bool-vals'
@@ -208,10 +204,8 @@ class Named:
 
     def of_is(s, i):
         return i
-    ret = property(lambda s: 'of-%s %s-T.the-type %s-T.Laws.the-laws' % (s.kind, s.n, s.n))
+    ret = property(lambda s: 'of-%s %s-T.the-type %s-T.Laws.the-laws %s-T.Laws.the-plain%s' % (s.kind, s.n, s.n, s.n, ' tt' if s.kind == 'enum' else ''))
 
-    def par(s, d):
-        return '%s %s-T.the-type %s-T.Laws.the-laws %s-T.Laws.the-plain %s' % (s.kind, s.n, s.n, s.n, P(d))
     makes = property(lambda s: '%s.makes %s-T.the-type %s-L.the-plain 𝓤 H A' % (s.LL, s.n, s.n))
     vals = property(lambda s: '(%s.vals %s-T.the-type %s-L.the-laws)' % (s.LL, s.n, s.n))
     tells = property(lambda s: '(%s.tells %s-T.the-type %s-L.the-laws)' % (s.LL, s.n, s.n))
@@ -522,29 +516,25 @@ class Crate:
             'use types.Match.{vrt, look-tag, in-variant}',
             'use types.Part.{agg, whole, sub, look-in, store-in}',
             'use sound.WpLaws.{FmC, fmOf, WpFn-mono}',
-            'use denote.RattleType.{owns}',
             'use denote.Laws.{Is, shows}',
             'use denote.Memory.{mem, cellAt, pointee}',
             'use denote.Plain.{uint-vals, uint-tells, uint-makes, bool-vals, bool-tells, bool-makes, nothing-vals, nothing-tells, nothing-makes}',
             'use denote.Builtin.{u8, u16, u32, u64, usize, bool, unit}',
             'use denote.Ref.{RefT, MutRef, ptr-vals, mut-tells}',
             'use denote.Slice.{Room as SizeOf, sliceTy, MutSlice, ShrSlice, slice-vals, mut-slice-tells, shr-slice-tells}',
-            'use denote.Signature.{plain}',
             'use denote.Index.{place-is}',
             'use denote.Steps.{only, owned, facts, heard, nothing}',
             'use denote.Struct.Laws as LL',
             'use denote.Enum.Laws as EL',
             'use denote.Triple.Statement.{Contract, Triple}',
-            'use denote.Triple.Clauses.{ensured, lasts}',
-            'use denote.Triple.Entry.{onEntry}',
             'use denote.Triple.Spec.{Meets, tripleOf}',
             'use denote.Triple.Table.{entered, cited}',
             'use denote.Triple.Cycle.{measured, at-on, mutual-elim, AllBelow}',
-            'use denote.Triple.Walked.{says, needs, Stays, stay-none, stay-none-slice, stay-ref, stay-slice, walkOf, goes-none, goes-none-slice, goes-ref, goes-slice, Walks, ends-at as exit-at, walked, walk-meets, walked-at, walk-meets-at}',
-            'use denote.Exit.{yes}',
             'use %s.{if-then, skip-then, exit-then, switch-then, assoc-then, loop-then, meets-at, frees-any}' % s.law('Flow'),
             'use %s.{At, lent as relent, ptrVal, fatVal, ref, HasRef, HasMut, HasShr, KeptRef, KeptMut, KeptShr, OpenRef, OpenAt, lend-ref, back-ref, lend-mut, back-mut, lend-shr, back-shr, open-ref, shut-ref, open-at, shut-at, back-at}' % s.law('Hand'),
-            'use %s.{calls-any, calls-any-last}' % s.law('Call'),
+            'use %s.{Inputs, Rule, rule-of, Met, Knows, bound-at, calls-any, calls-any-last, calls-met, calls-met-last}' % s.law('Call'),
+            'use %s.{Facing, Walks, Walked, Leaves, walks-under, proves, ends, say, span, env-of, Stands, Dying}' % s.law('Ends'),
+            'use types.Kit.{Sq}', 'use mathlib.Core.List.{_++_}', 'use lib.ListN.{take, drop as skip}', 'use lib.Seq.{length-take-le}', 'use %s.{part, KeptPart, lend-part, back-part, part-length, room-le, local, KeptLocal, lend-local, back-local}' % s.law('Hand'), 'use %s.{ne-of, is-true, is-false}' % s.law('Flow'), 'use denote.Index.{place}', 'use lib.Dec.{nleb→lt}',
             'use denote.Slice.{sliceVal}',
             'use mir.Syntax.{tyArray}',
             'use %s.{Filled, as-long, array, ArrayAt, KeptArray, KeptArrayShr, lend-array, back-array, lend-array-shr, back-array-shr, free-array, fills-array, needs-by, and-fact, last-fact}' % s.law('Arrays'),
@@ -590,36 +580,36 @@ class Crate:
         at = 'Rattle.%s.proofs' % s.shared[name] if name in s.shared else 'Rattle.%s.proofs' % s.name
         return '%s.Call%s' % (at, camel(name))
 
-    def par(s, p):
-        """a parameter, as an entry of `pars`"""
+    def sort(s, p):
+        """a parameter, as an entry of `sorts`"""
         if p.kind == 'val':
-            return p.ty.par(p.v)
-        return '%s %s %s %s' % ({'ref': 'by-ref', 'mut': 'by-mut', 'shr': 'by-same' if p.owner is not p else 'by-shr'}[p.kind], p.ty.row, p.at, p.v) + (' (%s .κ)' % p.owner.at if p.owner is not p else '')
+            return 'val (%s)' % p.ty.ret
+        return '%s %s' % ({'ref': 'ref′', 'mut': 'mut', 'shr': 'same' if p.owner is not p else 'shr'}[p.kind], p.ty.row)
 
     def call_file(s, name, uses=()):
         f = s.by_name(name)
         k = dash(name)
         if [p.life for p in f.owners] != sorted(p.life for p in f.owners) or [p for p in f.refs if p.owner is p] != f.owners:
             raise Exception('%s: its lifetimes are not in the order of its parameters' % name)
+        if any(p.owner is not f.refs[0] for p in f.sharers):
+            raise Exception('%s: a lifetime is shared that is not the first reference\'s' % name)
         d = {p.name: p.v for p in f.params}
         e = {p.name: proj('z', f.muts.index(p)) if p in f.muts else p.v for p in f.params}
         mod = s.mod(f)
-        bind = s.binders(f)
+        vs = [p.v for p in f.params]
         model = '{M : Type 1} (𝓤 : URA M) (H : Heap 𝓤) (A : Atoms 𝓤) (at-mem : Memory → SProp 𝓤) (run : Routine → Fun 𝓤)'
-        o = ['abbrev pub Con : %s → Contract 𝓤\nCon 𝓤 H A at-mem run = tripleOf 𝓤 H A %s-F.signature (%s-F.spec 𝓤 H A at-mem run)\n' % (model, k, k)]
-        o.append('module _ %s where' % bind if bind else 'module _ where')
-        o.append('  abbrev pub rule : Rule\n  rule = record {')
-        o.append('    name = %s-F.Symbol.name;' % k)
-        o.append('    pars = %s;' % L([s.par(p) for p in f.params]))
-        o.append('    result = %s;' % f.res.ret)
-        o.append('    requires = %s;' % L([P(x) for x in s.facts(f, f.req, d)]))
-        o.append('    ensures = λ r z. %s;' % L([P(x) for x in s.facts(f, f.ens, d, e, 'r')]))
-        o.append('  }\n')
-        o.append('  abbrev pub to : %s → Chosen (rule .pars) → Con 𝓤 H A at-mem run .Ghost' % model)
-        o.append('  to 𝓤 H A at-mem run cs = ((Ks (rule .pars) cs, Qs (rule .pars) cs, tt, As (rule .pars) cs, Vss (rule .pars)), tt)\n')
+        o = ['abbrev pub terms : Terms\nterms = record {']
+        o.append('  name = %s-F.Symbol.name;' % k)
+        o.append('  sorts = %s;' % L([s.sort(p) for p in f.params]))
+        o.append('  result = %s;' % f.res.ret)
+        o.append('  requires = %s%s;' % ('λ %s. ' % ' '.join(vs) if vs else '', L([P(x) for x in s.facts(f, f.req, d)])))
+        o.append('  ensures = λ %s. %s;' % (' '.join(vs + ['r', 'z']), L([P(x) for x in s.facts(f, f.ens, d, e, 'r')])))
+        o.append('}\n')
+        o.append('pub known : %s (C : Calls 𝓤 H) → Triple 𝓤 (C %s-F.Symbol.name) (tripleOf 𝓤 H A %s-F.signature (%s-F.spec 𝓤 H A at-mem run)) → Knows 𝓤 H A C terms' % (model, k, k, k))
+        o.append('known 𝓤 H A at-mem run C holds x cs = holds (bound-at (rule-of terms x .pars) cs)\n')
         body = '\n'.join(o)
-        us = ['use %s.{_≡_, ℕ, zero, suc, _<_, _≤_, _^_, _+_, _-_, _*_, _/_, _%%_, Bool, true, false, not, _⊎_, inl, inr, List, [], _∷_, length, getD, set, URA, w8, w16, w32, w64, SProp, Memory, Routine, Heap, Atoms, Fun, u8, u16, u32, u64, usize, bool, unit, Contract, tripleOf, At, Rule, by-shr, by-same, by-mut, by-ref, number, truth, struct, enum, of-number, of-truth, of-nothing, of-struct, of-enum, Chosen, Ks, Qs, As, Vss}' % s.law('Call')] + s.type_uses() + list(uses) + ['use %s as %s-F' % (mod, k)]
-        head = '-- The contract of `%s::%s`, for `calls-any`: what is passed, what is asked, and what is said of the result r and of the last values z.' % (f.crate, name)
+        us = ['use %s.{_≡_, ℕ, zero, suc, _<_, _≤_, _^_, _+_, _-_, _*_, _/_, _%%_, Bool, true, false, not, _⊎_, inl, inr, List, [], _∷_, length, getD, set, URA, w8, w16, w32, w64, SProp, Memory, Routine, Heap, Calls, Atoms, Fun, u8, u16, u32, u64, usize, bool, unit, Triple, tripleOf, Terms, val, shr, same, mut, ref′, of-number, of-truth, of-nothing, of-struct, of-enum, Knows, bound-at, rule-of}' % s.law('Call')] + s.type_uses() + list(uses) + ['use %s as %s-F' % (mod, k)]
+        head = '-- The contract of `%s::%s`, for its own walk and for the walks that call it: what is passed, what is asked, and what is said of the result r and of the last values z. `known` shows that it is the contract.' % (f.crate, name)
         path = '%s/proofs/Call%s.antt' % (s.dir, camel(name))
         open(path, 'w').write('\n'.join([head] + trim(us, body)) + '\n\n' + body)
         return path
@@ -748,6 +738,21 @@ class St:
         t = 'move ! (%s) $ ' % L([str(s.pos(l)) for l in ls])
         s.ctx = list(ls) + [x for x in s.ctx if x not in ls]
         return t
+
+def spans(xs):
+    """a list of positions, rows of them by `span`"""
+    o = []
+    i = 0
+    while i < len(xs):
+        j = i
+        while j + 1 < len(xs) and xs[j + 1] == xs[j] + 1:
+            j += 1
+        o.append((xs[i], j - i + 1))
+        i = j + 1
+    r = '[]'
+    for k, n in reversed(o):
+        r = 'span %d %d %s' % (k, n, P(r)) if n > 3 else ' ∷ '.join(str(k + m) for m in range(n)) + ' ∷ ' + r
+    return r
 
 def norm(b):
     """MIR s-expression to tuples"""
@@ -1054,6 +1059,13 @@ class Walk:
 
     def let(s, name, T, pf):
         return 'let %s : %s = %s in%s' % (name, T, pf, s.nl)
+
+    def env(s):
+        return 'env-of (%s .locals) (%s)' % (s.fn, L(['l%d' % i for i in range(s.n)]))
+
+    def head(s, body):
+        """what a definition names before its statements"""
+        return s.let('E', 'Env 𝓤 H', s.env()) if re.search('(?<![^\\s(])E(?![^\\s)])', body) else ''
 
     def arith(s, i, what, default='omega arith'):
         key = '_%d' % i
@@ -1375,26 +1387,27 @@ class Walk:
         own = [p.name for p in s.f.sharers]
         for p, v in zip(f.params, vs):
             if p.isref:
-                args += [P(v.at), P(st.has[v.key])]
+                args.append('(%s, %s)' % (v.at, st.has[v.key]))
                 if p in f.sharers:
                     facts.append('same-' + dash(v.key) if v.key in own else 'refl')
             else:
-                args.append(P(v.den))
+                args.append(v.den)
                 facts.append(p.ty.isP(v.den, v.fact))
         dn = {p.name: st.has[v.key] if p.isref else v.den for p, v in zip(f.params, vs)}
         reqT = s.cr.says(f, f.req, dn) if f.req else None
         if reqT:
             pre += s.let('req-%s' % lab, reqT, s.fill(d.get('req', 'omega arith'), st))
         req = pairs([flat_at('req-%s' % lab, i_, len(f.req)) for i_ in range(len(f.req))])
-        to = '(%s-C.to %s)' % (kk, ' '.join(args + ['𝓤 H A at-mem run cs']))
+        xs_ = tup(args)
         if s.cycle and g in s.cycle['members']:
             mu = s.fillp(s.cycle['measures'][g], f, dn)
             mu0 = s.fillp(s.cycle['measures'][s.name], s.f, {p.name: p.v for p in s.f.params})
             pre += s.let('less-%s' % lab, '%s < %s' % (mu, mu0), s.fill(d.get('less', 'omega arith'), st))
-            met = 'self-%s %s less-%s' % (kk, to, lab)
+            pre += s.let('x-%s' % lab, 'Inputs (%s-C.terms .sorts)' % kk, xs_)
+            xs_ = 'x-%s' % lab
+            rule, met = ('met', '(self-%s x-%s less-%s)' % (kk, lab, lab))
         else:
-            met = 'known-%s %s' % (kk, to)
-        met = '(λ cs. %s)' % met
+            rule, met = ('any', 'known-%s' % kk)
         z = 'z-' + lab
         sv = 's-' + lab
         # after
@@ -1423,7 +1436,7 @@ class Walk:
         res = V('plain', f.res, '%s .0' % z, P(f.res.of_is(P(conj_at(sv, 0, tot)))))
         i = int(a[3][1])
         w = s.put(i, res, st)
-        out = pre + 'calls-any%s W fm %s ! %s %s %s%s%s' % (last, P(' '.join(['%s-C.rule' % kk] + args)), tup(facts), req, met, s.nl + '  ', ops) + ' (λ %s %s.' % (z, sv) + s.nl + lets + 'land%s ! (from ! (stop !)) %s $' % (last, w) + s.nl
+        out = pre + 'calls-%s%s W 𝓣 %s-C.terms %s ! %s %s %s%s%s' % (rule, last, kk, xs_, tup(facts), req, met, s.nl + '  ', ops) + ' (λ %s %s.' % (z, sv) + s.nl + lets + 'land%s ! (from ! (stop !)) %s $' % (last, w) + s.nl
         st.cells[i] = res
         for p, v in zip(f.params, vs):
             if p.isref and getattr(v, 'array', None):
@@ -1507,7 +1520,7 @@ class Walk:
             arm2 = s.run(('seq', a[3], jn), st.copy())
             after = s.run(rest, st2)
             x, v = s.operand(a[1], st)
-            return 'meets-at ! (λ (x%d : %s). %s) (λ x%d. heard ! (%s) (λ j%d.' % (n, cut['X'], cut['items'], n, cut['phi'], n) + s.nl + cut['lets'] + after + '))' + s.nl + '(λ after-%d. if-then ! %s' % (n, x) + s.nl + '(λ h%d. %s%s)' % (n, s.lettest(v, 'h%d' % n, True, n), arm1) + s.nl + '(λ h%d. %s%s))' % (n, s.lettest(v, 'h%d' % n, False, n), arm2)
+            return s.fact_let(cut) + 'meets-at ! (λ (x%d : %s). %s) (λ x%d. heard ! (%s x%d) (λ j%d.' % (n, cut['X'], cut['items'], n, cut['fn'], n, n) + s.nl + cut['lets'] + after + '))' + s.nl + '(λ after-%d. if-then ! %s' % (n, x) + s.nl + '(λ h%d. %s%s)' % (n, s.lettest(v, 'h%d' % n, True, n), arm1) + s.nl + '(λ h%d. %s%s))' % (n, s.lettest(v, 'h%d' % n, False, n), arm2)
         if rest is None:
             arm1 = s.run(a[2], st.copy())
             arm2 = s.run(a[3], st.copy())
@@ -1595,7 +1608,7 @@ class Walk:
             where[src] = name
         byc = {b: nm for nm, b in vs if isinstance(b, int)}
         byh = {b: nm for nm, b in vs if not isinstance(b, int)}
-        items = ['raw (fact 𝓤 (%s))' % phi, 'DIES']
+        cells = []
         for i in range(s.n):
             if i in byc:
                 ty = s.mty(s.locals[i]) if s.locals[i] != 'tyBool' else Bool()
@@ -1604,15 +1617,27 @@ class Walk:
                 n.cells[i] = None
             else:
                 n.cells[i] = st.cells[i]
-            items.append('‵ (froom τ%d l%d 0)' % (i, i) if n.cells[i] is None else n.cells[i].ty.at('l%d' % i, n.cells[i].den) if n.cells[i].kind == 'array' else '‵ (fat fullShare τ%d l%d 0 (%s))' % (i, i, n.cells[i].val()))
+        held = []
         for k in st.has:
             if k in byh:
                 n.has[k] = term[byh[k]]
             if ('len', k) in where:
                 n.len[k] = where['len', k]
-            items.append(s.par[k].has(s.par[k].at, n.has[k]))
-        items[1] = 'Dead %s' % ' '.join(('l%d' % i for i in range(s.n)))
-        return dict(st=n, X=tupT(Xs), phi=phi, items=L(items), lets=lets, vars=vs, facts=facts, x=x, jd=jd, order=n.ctx, cells=n.cells, changed=changed)
+            held.append(s.par[k].has(s.par[k].at, n.has[k]))
+        X = tupT(Xs)
+        fn = 'φ-' + x[1:]
+        if any(v is not None and v.kind == 'array' for v in n.cells.values()):
+            items = ['raw (fact 𝓤 (%s %s))' % (fn, x), 'Dying 𝓤 H E'] + ['‵ (froom τ%d l%d 0)' % (i, i) if v is None else v.ty.at('l%d' % i, v.den) if v.kind == 'array' else '‵ (fat fullShare τ%d l%d 0 (%s))' % (i, i, v.val()) for i, v in sorted(n.cells.items())] + held
+            items = L(items)
+        else:
+            vals = ['empty' if n.cells[i] is None else 'full (%s)' % n.cells[i].val() for i in range(s.n)]
+            while vals and vals[-1] == 'empty':
+                vals.pop()
+            items = 'Stands 𝓤 H (%s %s) E (%s) (%s)' % (fn, x, L(vals), L(held))
+        return dict(st=n, X=X, phi=phi, fn=fn, items=items, lets=lets, vars=vs, facts=facts, x=x, jd=jd, order=n.ctx, cells=n.cells, changed=changed)
+
+    def fact_let(s, cut):
+        return s.let(cut['fn'], '%s → Type 0' % P(cut['X']), 'λ %s. %s' % (cut['x'], cut['phi']))
 
     def reach(s, cut, st, proof):
         """from the context at hand to the cut's: text, and the tuple of values"""
@@ -1635,13 +1660,9 @@ class Walk:
             else:
                 pf.append(P(s.fill(proof, st)))
         xval = tup(vals)
-        phi = cut['phi']
-        for idx in reversed(range(len(vals))):
-            phi = phi.replace('(%s)' % proj(cut['x'], idx), '\x00V%d\x01' % idx)
-        phi = re.sub('\x00V(\\d+)\x01', lambda m: P(vals[int(m[1])]), phi)
-        t += 'use0 W (raw (fact 𝓤 (%s))) (factI 𝓤 (%s) (emp 𝓤) %s) $' % (phi, phi, P(pairs(pf))) + s.nl
+        t += 'say ! (%s %s) %s $ ' % (cut['fn'], xval, P(pairs(pf)))
         st.ctx = ['F'] + st.ctx
-        t += 'keep ! (%s) $ ' % L([str(st.pos(l)) for l in ['F'] + cut['order']])
+        t += 'keep ! (%s) $ ' % spans([st.pos(l) for l in ['F'] + cut['order']])
         return (t, xval)
 
     def to_cut(s, K, c, st, jd):
@@ -1660,7 +1681,9 @@ class Walk:
             s.begun = K
             body = s.run(c, cut['st'].copy())
             ls = ' '.join(('l%d' % i for i in range(s.n)))
-            s.lemmas.append('    cut-%d : (%s : ℕ) (%s : %s) → Sq W (%s) (runs (𝓣 .C) (𝓣 .Λ) (Envs %s) mir-of.t-%d (atRet (Envs %s) Post))\n    unfolding afterTurn\n    cut-%d %s %s = heard ! (%s) (λ %s.' % (K, ls, x, cut['X'], cut['items'], ls, K, ls, K, ls, x, cut['phi'], 'j' + x[1:]) + s.nl + cut['lets'] + body + ')\n')
+            E = s.env()
+            s.lemmas.append('  abbrev %s : %s → Type 0\n  %s %s = %s\n' % (cut['fn'], P(cut['X']), cut['fn'], x, cut['phi']))
+            s.lemmas.append('  cut-%d : (%s : ℕ) (%s : %s) → Sq W (%s) (runs (𝓣 .C) (𝓣 .Λ) (%s) mir-of.t-%d (atRet (%s) (Leaves 𝓤 H A ρ)))\n  unfolding afterTurn\n  cut-%d %s %s =%s%sheard ! (%s %s) (λ %s.' % (K, ls, x, cut['X'], re.sub('(?<![^\\s(])E(?![^\\s)])', '(%s)' % E, cut['items']), E, K, E, K, ls, x, s.nl, s.head(body), cut['fn'], x, 'j' + x[1:]) + s.nl + cut['lets'] + body + ')\n')
         cut = s.cutmade[K]
         pf = jd['reach'][n - 1] if isinstance(jd['reach'], list) else jd['reach']
         t, xv = s.reach(cut, st, pf)
@@ -1680,17 +1703,14 @@ class Walk:
         x = 'y%d' % (100 + n)
         cut = s.cut(jd, st, assigned(body), x)
         t, x0 = s.reach(cut, st, jd['start'])
-        mus = lambda v: re.sub('\\$(\\w+)', lambda m: dict(((nm, '(%s)' % proj(v, i)) for i, (nm, b) in enumerate(cut['vars']))).get(m[1]) or s.par[m[1]].v, jd['measure'])
-        s.mus = getattr(s, 'mus', [])
-        s.mus.append((n, cut['X'], mus('y')))
-        mu = '(μ-loop-%d)' % n
-        less = '(λ (a b : %s). μ-loop-%d a < μ-loop-%d b)' % (cut['X'], n, n)
-        inv = '(λ (%s : %s). %s)' % (x, cut['X'], cut['items'])
+        mu = re.sub('\\$(\\w+)', lambda m: dict(((nm, '(%s)' % proj('y', i)) for i, (nm, b) in enumerate(cut['vars']))).get(m[1]) or s.par[m[1]].v, jd['measure'])
+        X = cut['X']
+        pre = s.fact_let(cut) + s.let('μ-%d' % n, '%s → ℕ' % P(X), 'λ y. ' + mu) + s.let('less-%d' % n, '%s → %s → Type 0' % (P(X), P(X)), 'λ a b. μ-%d a < μ-%d b' % (n, n)) + s.let('I-%d' % n, '%s → List (Item 𝓤)' % P(X), 'λ %s. %s' % (x, cut['items']))
         old = getattr(s, 'inloop', None)
-        s.inloop = dict(cut=cut, jd=jd, less=less, inv=inv, x=x, rest=rest, n=n, outer=old, mu=mu)
+        s.inloop = dict(cut=cut, jd=jd, less='less-%d' % n, inv='I-%d' % n, x=x, rest=rest, n=n, outer=old)
         turn = s.run(body, cut['st'].copy())
         s.inloop = old
-        return t + s.nl + 'loop-then ! 𝓣 %s (InvImage·wf %s (Nat·lt-wfRel .wf)) %s (λ %s leave-%d. heard ! (%s) (λ %s.' % (less, mu, inv, x, n, cut['phi'], 'j' + x[1:]) + s.nl + cut['lets'] + turn + ')) %s' % x0
+        return pre + t + s.nl + 'loop-then ! 𝓣 less-%d (InvImage·wf μ-%d (Nat·lt-wfRel .wf)) I-%d (λ %s leave-%d. heard ! (%s %s) (λ %s.' % (n, n, n, x, n, cut['fn'], x, 'j' + x[1:]) + s.nl + cut['lets'] + turn + ')) %s' % x0
 
     def leave(s, n, st):
         lp = s.inloop
@@ -1703,8 +1723,6 @@ class Walk:
             ls = ls[k - 1] if isinstance(ls, list) else ls
             lsT = s.fill(ls, st)
             t, x1 = s.reach(lp['cut'], st, ag)
-            m1 = lp['jd']['measure']
-            vals = dict(((nm, None) for nm, _ in lp['cut']['vars']))
             return t + 'again ! %s %s %s %s %s' % (lp['less'], lp['inv'], lp['x'], x1, P(lsT))
         # the loop is left
         if n == 1:
@@ -1722,7 +1740,9 @@ class Walk:
         """the proof of several `ensures`: a tuple `(a, b, c)`, or a list, or a dict by the clauses' names"""
         if isinstance(pf, dict):
             pf = [pf[n] for n in s.f.ens_names]
-        return flat(list(pf)) if isinstance(pf, (list, tuple)) else pf
+        if len(s.f.ens) > 2 and not isinstance(pf, (list, tuple)):
+            raise Exception('%s: a proof for each ensures' % s.name)
+        return pairs(list(pf)) if isinstance(pf, (list, tuple)) else pf
     # ---- the return
 
     def ret(s, st):
@@ -1735,199 +1755,48 @@ class Walk:
         for i in range(s.n):
             if st.cells[i] is not None and st.cells[i].kind == 'array':
                 t += s.free_cell(i, st)
-        t += 'returns-within ! Post refl (look ! %d refl) $ ' % st.pos('c0')
-        t += st.front(['D'] + [s.cell(i) for i in range(s.n)]) + 'frees-any ! (%s) $ ' % L(['empty' if st.cells[i] is None else 'full _' for i in range(s.n)])
-        st.ctx = st.ctx[1 + s.n:]
-        order = ['H-' + p.name for p in s.f.refs]
-        t += 'keep ! (%s) $ ' % L([str(st.pos(l)) for l in order])
-        args = [P(v.den)] + [P(st.has[p.name]) for p in s.f.muts]
-        fs = ([P(v.fact)] if v.ty.fact('x') else []) + [P(st.len[p.name]) for p in s.f.muts if p.kind == 'mut'] + ([P(s.fill(s.row(pf), st))] if s.f.ens else [])
-        return t + s.nl + 'by ! (exits %s)' % ' '.join(args + fs)
+        order = ['D'] + [s.cell(i) for i in range(s.n)] + ['H-' + p.name for p in s.f.refs]
+        t += 'keep ! (%s) $ ' % spans([st.pos(l) for l in order]) + s.nl
+        zs = tup([st.has[p.name] for p in s.f.muts])
+        kept = tup([st.len[p.name] for p in s.f.muts if p.kind == 'mut'])
+        return t + 'ends ! ρ refl tt %s %s %s %s %s refl' % (P(v.den), P(v.ty.isP(v.den, v.fact)), zs, kept, P(s.fill(s.row(pf), st)) if s.f.ens else 'tt')
     # ---- the file
 
-    def text(s):
+    def inputs(s):
+        return tup(['(%s, %s)' % (p.at, p.v) if p.isref else p.v for p in s.f.params])
+
+    def faces(s):
+        """each parameter, and what is known of it: (name, type)"""
+        o = []
+        for p in s.f.params:
+            if p.isref:
+                o += [(p.at, 'At'), (p.v, p.Dnow)]
+                if p.kind != 'ref':
+                    o += [(dash(p.name) + '-room', 'SizeOf %s (%s .n)' % (p.ty.row, p.at)), (dash(p.name) + '-n', '%s .n ≡ length %s' % (p.at, p.v))]
+            else:
+                o += [(p.v, p.Dnow), (p.v + '-is', p.ty.fact(p.v) or 'Unit {0}')]
+        return o
+
+    def text(s, more=()):
         f = s.f
         c = s.cr
         k = s.k
         d = {p.name: p.v for p in f.params}
         s.need_cases = set()
         s.inloop = None
-        facts = []
-        # a token of a lifetime that two parameters have is held by halves
-        for p in f.sharers:
-            w = 'whole-%d' % p.life
-            facts += [(w, 'Share'), ('left-%d' % p.life, '%s .q ≡ PosShare·left %s' % (p.owner.at, w)), ('right-%d' % p.life, '%s .q ≡ PosShare·right %s' % (p.at, w)), p.same]
-        shared = {p.life: p for p in f.sharers}
-        for p in f.params:
-            if p.isref:
-                if p.kind != 'ref':
-                    facts += [(dash(p.name) + '-room', 'SizeOf %s (%s .n)' % (p.ty.row, p.at)), (dash(p.name) + '-n', '%s .n ≡ length %s' % (p.at, p.v))]
-            elif p.ty.fact(p.v):
-                facts.append((p.v + '-is', p.ty.fact(p.v)))
-        req = c.says(f, f.req, d) if f.req else None
-        if req:
-            facts.append(('req', req))
-        o = []
         mod = 'Rattle.%s.proofs.%s' % (c.name, s.name)
         codem = 'Rattle.%s.proofs.%s.Code' % (c.name, s.cycle['file'] if s.cycle else s.name)
-        fn = 'code.%s-function' % k if s.cycle else 'code.function'
-        us = ['use %s as %s-F' % (mod, k)] + ['use %s as code' % codem]
+        s.fn = fn = 'code.%s-function' % k if s.cycle else 'code.function'
+        us = ['use %s as %s-C' % (c.rule(s.name), k), 'use %s as code' % codem]
         for g in [x.split('::')[-1] for x in s.callees]:
-            gf_ = c.by_name(g)
-            gm = c.mod(gf_)
-            gk = dash(g)
-            us += ['use %s as %s-C' % (c.rule(g), gk), 'use %s.%s.{name as %s}' % (gm, 'Key' if s.cycle and g in s.cycle['members'] else 'Symbol', c.key(gf_))]
-        us += ['use %s as mir-of' % (codem + ('.' + s.name if s.cycle else '.Mir')), 'use types.Kit.{Sq}', 'use mathlib.Core.List.{_++_}', 'use lib.ListN.{take, drop as skip}', 'use lib.Seq.{length-take-le}', 'use %s.{part, KeptPart, lend-part, back-part, part-length, room-le}' % c.law('Hand'), 'use %s.{ne-of, is-true, is-false, Dies}' % c.law('Flow'), 'use denote.Index.{place}', 'use lib.Dec.{nleb→lt}'] + s.desc.get('uses', [])
-        if any((s.locals[i] for i in range(s.n))) and s.desc.get('local'):
-            us.append('use %s.{local, KeptLocal, lend-local, back-local}' % c.law('Hand'))
-        o.append('-- The walk of `%s::%s`, by hand.' % (c.name, s.name))
-        o.append(c.uses(us))
-        o.append('abbrev pub stayed : Stays (%s-F.ended .signature .params) (%s-F.ended .kept)\nstayed = %s\n' % (k, k, tup([p.stay() for p in f.params])))
-        for i, t in enumerate(s.locals):
-            o.append('abbrev τ%d : Ty\nτ%d = %s\n' % (i, i, s.tytext(t)))
-        CASES = '@@CASES@@'
-        o.append(CASES)
-        bind = c.binders(f)
-        W = '{M : Type 1} (𝓤 : URA M) (H : Heap 𝓤) (A : Atoms 𝓤) (W : Given 𝓤 H A) (at-mem : Memory → SProp 𝓤) (run : Routine → Fun 𝓤)'
-        o.append('module _ %s %s\n    %s where' % (W, bind, ' '.join(('(%s : %s)' % x for x in facts))))
-        a = tup([p.arg(p.at, p.v) for p in f.params])
-        vals = tup(['%s ∷ []' % p.mval(p.at, p.v) for p in f.params])
-        ks = tup([p.at + ' .κ' for p in f.owners])
-        qs = tup(['whole-%d' % p.life if p.life in shared else p.at + ' .q' for p in f.owners])
-        o.append('  abbrev Y : walkOf 𝓤 H A %s-F.ended stayed (%s-F.clauses 𝓤 H A at-mem run) .Ghost\n  Y = ((%s, %s, tt, %s, %s), tt)\n' % (k, k, ks, qs, a, vals))
-        o.append('  abbrev pub Post : Val → SProp 𝓤\n  Post = walkOf 𝓤 H A %s-F.ended stayed (%s-F.clauses 𝓤 H A at-mem run) .post Y\n' % (k, k))
-        # exits
-        ex = {p.name: dash(p.name) + '₁' if p in f.muts else p.v for p in f.params}
-        R = f.res
-        b = [('r', R.D)] + [(ex[p.name], p.Dnow) for p in f.muts]
-        hyp = ([('r-is', R.fact('r'))] if R.fact('r') else []) + [('len-' + dash(p.name), 'length %s ≡ length %s' % (ex[p.name], p.v)) for p in f.muts if p.kind == 'mut']
-        ens = c.says(f, f.ens, d, ex, 'r') if f.ens else None
-        if ens:
-            hyp.append(('e', ens))
-        hasx = L([p.has(p.at, ex[p.name]) for p in f.refs])
-        o.append('  exits : %s%s → ent 𝓤 (⋆ 𝓤 H A (%s)) (Post (%s))' % (' '.join(('(%s : %s)' % x for x in b)), ''.join((' (%s : %s)' % x for x in hyp)), hasx, R.val('r')))
-        sc = Script(['H-' + p.name for p in f.refs])
-        fit = tup(['len-' + dash(p.name) if p.kind == 'mut' else 'tt' for p in f.params])
-        ws = tup([ex[p.name] if p in f.muts else 'tt' for p in f.params])
-        sc.say('qed W (%s) ∵ suffices ! _ (exit-at 𝓤 H A %s-F.ended stayed (%s-F.clauses 𝓤 H A at-mem run) W Y (%s) r %s %s) $ %s' % (hasx, k, k, R.val('r'), ws, fit, 'says ! e $' if ens and len(f.ens) == 1 else ''))
-        many = len(f.ens) > 1
-        for p in f.refs:
-            sc.front(['H-' + p.name])
-            sc.say('fsplit ! $')
-            sc.pop(1)
-            sc.push(['own-' + p.name, 'tok-' + p.name])
-        for p in f.sharers:
-            n, a_, q_ = (p.life, p.at, p.owner.at)
-            sc.front(['own-' + p.name])
-            sc.say('rewrite ! 0 %s %s refl $' % (p.at_life(p.v), p.same[0]))
-            sc.front(['tok-' + p.owner.name, 'tok-' + p.name])
-            sc.say('rewrite ! 0 (λ (x : Share). ‵ (flft (%s .κ) x)) left-%d refl $ rewrite ! 1 (λ (x : Share). ‵ (flft (%s .κ) x)) right-%d refl $ rewrite ! 1 (λ (x : Lft). ‵ (flft x (PosShare·right whole-%d))) %s refl $' % (q_, n, a_, n, n, p.same[0]))
-            sc.say('use2 W (‵ (flft (%s .κ) whole-%d)) (W .lfts .lft-join (%s .κ) whole-%d) $' % (q_, n, q_, n))
-            sc.pop(2)
-            sc.push(['tok-' + p.owner.name])
-        sc.say('nothing ! $')
-        sc.push(['T'])
-        for p in reversed(f.owners):
-            sc.front(['tok-' + p.name, 'T'])
-            sc.say('join ! $')
-            sc.pop(2)
-            sc.push(['T'])
-        if not many:
-            sc.front(['T'])
-            sc.say('frame ! $')
-            sc.pop(1)
-        sc.say('nothing ! $')
-        sc.push(['O'])
-        for p in reversed(f.params):
-            if p.isref:
-                sc.front(['own-' + p.name, 'O'])
-                sc.say('fjoin ! $')
-                sc.pop(2)
-            else:
-                sc.front(['O'])
-                sc.say('owned ! %s (Is %s) (%s) %s _ %s $ fjoin ! $' % (p.ty.row, p.ty.row, p.ty.makes, p.v, p.ty.isP(p.v, p.v + '-is')))
-                sc.pop(1)
-            sc.push(['O'])
-        # all that is owned, and the clauses in a row
-        if many:
-            sc.say('owned ! %s (Is %s) (%s) r _ %s $' % (R.row, R.row, R.makes, R.isP('r', 'r-is')))
-            sc.push(['R'])
-            sc.front(['O', 'R'])
-            sc.say('join ! $')
-            sc.pop(2)
-            sc.push(['O'])
-            sc.front(['T', 'O'])
-            sc.say('join ! $')
-            sc.pop(2)
-            sc.push(['ALL'])
-            row_facts(sc, c.facts(f, f.ens, d, ex, 'r'), 'e', 'E')
-            sc.front(['ALL', 'E'])
-            sc.say('done !')
-        else:
-            sc.say('owned ! %s (Is %s) (%s) r _ %s $ move ! (1 ∷ 0 ∷ []) $ done !' % (R.row, R.row, R.makes, R.isP('r', 'r-is')))
-        o.append('  exits %s =' % ' '.join([x[0] for x in b + hyp]) + '\n      ' + sc.text(' ') + '\n')
-        # entry
-        has = L([p.has(p.at, p.v) for p in f.refs])
-        sc = Script(['TOKS', 'OWNS'])
-        toks = '‵ ftrue'
-        for p in reversed(f.owners):
-            toks = '(‵ (flft (%s .κ) %s) ⊛ %s)' % (p.at, 'whole-%d' % p.life if p.life in shared else '(%s .q)' % p.at, toks)
-        o.append('  entry : ent 𝓤 (onEntry 𝓤 H A %s-F.signature %s %s %s %s) (⋆ 𝓤 H A (%s))' % (k, ks, qs, a, vals, has))
-        sc.say('qed W (%s ∷ ‵ (owns (%s) %s %s) ∷ []) ∵' % (toks, L([p.rowT((p.owner.at if p.isref else '') + ' .κ') for p in f.params]), a, vals))
-        for p in f.owners:
-            sc.front(['TOKS'])
-            sc.say('split ! $')
-            sc.pop(1)
-            sc.push(['tok-' + p.name, 'TOKS'])
-        for p in f.params:
-            sc.front(['OWNS'])
-            sc.say('fsplit ! $')
-            sc.pop(1)
-            sc.push(['own-' + p.name, 'OWNS'])
-        for p in f.sharers:
-            n, a_, q_ = (p.life, p.at, p.owner.at)
-            sc.front(['own-' + p.name])
-            sc.say('rewrite ! 0 %s (sym %s) refl $' % (p.at_life(p.v), p.same[0]))
-            sc.front(['tok-' + p.owner.name])
-            sc.pop(1)
-            sc.say('use1 W (‵ (flft ({q} .κ) (PosShare·left whole-{n})) ⊛ ‵ (flft ({q} .κ) (PosShare·right whole-{n}))) (W .lfts .lft-split ({q} .κ) whole-{n}) $ split ! $'.format(q=q_, n=n))
-            sc.push(['tok-' + p.owner.name, 'tok-' + p.name])
-            sc.say('rewrite ! 0 (λ (x : Share). ‵ (flft (%s .κ) x)) (sym left-%d) refl $ rewrite ! 1 (λ (x : Share). ‵ (flft (%s .κ) x)) (sym right-%d) refl $ rewrite ! 1 (λ (x : Lft). ‵ (flft x (%s .q))) (sym %s) refl $' % (q_, n, q_, n, a_, p.same[0]))
-        for p in f.refs:
-            sc.front(['own-' + p.name, 'tok-' + p.name])
-            sc.say('fjoin ! $')
-            sc.pop(2)
-            sc.push(['H-' + p.name])
-        sc.say('keep ! (%s) $ done !' % L([str(sc.pos('H-' + p.name)) for p in f.refs]))
-        o.append('  entry =\n      ' + sc.text(' ') + '\n')
+            us.append('use %s as %s-C' % (c.rule(g), dash(g)))
+        us += ['use %s as mir-of' % (codem + ('.' + s.name if s.cycle else '.Mir'))] + s.desc.get('uses', []) + list(more)
         # the walk
-        o.append('  abbrev Envs : @@N@@Env 𝓤 H\n  Envs @@LS@@ = @@ENV@@\n\n  abbrev Dead : %sItem 𝓤\n  Dead %s = Dies 𝓤 H (τ0, l0) (%s)\n' % ('ℕ → ' * s.n, ' '.join(('l%d' % i for i in range(s.n))), L(['(τ%d, l%d)' % (i, i) for i in range(1, s.n)])))
-        o.append('@@MUS@@')
-        hyps = []
-        for g in [x.split('::')[-1] for x in s.callees]:
-            gk = dash(g)
-            if s.cycle and g in s.cycle['members']:
-                gf = c.fns[g]
-                mu = s.fillp(s.cycle['measures'][g], gf, {p.name: '(%s)' % proj('y .0 .3', i) if not p.isref else '(%s .now)' % proj('y .0 .3', i) for i, p in enumerate(gf.params)})
-                mu0 = s.fillp(s.cycle['measures'][s.name], f, {p.name: p.v for p in f.params})
-                hyps.append('(self-%s : (y : %s-C.Con 𝓤 H A at-mem run .Ghost) → %s < %s → ent 𝓤 (%s-C.Con 𝓤 H A at-mem run .pre y) (𝓣 .C #%s·%s (%s-C.Con 𝓤 H A at-mem run .args y) (%s-C.Con 𝓤 H A at-mem run .post y)))' % (gk, gk, mu, mu0, gk, dash(c.name), gk, gk, gk))
-            else:
-                hyps.append('(known-%s : Triple 𝓤 (𝓣 .C %s) (%s-C.Con 𝓤 H A at-mem run))' % (gk, c.key(c.by_name(g)), gk))
-        o.append('  module _ (𝓣 : Tables 𝓤 H) %s where' % ' '.join(hyps))
-        o.append('    abbrev fm : FmC 𝓤 H (W .laws) (𝓣 .C)\n    fm = fmOf 𝓤 H (W .laws) 𝓣\n')
-        o.append('    pub walk : ent 𝓤 (onEntry 𝓤 H A %s-F.signature %s %s %s %s) (WpFn 𝓤 H (𝓣 .C) (𝓣 .Λ) %s (%s) Post)' % (k, ks, qs, a, vals, fn, L([p.mval(p.at, p.v) for p in f.params])))
-        o.append('    unfolding afterTurn')
         st = St()
         st.has = {p.name: p.v for p in f.refs}
         st.len = {p.name: 'refl' for p in f.refs if p.kind == 'mut'}
-        np = len(f.params)
-        ctx = []
-        for i in reversed(range(s.n)):
-            ctx += ['c%d' % i, 'd%d' % i]
-        st.ctx = ctx + ['H-' + p.name for p in f.refs]
         st.cells = {i: None for i in range(s.n)}
-        t = 'via 𝓤 (⋆ 𝓤 H A (%s)) entry (qed W (%s) ∵ enter ! (𝓣 .C) (𝓣 .Λ) %s (%s) _ $' % (has, has, fn, L([p.mval(p.at, p.v) for p in f.params])) + s.nl
-        t += ''.join(('alloc1 ! (λ l%d. ' % i for i in range(s.n))) + 'alloc0 ! $ params1 ! $ '
+        st.ctx = ['D'] + ['c%d' % i for i in range(s.n)] + ['H-' + p.name for p in f.refs]
         for i, p in enumerate(f.params, 1):
             if p.kind == 'val':
                 v = V('plain', p.ty if not isinstance(p.ty, UInt) else UInt(p.ty.w, p.ty.row), p.v, p.v + '-is' if p.ty.fact('x') else None)
@@ -1935,20 +1804,52 @@ class Walk:
                 v = V('ptr', at=p.at, key=p.name)
             else:
                 v = V('fat', at=p.at, key=p.name, fact='(%s-room .0)' % dash(p.name))
-            t += 'pass1 ! (init ! %d refl %s) $ ' % (st.pos('c%d' % i), v.typed())
             st.cells[i] = v
-        t += 'pass0 ! $' + s.nl
-        t += st.front(['d%d' % i for i in range(s.n)] + ['c%d' % i for i in range(s.n)]) + 'group ! %d $' % s.n + s.nl
-        st.ctx = ['D'] + st.ctx[s.n:]
-        t += s.run(s.body, st) + ')' * s.n + ')'
-        sig = [o.pop(), o.pop()]
-        o += s.lemmas
-        o += [sig[1], sig[0]]
-        o.append('    walk =\n        ' + t + '\n')
+        t = s.run(s.body, st)
+        faces = s.faces()
+        selfs = []
+        hyps = []
+        for g in [x.split('::')[-1] for x in s.callees]:
+            if s.cycle and g in s.cycle['members']:
+                selfs.append(g)
+            else:
+                hyps.append('(known-%s : Knows 𝓤 H A (𝓣 .C) %s-C.terms)' % (dash(g), dash(g)))
+        model = '{M : Type 1} (𝓤 : URA M) (H : Heap 𝓤) (A : Atoms 𝓤) (W : Given 𝓤 H A) (𝓣 : Tables 𝓤 H)'
+        o = ['-- The walk of `%s::%s`, by hand.' % (c.name, s.name), '@@USES@@', '@@CASES@@']
+        req3 = len(f.req) > 2
+        reqlet = s.let('req', c.says(f, f.req, d), flat([conj_at('reqs', i, len(f.req)) for i in range(len(f.req))])) if req3 else ''
+        rule = 'rule-of %s-C.terms %s' % (k, s.inputs())
+        X = 'Walks 𝓤 H A W (𝓣 .C) (𝓣 .Λ) %s %s-C.terms' % (fn, k)
+        slets = ''
+        if selfs:
+            at = lambda g, v: s.fillp(s.cycle['measures'][g], c.fns[g], {p.name: '(%s)' % (proj(v, i) + (' .1' if p.isref else '')) for i, p in enumerate(c.fns[g].params)})
+            P_ = ['(x′ : Inputs (%s-C.terms .sorts)) → %s < %s → Met 𝓤 H A (rule-of %s-C.terms x′) C' % (dash(g), at(g, 'x′'), at(s.name, 'x'), dash(g)) for g in selfs]
+            o.append('-- what is known of the cycle below what is passed\nabbrev pub Self : {M : Type 1} (𝓤 : URA M) (H : Heap 𝓤) (A : Atoms 𝓤) (C : Calls 𝓤 H) → Inputs (%s-C.terms .sorts) → Type 1\nSelf 𝓤 H A C x = %s\n' % (k, conj(P_) if len(P_) > 1 else P_[0]))
+            slets = ''.join(s.let('self-%s' % dash(g), P_[i].replace(' C', ' (𝓣 .C)'), conj_at('self', i, len(selfs))) for i, g in enumerate(selfs)) if len(selfs) > 1 else ''
+        self1 = ['self-%s' % dash(selfs[0]) if len(selfs) == 1 else 'self'] if selfs else []
+        ls = ['l%d' % i for i in range(s.n)]
+        if s.lemmas:
+            tele = ' '.join('(%s : %s)' % x for x in faces)
+            if selfs:
+                tele += ' (%s : Self 𝓤 H A (𝓣 .C) %s)' % (self1[0], s.inputs())
+            tele += ' (%s : %s)' % ('reqs' if req3 else 'req', conj([P(x) for x in c.facts(f, f.req, d)]) if f.req else 'Unit {0}')
+            o.append('module _ %s %s\n    %s where' % (model, ' '.join(hyps), tele))
+            if req3:
+                o.append('  abbrev req : %s\n  req = %s\n' % (c.says(f, f.req, d), flat([conj_at('reqs', i, len(f.req)) for i in range(len(f.req))])))
+            o.append('  abbrev ρ : Rule\n  ρ = %s\n' % rule)
+            o += s.lemmas
+            o.append('  pub walk : Walked 𝓤 H A W (𝓣 .C) (𝓣 .Λ) %s %s-C.terms %s\n  unfolding afterTurn\n  walk %s =\n      %s' % (fn, k, s.inputs(), ' '.join(ls), slets + s.head(t) + t + '\n'))
+        else:
+            if selfs:
+                X = '(λ x. Self 𝓤 H A (𝓣 .C) x → %s x)' % X
+            else:
+                X = '(%s)' % X
+            o.append('module _ %s %s where' % (model, ' '.join(hyps)))
+            rl = s.let('ρ', 'Rule', rule)
+            o.append('  pub walk : Facing (%s-C.terms .sorts) %s\n  unfolding afterTurn\n  walk %s =\n      %s' % (k, X, ' '.join([x[0] for x in faces] + self1 + ['reqs' if req3 else 'req'] + ls), reqlet + slets + rl + s.head(t) + t + '\n'))
         cs = ''
         for tn in sorted(s.need_cases):
             ty = c.types[tn]
-            alts = []
 
             def T(vn, ts):
                 eq = 'r ≡ %s' % ' '.join(['%s-V.%s' % (tn, vn)] + ['a%d' % j for j in range(len(ts))])
@@ -1969,92 +1870,29 @@ class Walk:
                     val = 'inr ' + P(val)
                 cs += 'cases-%s %s = %s\n' % (tn, P(pat), val)
             cs += '\n'
-        ms = ''.join(('  abbrev μ-loop-%d : %s → ℕ\n  μ-loop-%d y = %s\n\n' % (n, X, n, m) for n, X, m in getattr(s, 'mus', [])))
-        return '\n'.join(o).replace(CASES, cs).replace('@@MUS@@', ms).replace('@@N@@', 'ℕ → ' * s.n).replace('@@LS@@', ' '.join(('l%d' % i for i in range(s.n)))).replace('@@ENV@@', L(['(τ%d, l%d)' % (i, i) for i in range(s.n)]))
-    # ---- the closing lines
+        out = '\n'.join(o).replace('@@USES@@', c.uses(us)).replace('@@CASES@@\n', cs)
+        return re.sub('τ(\\d+)', lambda m: P(s.tytext(s.locals[int(m[1])])), out)
 
-    def apply(s, y, are, W, self_=''):
-        f = s.f
-        o = []
-        arg = lambda i: proj('%s .3' % y, i)
-        li = 0
-        for i, p in enumerate(f.params):
-            if p.isref:
-                x = arg(i)
-                q = proj('%s .1' % y, p.life)
-                if p in f.sharers or p.life in [r.life for r in f.sharers]:
-                    q = 'PosShare·%s (%s)' % ('right' if p in f.sharers else 'left', q)
-                o.append('(record { κ = %s; q = %s; γ = %s .name; b = %s .ptr .0; o = %s .ptr .1; n = %s })' % (proj('%s .0' % y, p.life), q, x, x, x, 'length (%s .now)' % x if p.kind != 'ref' else '0'))
-                o.append('(%s .now)' % x)
-            else:
-                o.append('(%s)' % arg(i))
-        for p in f.sharers:
-            o += ['(%s)' % proj('%s .1' % y, p.life), 'refl', 'refl', 'refl']
-        for i, p in enumerate(f.params):
-            x = proj(are, i)
-            if p.isref:
-                if p.kind != 'ref':
-                    o += ['(%s .0 .1)' % x, 'refl']
-            elif p.ty.fact('x'):
-                o.append('(%s)' % p.ty.of_is(x))
-        return ' '.join(o)
+    def takes(s):
+        return tup(['refl' for p in s.f.params if not p.isref])
 
-    def needs(s, y):
-        f = s.f
-        d = {p.name: '(%s)' % proj('%s .3' % y, i) if not p.isref else '(%s .now)' % proj('%s .3' % y, i) for i, p in enumerate(f.params)}
-        return s.cr.says(f, f.req, d) if f.req else None
-
-    def method(s, W, A, mem, run, T, y, args):
-        """walk-meets-at at y: `args` are what the walk takes after its facts"""
-        f = s.f
-        k = s.k
-        fn = 'code.%s-function' % k if s.cycle else 'code.function'
-        pre = '%s.' % camel(s.name) + 'W.' if False else s.pre
-        spells = tup([p.spell() for p in f.params])
-        tells = tup([p.tell(proj('%s .0' % y, p.life) if p.isref else '') for p in f.params])
-        req = s.needs(y)
-        ap = '%swalk 𝓤 H %s %s %s %s %s' % (s.pre, A, W, mem, run, s.apply(y, 'are', W))
-        if req and len(f.req) > 1:
-            d = {p.name: '(%s)' % proj('%s .3' % y, i) if not p.isref else '(%s .now)' % proj('%s .3' % y, i) for i, p in enumerate(f.params)}
-            rs = s.cr.facts(f, f.req, d)
-            nr = len(rs)
-            tail = lambda i: 'fact 𝓤 (%s)' % rs[i] if i == nr - 1 else 'sep 𝓤 (fact 𝓤 (%s)) (%s)' % (rs[i], tail(i + 1))
-            said = 'last-fact 𝓤 (%s) (%s) (λ req%d. %s)' % (rs[-1], req, nr - 1, flat(['req%d' % i for i in range(nr)]))
-            for i in reversed(range(nr - 1)):
-                said = 'and-fact 𝓤 (%s) (%s) (%s) (λ req%d. %s)' % (rs[i], req, tail(i + 1), i, said)
-            inner = '(λ are. needs-by 𝓤 (%s) _ (%s) (%s) (λ req. %s req %s))' % (req, tail(0), said, ap, args)
-        elif req:
-            inner = '(λ are. needs 𝓤 (%s) _ (λ req. %s req %s))' % (req, ap, args)
-        else:
-            inner = '(λ are. via 𝓤 _ (fst∗ 𝓤 _ (emp 𝓤)) (%s %s))' % (ap, args)
-        wp = '(WpFn 𝓤 H (%s .C) (%s .Λ) %s)' % (T, T, fn)
-        goes = tup([p.go(f.lives) for p in f.params]).replace('𝓤 H A W', '𝓤 H %s %s' % (A, W))
-        return 'walk-meets-at 𝓤 H {A} {k}-F.ended {p}stayed {W} {goes} ({k}-F.clauses 𝓤 H {A} {mem} {run}) {wp} (WpFn-mono 𝓤 H ({W} .laws) {T} {fn}) Y\n    (walked-at 𝓤 H {A} {k}-F.ended {p}stayed ({k}-F.clauses 𝓤 H {A} {mem} {run}) {wp} Y {sp} {tl} {inner})'.format(A=A, k=k, p=s.pre, W=W, goes=goes, mem=mem, run=run, wp=wp, T=T, fn=fn, sp=spells, tl=tells, inner=inner).replace(' Y\n', ' %s\n' % y[:-3]).replace(' Y (', ' %s (' % y[:-3])
+    def cited(s, g, cr):
+        gk = dash(g)
+        gf = cr.by_name(g)
+        return '(%s-C.known 𝓤 H (𝓖 .A) (𝓜 .mem) (𝓡 .run) (tables 𝓤 H 𝓜 𝓡 code.env .C) (cited 𝓤 H _ 𝓜 𝓡 code.env %s-thm.name %s-def.routine code.calls-%s (%s-met.met 𝓤 H 𝓜 𝓖 𝓡)))'.replace('%s-thm.name', '%s-def.name').replace('%s-met.met', '%s-thm.met') % (gk, gk, gk, cr.key(gf)[1:], gk)
 
 def write_function(cr, name, desc):
     w = Walk(cr, name, desc)
-    w.pre = ''
     k = w.k
-    c = cr.name
-    t = w.text()
-    f = w.f
-    mod = 'Rattle.%s.proofs.%s' % (c, name)
-    key = '#%s·%s' % (dash(c), k)
-    us = ['use %s.Statement as stated' % mod, 'use %s.Key.{name as %s}' % (mod, key), 'use base.Logic.{fst∗}']
+    mod = 'Rattle.%s.proofs.%s' % (cr.name, name)
+    us = ['use %s.Statement as stated' % mod, 'use %s.Key as key' % mod]
     gs = [x.split('::')[-1] for x in w.callees]
-    kn = ''
-    hy = ''
     for g in gs:
         gm = cr.mod(cr.by_name(g))
-        gk = dash(g)
-        us += ['use %s.Symbol as %s-def' % (gm, gk), 'use %s.Met as %s-thm' % (gm, gk)]
-        hy += ' → Triple 𝓤 (𝓣 .C %s) (%s-C.Con 𝓤 H A at-mem run)' % (cr.key(cr.by_name(g)), gk)
-    t = t.replace('\nabbrev pub stayed', '\n'.join([''] + us) + '\n\nabbrev pub stayed', 1)
-    names = ' '.join(('known-' + dash(g) for g in gs))
-    t += '\n%s-meets : {M : Type 1} (𝓤 : URA M) (H : Heap 𝓤) (A : Atoms 𝓤) (W : Given 𝓤 H A) (at-mem : Memory → SProp 𝓤) (run : Routine → Fun 𝓤) (𝓣 : Tables 𝓤 H)%s → Meets 𝓤 H A %s-F.signature (WpFn 𝓤 H (𝓣 .C) (𝓣 .Λ) code.function) (%s-F.spec 𝓤 H A at-mem run)\n' % (k, hy, k, k)
-    t += '%s-meets 𝓤 H A W at-mem run 𝓣 %s y =\n    %s\n' % (k, names, w.method('W', 'A', 'at-mem', 'run', '𝓣', 'y .0', '𝓣 ' + names))
-    cs = ''.join(('\n    (cited 𝓤 H (%s-C.Con 𝓤 H (𝓖 .A) (𝓜 .mem) (𝓡 .run)) 𝓜 𝓡 code.env %s %s-def.routine code.calls-%s (%s-thm.met 𝓤 H 𝓜 𝓖 𝓡))' % (dash(g), cr.key(cr.by_name(g)), dash(g), cr.key(cr.by_name(g))[1:], dash(g)) for g in gs))
-    t += '\npub %s-spec : {M : Type 1} → stated.statement M\nunfolding code.routine tablesOf\n%s-spec 𝓤 H 𝓜 𝓖 𝓡 =\n    entered 𝓤 H (tripleOf 𝓤 H (𝓖 .A) %s-F.signature (%s-F.spec 𝓤 H (𝓖 .A) (𝓜 .mem) (𝓡 .run)))\n    (tables 𝓤 H 𝓜 𝓡 code.env .C) (tables 𝓤 H 𝓜 𝓡 code.env .Λ) %s code.function (code.unfolded 𝓤 H 𝓜 𝓡)\n    (%s-meets 𝓤 H (𝓖 .A) (givenOf 𝓤 H 𝓜 𝓖) (𝓜 .mem) (𝓡 .run) (tablesOf 𝓤 H 𝓜 (tables 𝓤 H 𝓜 𝓡 code.env))%s)\n' % (k, k, k, k, key, k, cs)
+        us += ['use %s.Symbol as %s-def' % (gm, dash(g)), 'use %s.Met as %s-thm' % (gm, dash(g))]
+    t = w.text(us)
+    T = '(tablesOf 𝓤 H 𝓜 (tables 𝓤 H 𝓜 𝓡 code.env))'
+    t += '\npub %s-spec : {M : Type 1} → stated.statement M\nunfolding code.routine tablesOf\n%s-spec 𝓤 H 𝓜 𝓖 𝓡 y =\n    proves 𝓤 H 𝓜 𝓖 𝓡 code.env key.name code.function (code.unfolded 𝓤 H 𝓜 𝓡) %s-C.terms (y .0 .0) (y .0 .1) (y .0 .3) (y .0 .4) %s\n    (walk 𝓤 H (𝓖 .A) (givenOf 𝓤 H 𝓜 𝓖) %s%s)\n' % (k, k, k, w.takes(), T, ''.join('\n    ' + w.cited(g, cr) for g in gs))
     os.makedirs('%s/proofs/%s' % (cr.dir, name), exist_ok=True)
     p = '%s/proofs/%s/Proof.antt' % (cr.dir, name)
     open(p, 'w').write(prune(desc.get('turn', str)(t)))

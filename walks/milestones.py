@@ -2,7 +2,7 @@ import handwalk as hw
 
 c=hw.Crate(hw.ROOT, 'milestones',types=['validate::OpenStart','running::Record','table::MarkerInfo'],hand='references')
 U=['use Rattle.tape.specs.Nodes.{nodeAt, count}','use Rattle.table.specs.Bytes.{equal}','use Rattle.table.specs.Entries.{Entry, entryOfInfo}','use Rattle.cursor.specs.Inner.{Spanned}','use Rattle.validate.specs.Milestones.{baseOf}','use Rattle.validate.specs.Outcome.{noStart}','use Rattle.running.specs.Running.{Opens}','use Rattle.milestones.specs.Inner.{Measured, Read, Placed, baseAt, nearestIn, removed, takenBy, opensBy, pairedBy, Counted, Countable}','use Rattle.milestones.specs.Steps.{Milestoned, Steppable}']
-fs=['has_base','push','nearest','remove','step_of','pair','after_pair']
+fs=['has_base','push','nearest','remove','step_of','pair','after_pair','milestone']
 c.call_files(fs, U)
 
 L=U+['use Rattle.references.proofs.Sizes.{scaled, less-fits, more-fits, nearer}','use Rattle.milestones.proofs.Search.{nowhere, hit, miss, found-inside}','use Rattle.milestones.proofs.Moves.{Moving, moving-start, moving-turn, moving-end}','use Rattle.milestones.proofs.Whole.{countable, milestoned}','use Rattle.milestones.proofs.Pairing.{first-of, inside, entry-fits, moves-first, moves-room, next-inside, here-inside, pair-neither, pair-start, placed, pair-end, pair-alone, end-inside, known-room, read-placed}']

@@ -1,22 +1,17 @@
--- The contract of `milestones::remove`, for `calls-any`: what is passed, what is asked, and what is said of the result r and of the last values z.
-use Rattle.references.proofs.Call.{_≡_, ℕ, _<_, _≤_, List, [], _∷_, length, URA, w64, SProp, Memory, Routine, Heap, Atoms, Fun, Contract, tripleOf, At, Rule, by-mut, number, of-nothing, Chosen, Ks, Qs, As, Vss}
-use Rattle.validate.specs.declared.OpenStart.{OpenStart}
+-- The contract of `milestones::remove`, for its own walk and for the walks that call it: what is passed, what is asked, and what is said of the result r and of the last values z. `known` shows that it is the contract.
+use Rattle.references.proofs.Call.{_≡_, _<_, _≤_, [], _∷_, length, URA, w64, SProp, Memory, Routine, Heap, Calls, Atoms, Fun, Triple, tripleOf, Terms, val, mut, of-number, of-nothing, Knows, bound-at, rule-of}
 use Rattle.validate.proofs.OpenStart as OpenStart-T
 use Rattle.milestones.specs.Inner.{removed}
 use Rattle.milestones.proofs.remove as remove-F
 
-abbrev pub Con : {M : Type 1} (𝓤 : URA M) (H : Heap 𝓤) (A : Atoms 𝓤) (at-mem : Memory → SProp 𝓤) (run : Routine → Fun 𝓤) → Contract 𝓤
-Con 𝓤 H A at-mem run = tripleOf 𝓤 H A remove-F.signature (remove-F.spec 𝓤 H A at-mem run)
+abbrev pub terms : Terms
+terms = record {
+  name = remove-F.Symbol.name;
+  sorts = mut OpenStart-T.the-row ∷ val (of-number w64) ∷ val (of-number w64) ∷ [];
+  result = of-nothing;
+  requires = λ opens₀ k₀ at₀. ((at₀ < k₀) × (k₀ ≤ length opens₀)) ∷ [];
+  ensures = λ opens₀ k₀ at₀ r z. ((z .0) ≡ removed opens₀ k₀ at₀) ∷ [];
+}
 
-module _ (opens-at : At) (opens₀ : List OpenStart) (k₀ : ℕ) (at₀ : ℕ) where
-  abbrev pub rule : Rule
-  rule = record {
-    name = remove-F.Symbol.name;
-    pars = by-mut OpenStart-T.the-row opens-at opens₀ ∷ number w64 k₀ ∷ number w64 at₀ ∷ [];
-    result = of-nothing;
-    requires = ((at₀ < k₀) × (k₀ ≤ length opens₀)) ∷ [];
-    ensures = λ r z. ((z .0) ≡ removed opens₀ k₀ at₀) ∷ [];
-  }
-
-  abbrev pub to : {M : Type 1} (𝓤 : URA M) (H : Heap 𝓤) (A : Atoms 𝓤) (at-mem : Memory → SProp 𝓤) (run : Routine → Fun 𝓤) → Chosen (rule .pars) → Con 𝓤 H A at-mem run .Ghost
-  to 𝓤 H A at-mem run cs = ((Ks (rule .pars) cs, Qs (rule .pars) cs, tt, As (rule .pars) cs, Vss (rule .pars)), tt)
+pub known : {M : Type 1} (𝓤 : URA M) (H : Heap 𝓤) (A : Atoms 𝓤) (at-mem : Memory → SProp 𝓤) (run : Routine → Fun 𝓤) (C : Calls 𝓤 H) → Triple 𝓤 (C remove-F.Symbol.name) (tripleOf 𝓤 H A remove-F.signature (remove-F.spec 𝓤 H A at-mem run)) → Knows 𝓤 H A C terms
+known 𝓤 H A at-mem run C holds x cs = holds (bound-at (rule-of terms x .pars) cs)

@@ -12,3 +12,4 @@ pub mod CallRemove
 pub mod CallStepOf
 pub mod CallPair
 pub mod CallAfterPair
+pub mod CallMilestone

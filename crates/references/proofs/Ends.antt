@@ -26,7 +26,7 @@ use ghost.Atoms.{Atoms, sem}
 use contract.Monad.{Fun, fact, factI, fact-use}
 use contract.Lifetimes.{Lfts, Shares}
 use contract.Running.{Running, GhostRules, givenOf, tables}
-use types.Kit.{Given, Item, ‵, raw, some, given, later, Post, post, Seq, mean, ⋆, push, pop, ++⊢, ⊢++, Goal, allocs, params′, passes, runs, atRet, Sq, _⊛_, _$_, _∵_, !, qed, by, move, keep, drop, use0, use1, use2, split, join, fsplit, fsplit3, fjoin, feqI, suffices, frame, updating, now as at-once, show, done}
+use types.Kit.{Given, Item, ‵, raw, Step, some, given, later, Post, post, Seq, mean, ⋆, push, pop, ++⊢, ⊢++, Goal, allocs, params′, passes, runs, atRet, Sq, _⊛_, _$_, _∵_, !, qed, by, move, keep, drop, use0, use1, use2, split, join, fsplit, fsplit3, fjoin, feqI, suffices, frame, updating, now as at-once, show, done}
 use types.Run.{enter, alloc0, alloc1, params1, pass0, pass1, init, look, returns-within}
 use denote.Exit.{yes, Exit, unchanged, leaves as leavesᴱ, Last, left}
 use denote.RattleType.{RattleType}
@@ -363,8 +363,10 @@ module _ {M : Type 1} {𝓤 : URA M} {H : Heap 𝓤} {A : Atoms 𝓤} (W : Given
   pass-all [] [] g Γ t s = pass0 ! $ s
   pass-all (e ∷ E) [] g Γ t s = pass0 ! $ s
   pass-all [] (v ∷ vs) g Γ t s = absurd t
-  pass-all (e ∷ E) (v ∷ vs) g Γ t s = pass1 ! (init ! 0 refl (t .0)) $ record { prf = via 𝓤 _ (sink (‵ (fat fullShare (e .0) (e .1) 0 v)) (Cells 𝓤 H E []) Γ)
-      (pass-all E vs g (‵ (fat fullShare (e .0) (e .1) 0 v) ∷ Γ) (t .1) (record { prf = via 𝓤 _ (lift (‵ (fat fullShare (e .0) (e .1) 0 v)) (Cells 𝓤 H E (fulls vs)) Γ) (s .prf) }) .prf) }
+  pass-all (e ∷ E) (v ∷ vs) g Γ t s = pass1 ! (init ! 0 refl (t .0)) $ record {
+    prf = via 𝓤 _ (sink (‵ (fat fullShare (e .0) (e .1) 0 v)) (Cells 𝓤 H E []) Γ)
+        (pass-all E vs g (‵ (fat fullShare (e .0) (e .1) 0 v) ∷ Γ) (t .1) (record { prf = via 𝓤 _ (lift (‵ (fat fullShare (e .0) (e .1) 0 v)) (Cells 𝓤 H E (fulls vs)) Γ) (s .prf) }) .prf);
+  }
 
   -- what a walk has when its body begins: that its locals may end, their cells, and what it holds
   abbrev pub Begun : Env 𝓤 H → List Val → List (Item 𝓤) → List (Item 𝓤)
@@ -374,8 +376,10 @@ module _ {M : Type 1} {𝓤 : URA M} {H : Heap 𝓤} {A : Atoms 𝓤} (W : Given
   store-all E vs g Γ e t s =
       let D : Item 𝓤 = Dying 𝓤 H (e ∷ E) in let r : Item 𝓤 = ‵ (froom (e .0) (e .1) 0) in let Δ : List (Item 𝓤) = Cells 𝓤 H E [] in let Δ′ : List (Item 𝓤) = Cells 𝓤 H E (fulls vs) in
       let s′ : Sq W (r ∷ D ∷ (Δ′ ++ Γ)) g = move ! (1 ∷ 0 ∷ []) $ s in
-      params1 ! $ move ! (1 ∷ 0 ∷ []) $ record { prf = via 𝓤 _ (via 𝓤 _ (pop 𝓤 H A r (D ∷ (Δ ++ Γ))) (via 𝓤 _ (monoR 𝓤 (mean 𝓤 H A r) (sink D Δ Γ)) (via 𝓤 _ (push 𝓤 H A r (Δ ++ (D ∷ Γ))) (sink r Δ (D ∷ Γ)))))
-      (pass-all E vs g (r ∷ D ∷ Γ) t (record { prf = via 𝓤 _ (via 𝓤 _ (lift r Δ′ (D ∷ Γ)) (via 𝓤 _ (pop 𝓤 H A r (Δ′ ++ (D ∷ Γ))) (via 𝓤 _ (monoR 𝓤 (mean 𝓤 H A r) (lift D Δ′ Γ)) (push 𝓤 H A r (D ∷ (Δ′ ++ Γ)))))) (s′ .prf) }) .prf) }
+      params1 ! $ move ! (1 ∷ 0 ∷ []) $ record {
+        prf = via 𝓤 _ (via 𝓤 _ (pop 𝓤 H A r (D ∷ (Δ ++ Γ))) (via 𝓤 _ (monoR 𝓤 (mean 𝓤 H A r) (sink D Δ Γ)) (via 𝓤 _ (push 𝓤 H A r (Δ ++ (D ∷ Γ))) (sink r Δ (D ∷ Γ)))))
+            (pass-all E vs g (r ∷ D ∷ Γ) t (record { prf = via 𝓤 _ (via 𝓤 _ (lift r Δ′ (D ∷ Γ)) (via 𝓤 _ (pop 𝓤 H A r (Δ′ ++ (D ∷ Γ))) (via 𝓤 _ (monoR 𝓤 (mean 𝓤 H A r) (lift D Δ′ Γ)) (push 𝓤 H A r (D ∷ (Δ′ ++ Γ)))))) (s′ .prf) }) .prf);
+      }
 
   abbrev pub TakesIn : List Local → List Par → Type 0
   TakesIn [] ps = ⊥
@@ -499,3 +503,8 @@ module _ {M : Type 1} {𝓤 : URA M} {H : Heap 𝓤} {A : Atoms 𝓤} {K : Type 
       → Γ ≡ Dies 𝓤 H e E ∷ (Cells 𝓤 H (e ∷ E) (full (ρ .result .val r) ∷ contents E (past2 Γ)) ++ HeldAt 𝓤 (ρ .pars) zs) → Seq K W Γ (runs C Λ (e ∷ E) return q)
   ends t ρ to quiet r is zs kept said at = subst (λ (Δ : List (Item 𝓤)). Seq K W Δ (runs C Λ (e ∷ E) return q)) (sym at)
       (returns-within t (Leaves 𝓤 H A ρ) to (look t 1 refl) $ frees-any t (full (ρ .result .val r) ∷ contents E (past2 Γ)) $ by t (leaves 𝓤 H A W ρ quiet r is zs kept said))
+
+module _ {M : Type 1} {𝓤 : URA M} {H : Heap 𝓤} {A : Atoms 𝓤} {K : Type 0} {W : Given 𝓤 H A} {Γ : List (Item 𝓤)} {G : Goal 𝓤 H} where
+  -- a fact is put into the context
+  pub say : K → (φ : Type 0) → φ → Step K W (raw (fact 𝓤 φ) ∷ Γ) G Γ G
+  say t φ x = use0 W (raw (fact 𝓤 φ)) (factI 𝓤 φ (emp 𝓤) x)
