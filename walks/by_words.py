@@ -4,7 +4,7 @@ import handwalk as hw
 
 c=hw.Crate(hw.ROOT, 'by_words',types=['validate::OpenStart','marking::Answer','marking::Report'],calls=['marking::check'],hand='references',shared={'check':'marking'})
 U=['use Rattle.validate.specs.Outcome.{noStart, answer, listAfter, seenAfter, openAfter}','use Rattle.marking.specs.Entry.{answerOf, lent}']
-fs=['records','record_at','put_record','read_records','write_records','check_with']
+fs=['records','record_at','put_record','read_records','write_records','check_with','check_words']
 c.call_files(fs, U)
 
 L=U+['use Rattle.references.proofs.Sizes.{scaled, more-fits, nearer}','use Rattle.by_words.proofs.Numbers.{here, pair-inside}']

@@ -1,11 +1,11 @@
 import handwalk as hw
 
 c=hw.Crate(hw.ROOT, 'checker',types=['validate::OpenStart','running::Record','running::Around','table::MarkerInfo','table::Info','attachment::Attached'],
-  calls=['opens::is_calm','opens::visit_marker','milestones::milestone','tape::link_at','running::with_anchor','running::inside','cursor::past_node'],hand='references')
+  calls=['opens::is_calm','opens::visit_marker','milestones::milestone','tape::link_at','running::with_anchor','running::inside','cursor::past_node'],hand='references',shared={'milestone':'milestones'})
 U=['use Rattle.tape.specs.Nodes.{nodeAt, kindAt, linkAt, isOpen, count}','use Rattle.tape.specs.Nodes.{count as nodes}','use Rattle.tape.specs.Forest.{forest, Nested, Accepted}','use Rattle.table.specs.Entries.{Indexed, infoOf, entryOfInfo}','use Rattle.cursor.specs.Info.{infoAt}','use Rattle.cursor.specs.Steps.{pastNode}','use Rattle.numbers.specs.Label.{numbered}','use Rattle.cursor.specs.Inner.{Run, Spanned}','use Rattle.findings.specs.Written.{Room}','use Rattle.attachment.specs.Attached.{startsOf}',
  'use Rattle.validate.specs.Checks.{leafTold}','use Rattle.validate.specs.Walk as Walk','use Rattle.running.specs.Running.{stateOf, aroundOf, anchorOf, startsFor, countsOf, withAnchor, Sane}','use Rattle.opens.specs.Own.{ownAt, Marked}','use Rattle.opens.specs.Calm.{calmAt}','use Rattle.milestones.specs.Steps.{Milestoned, Steppable}',
  'use Rattle.checker.specs.Walking.{Ready, Walked, Visited, Visitable, Anchored, walkAt, visitFindings, Passable, PassedBy, LeafPassed, Leaved, Unchanged, numbersAfter, onlyOpen, quiet}']
-fs=['anchored','is_number','marker','visit_leaf','leaf','numbers_after','past_node','is_quiet','is_calm','visit_marker','milestone','link_at','with_anchor','inside','visit','walk']
+fs=['anchored','is_number','marker','visit_leaf','leaf','numbers_after','past_node','is_quiet','is_calm','visit_marker','link_at','with_anchor','inside','visit','walk']
 c.call_files(fs, U)
 
 L=U+['use Rattle.references.proofs.Sizes.{scaled, less-fits, more-fits, nearer, wide}','use Rattle.checker.proofs.Going.{Going, going-start, going-end, going-below, passable, going-past, visit-asks, going-visited, going-nearer}',

@@ -2,7 +2,7 @@ import handwalk as hw
 
 c=hw.Crate(hw.ROOT, 'closing',types=['validate::OpenStart','running::Record','findings::Counts'],calls=['running::counts'],hand='references')
 U=['use Rattle.validate.specs.Outcome.{noStart, cleared}','use Rattle.validate.specs.Document as Document','use Rattle.findings.specs.Written.{Wrote}','use Rattle.running.specs.Running.{starts, countsOf}','use Rattle.closing.specs.Ends.{Left, ofOpen, Tellable}']
-fs=['tell_open','counts']
+fs=['tell_open','counts','unclosed','clear_opens']
 c.call_files(fs, U)
 
 L=U+['use Rattle.references.proofs.Sizes.{scaled, less-fits, more-fits, nearer}','use Rattle.closing.proofs.Starts.{Told, told-none, told-all, told-inside, tellable, told-more}','use Rattle.closing.proofs.Zeroed.{cleared-none, cleared-more, cleared-all, here}']

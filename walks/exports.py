@@ -3,7 +3,7 @@ import handwalk as hw
 c=hw.Crate(hw.ROOT, 'exports',types=['validate::OpenStart','marking::Answer','marking::Report','marking::Gate'],calls=['marking::check','marking::table_gate','marking::passed'],hand='references',shared={'check':'marking','table_gate':'marking','passed':'marking'})
 U=['use mathlib.Core.List.{_++_}','use mathlib.Core.Option.{none}','use Rattle.tape.specs.Forest.{Accepted}','use Rattle.table.specs.Entries.{Indexed}','use Rattle.validate.specs.Outcome.{answer, listAfter, seenAfter, openAfter}','use Rattle.validate.specs.Outcome as outcome','use Rattle.marking.specs.Entry.{answerOf, gateOf, fromTable, Passed, lent}','use Rattle.laying.specs.Over.{over}','use Rattle.telling.specs.Telling.{textsOf, joined, endsFrom}','use Rattle.exports.specs.Words.{answerWords, textsWords}',
  'use Rattle.exports.specs.Report.{heldOf, heldIn, toldHeld, turnedWords, reportTold, reportText, reportEnds}']
-fs=['lay_answer','tell_held','lay_turned']
+fs=['lay_answer','tell_held','lay_turned','harkoxin_check','harkoxin_report']
 c.call_files(fs, U)
 
 hw.write_function(c,'harkoxin_check',dict(uses=U,

@@ -1908,33 +1908,27 @@ def write_cycle(cr, measures, descs):
     ws = {}
     for m in ms:
         w = Walk(cr, m, descs[m], cyc)
-        w.pre = '%s-W.' % dash(m)
         ws[m] = w
         open('%s/Proof/Of%s.antt' % (base, camel(m)), 'w').write(prune(w.text()))
-    us = ['use Rattle.%s.proofs.%s as cycle' % (c, file), 'use Rattle.%s.proofs.%s.Code as code' % (c, file), 'use base.Logic.{fst∗}', 'use denote.Triple.Cycle as cyc']
+    us = ['use Rattle.%s.proofs.%s as cycle' % (c, file), 'use Rattle.%s.proofs.%s.Code as code' % (c, file)]
     outs = []
     for m in ms:
         mk = dash(m)
-        us += ['use Rattle.%s.proofs.%s.Proof.Of%s as %s-W' % (c, file, camel(m), mk), 'use Rattle.%s.proofs.%s as %s-F' % (c, m, mk), 'use Rattle.%s.proofs.Call%s as %s-C' % (c, camel(m), mk), 'use Rattle.%s.proofs.%s.Key.{name as #%s·%s}' % (c, m, dash(c), mk)]
+        us += ['use Rattle.%s.proofs.%s.Proof.Of%s as %s-W' % (c, file, camel(m), mk), 'use Rattle.%s.proofs.%s as %s-F' % (c, m, mk), 'use %s as %s-C' % (cr.rule(m), mk), 'use Rattle.%s.proofs.%s.Key as %s-key' % (c, m, mk)]
         for g in [x.split('::')[-1] for x in ws[m].callees]:
             if g not in ms and g not in outs:
                 outs.append(g)
     for g in outs:
         gm = cr.mod(cr.by_name(g))
         gk = dash(g)
-        us += ['use %s as %s-C' % (cr.rule(g), gk), 'use %s.Symbol as %s-def' % (gm, gk), 'use %s.Symbol.{name as %s}' % (gm, cr.key(cr.by_name(g))), 'use %s.Met as %s-thm' % (gm, gk)]
-    for m in ms:
-        us += descs[m].get('uses', [])
+        us += ['use %s as %s-C' % (cr.rule(g), gk), 'use %s.Symbol as %s-def' % (gm, gk), 'use %s.Met as %s-thm' % (gm, gk)]
     us = list(dict.fromkeys(us))
     t = '-- The cycle of %s, by hand.\n' % ', '.join(('`%s`' % m for m in ms)) + ''.join(('mod Of%s\n' % camel(m) for m in ms)) + cr.uses(us) + '\n'
-    A, W, mem, run = ('(𝓖 .A)', '(givenOf 𝓤 H 𝓜 𝓖)', '(𝓜 .mem)', '(𝓡 .run)')
     T = '(tablesOf 𝓤 H 𝓜 (tables 𝓤 H 𝓜 𝓡 code.env))'
-    mus = {}
+    at = lambda m, v: ws[m].fillp(measures[m], cr.fns[m], {p.name: '(%s)' % (proj(v, i) + (' .now' if p.isref else '')) for i, p in enumerate(cr.fns[m].params)})
     for m in ms:
-        f = cr.fns[m]
-        w = ws[m]
-        mus[m] = '(λ y. %s)' % w.fillp(measures[m], f, {p.name: '(%s)' % proj('y .0 .3', i) if not p.isref else '(%s .now)' % proj('y .0 .3', i) for i, p in enumerate(f.params)})
-        t += 'abbrev μ-%s : {M : Type 1} (𝓤 : URA M) (H : Heap 𝓤) (A : Atoms 𝓤) (at-mem : Memory → SProp 𝓤) (run : Routine → Fun 𝓤) → %s-C.Con 𝓤 H A at-mem run .Ghost → ℕ\nμ-%s 𝓤 H A at-mem run = %s\n\n' % (dash(m), dash(m), dash(m), mus[m])
+        mk = dash(m)
+        t += 'abbrev μ-%s : {M : Type 1} (𝓤 : URA M) (H : Heap 𝓤) (A : Atoms 𝓤) (at-mem : Memory → SProp 𝓤) (run : Routine → Fun 𝓤) → tripleOf 𝓤 H A %s-F.signature (%s-F.spec 𝓤 H A at-mem run) .Ghost → ℕ\nμ-%s 𝓤 H A at-mem run y = %s\n\n' % (mk, mk, mk, mk, at(m, 'y .0 .3'))
     MU = lambda m: '(μ-%s 𝓤 H (𝓖 .A) (𝓜 .mem) (𝓡 .run))' % dash(m)
     stated = lambda m: '(record { signature = %s-F.signature; run = 𝓡 .run code.%s-routine; spec = %s-F.spec 𝓤 H (𝓖 .A) (𝓜 .mem) (𝓡 .run) })' % (dash(m), dash(m), dash(m))
     g = ['measured 𝓤 H (𝓖 .A) %s %s' % (stated(m), MU(m)) for m in ms]
@@ -1945,15 +1939,15 @@ def write_cycle(cr, measures, descs):
     t += 'pub %s-spec : {M : Type 1} → cycle.statement M\nunfolding %s tablesOf\n%s-spec 𝓤 H 𝓜 𝓖 𝓡 = mutual-elim 𝓤 H (𝓖 .A) %s _<_ (Nat·lt-wfRel .wf) %s\n' % (dash(file), ' '.join(('code.%s-routine' % dash(m) for m in ms)), dash(file), fam, gt)
     for m in ms:
         w = ws[m]
-        args = T
+        k = dash(m)
+        below = []
         for g_ in [x.split('::')[-1] for x in w.callees]:
-            gk = dash(g_)
             if g_ in ms:
                 i = ms.index(g_)
                 pr = 'below' + (' .1' * i + ('' if i == len(ms) - 1 else ' .0'))
-                args += ' (λ y′ lt. %s (%s y′) (subst (λ (s : ℕ). %s y′ < s) e lt) y′ refl)' % (pr, MU(g_), MU(g_))
-            else:
-                args += ' (cited 𝓤 H (%s-C.Con 𝓤 H (𝓖 .A) (𝓜 .mem) (𝓡 .run)) 𝓜 𝓡 code.env %s %s-def.routine code.calls-%s (%s-thm.met 𝓤 H 𝓜 𝓖 𝓡))' % (gk, cr.key(cr.by_name(g_)), gk, cr.key(cr.by_name(g_))[1:], gk)
-        t += '    (λ t below. at-on 𝓤 H (𝓖 .A) {k}-F.signature ({k}-F.spec 𝓤 H (𝓖 .A) (𝓜 .mem) (𝓡 .run)) (WpFn 𝓤 H ({T} .C) ({T} .Λ) code.{k}-function) ({T} .C #{c}·{k}) (code.{k}-unfolded 𝓤 H 𝓜 𝓡) {mu} t (λ y e.\n    {body}))\n'.format(k=dash(m), T=T, c=dash(c), mu=MU(m), body=w.method(W, A, mem, run, T, 'y .0', args))
+                y = '(bound-at (rule-of %s-C.terms x .pars) cs)' % dash(g_)
+                below.append('(λ x lt cs. %s (%s %s) (subst (λ (s : ℕ). %s %s < s) e lt) %s refl)' % (pr, MU(g_), y, MU(g_), y, y))
+        known = ''.join('\n    ' + w.cited(g_, cr) for g_ in [x.split('::')[-1] for x in w.callees] if g_ not in ms)
+        t += '    (λ t below. at-on 𝓤 H (𝓖 .A) {k}-F.signature ({k}-F.spec 𝓤 H (𝓖 .A) (𝓜 .mem) (𝓡 .run)) (WpFn 𝓤 H ({T} .C) ({T} .Λ) code.{k}-function) ({T} .C {k}-key.name) (code.{k}-unfolded 𝓤 H 𝓜 𝓡) {mu} t (λ y e.\n    walks-under 𝓤 H (𝓖 .A) (givenOf 𝓤 H 𝓜 𝓖) ({T} .C) ({T} .Λ) code.{k}-function {k}-C.terms (y .0 .0) (y .0 .1) (y .0 .3) ({k}-W.Self 𝓤 H (𝓖 .A) ({T} .C)) {below} (y .0 .4) {takes}\n    ({k}-W.walk 𝓤 H (𝓖 .A) (givenOf 𝓤 H 𝓜 𝓖) {T}{known})))\n'.format(k=k, T=T, mu=MU(m), below=pairs(below), takes=w.takes(), known=known)
     open(base + '/Proof.antt', 'w').write(prune(t))
     return base

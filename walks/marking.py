@@ -1,11 +1,11 @@
 import handwalk as hw
 
 c=hw.Crate(hw.ROOT, 'marking',types=['validate::OpenStart','running::Record','running::Around','findings::Counts'],
-  calls=['tape::link_at','checker::walk','closing::unclosed','closing::clear_seen','closing::clear_opens'],hand='references',shared={'link_at':'checker','walk':'checker'})
+  calls=['tape::link_at','checker::walk','closing::unclosed','closing::clear_seen','closing::clear_opens'],hand='references',shared={'link_at':'checker','walk':'checker','unclosed':'closing','clear_opens':'closing'})
 U=['use Prim.Native.Nat.{_/_}','use Rattle.tape.specs.Nodes.{count, linkAt}','use Rattle.tape.specs.Nodes.{count as nodes}','use Rattle.cursor.specs.Inner.{Run}','use Rattle.findings.specs.Written.{Wrote, Room, total, limit}','use Rattle.validate.specs.Document as Document','use Rattle.validate.specs.Outcome.{noStart, cleared}','use Rattle.running.specs.Running.{starts, countsOf, aroundOf}','use Rattle.closing.specs.Ends.{Left}','use Rattle.checker.specs.Walking.{Ready, Walked, walkAt}',
  'use Rattle.marking.specs.Entry.{Begun, Endable, Ended, Ran, Fit, Finished, answerOf, reported}']
 U+=['use mathlib.Core.Option.{none}','use Rattle.table.specs.Entries.{Indexed}','use Rattle.validate.specs.Outcome.{answer, listAfter, seenAfter, openAfter}','use Rattle.marking.specs.Entry.{gateOf, fromTable, Passed, lent}']
-fs=['begun','unclosed','ended','run','clear_seen','clear_opens','reported','node_count','table_gate','checked','passed','check']
+fs=['begun','ended','run','clear_seen','reported','node_count','table_gate','checked','passed','check']
 c.call_files(fs, U)
 
 L=U+['use Rattle.references.proofs.Sizes.{less-fits, wide, part-fits}','use Rattle.tape.proofs.OneNumber.{some-nodes}','use Rattle.marking.proofs.Course.{first-run, walk-asks, left-asks, end-asks, ran-whole, seen-inside, opens-inside, finished-whole}']

@@ -1,8 +1,6 @@
--- The contract of `opens::is_calm`, for `calls-any`: what is passed, what is asked, and what is said of the result r and of the last values z.
-use Rattle.references.proofs.Call.{_≡_, ℕ, _<_, _≤_, _+_, Bool, List, [], _∷_, length, URA, w64, SProp, Memory, Routine, Heap, Atoms, Fun, u8, Contract, tripleOf, At, Rule, by-shr, number, truth, struct, of-truth, Chosen, Ks, Qs, As, Vss}
-use Rattle.running.specs.declared.Around.{Around}
+-- The contract of `opens::is_calm`, for its own walk and for the walks that call it: what is passed, what is asked, and what is said of the result r and of the last values z. `known` shows that it is the contract.
+use Rattle.references.proofs.Call.{_≡_, _<_, _≤_, _+_, [], _∷_, length, URA, w64, SProp, Memory, Routine, Heap, Calls, Atoms, Fun, u8, Triple, tripleOf, Terms, val, shr, of-number, of-truth, of-struct, Knows, bound-at, rule-of}
 use Rattle.running.proofs.Around as Around-T
-use Rattle.table.specs.declared.MarkerInfo.{MarkerInfo}
 use Rattle.table.proofs.MarkerInfo as MarkerInfo-T
 use Rattle.tape.specs.Nodes.{linkAt, count}
 use Rattle.table.specs.Entries.{entryOfInfo}
@@ -11,18 +9,14 @@ use Rattle.running.specs.Running.{aroundOf}
 use Rattle.opens.specs.Calm.{calmAt}
 use Rattle.opens.proofs.is_calm as is-calm-F
 
-abbrev pub Con : {M : Type 1} (𝓤 : URA M) (H : Heap 𝓤) (A : Atoms 𝓤) (at-mem : Memory → SProp 𝓤) (run : Routine → Fun 𝓤) → Contract 𝓤
-Con 𝓤 H A at-mem run = tripleOf 𝓤 H A is-calm-F.signature (is-calm-F.spec 𝓤 H A at-mem run)
+abbrev pub terms : Terms
+terms = record {
+  name = is-calm-F.Symbol.name;
+  sorts = shr u8 ∷ val (of-struct MarkerInfo-T.the-type MarkerInfo-T.Laws.the-laws MarkerInfo-T.Laws.the-plain) ∷ shr u8 ∷ shr u8 ∷ val (of-number w64) ∷ val (of-struct Around-T.the-type Around-T.Laws.the-laws Around-T.Laws.the-plain) ∷ val (of-truth) ∷ [];
+  result = of-truth;
+  requires = λ table₀ m₀ source₀ tape₀ i₀ around₀ chapter₀. ((m₀ .«name_start» + m₀ .«name_len» ≤ length table₀) × (i₀ < count tape₀) × (Run source₀ tape₀ (i₀ + 1) (linkAt tape₀ i₀))) ∷ [];
+  ensures = λ table₀ m₀ source₀ tape₀ i₀ around₀ chapter₀ r z. (r ≡ calmAt table₀ source₀ tape₀ (aroundOf around₀) (entryOfInfo m₀) i₀ chapter₀) ∷ [];
+}
 
-module _ (table-at : At) (table₀ : List ℕ) (m₀ : MarkerInfo) (source-at : At) (source₀ : List ℕ) (tape-at : At) (tape₀ : List ℕ) (i₀ : ℕ) (around₀ : Around) (chapter₀ : Bool) where
-  abbrev pub rule : Rule
-  rule = record {
-    name = is-calm-F.Symbol.name;
-    pars = by-shr u8 table-at table₀ ∷ struct MarkerInfo-T.the-type MarkerInfo-T.Laws.the-laws MarkerInfo-T.Laws.the-plain m₀ ∷ by-shr u8 source-at source₀ ∷ by-shr u8 tape-at tape₀ ∷ number w64 i₀ ∷ struct Around-T.the-type Around-T.Laws.the-laws Around-T.Laws.the-plain around₀ ∷ truth chapter₀ ∷ [];
-    result = of-truth;
-    requires = ((m₀ .«name_start» + m₀ .«name_len» ≤ length table₀) × (i₀ < count tape₀) × (Run source₀ tape₀ (i₀ + 1) (linkAt tape₀ i₀))) ∷ [];
-    ensures = λ r z. (r ≡ calmAt table₀ source₀ tape₀ (aroundOf around₀) (entryOfInfo m₀) i₀ chapter₀) ∷ [];
-  }
-
-  abbrev pub to : {M : Type 1} (𝓤 : URA M) (H : Heap 𝓤) (A : Atoms 𝓤) (at-mem : Memory → SProp 𝓤) (run : Routine → Fun 𝓤) → Chosen (rule .pars) → Con 𝓤 H A at-mem run .Ghost
-  to 𝓤 H A at-mem run cs = ((Ks (rule .pars) cs, Qs (rule .pars) cs, tt, As (rule .pars) cs, Vss (rule .pars)), tt)
+pub known : {M : Type 1} (𝓤 : URA M) (H : Heap 𝓤) (A : Atoms 𝓤) (at-mem : Memory → SProp 𝓤) (run : Routine → Fun 𝓤) (C : Calls 𝓤 H) → Triple 𝓤 (C is-calm-F.Symbol.name) (tripleOf 𝓤 H A is-calm-F.signature (is-calm-F.spec 𝓤 H A at-mem run)) → Knows 𝓤 H A C terms
+known 𝓤 H A at-mem run C holds x cs = holds (bound-at (rule-of terms x .pars) cs)

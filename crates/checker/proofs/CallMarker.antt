@@ -1,5 +1,5 @@
--- The contract of `checker::marker`, for `calls-any`: what is passed, what is asked, and what is said of the result r and of the last values z.
-use Rattle.references.proofs.Call.{_≡_, ℕ, _<_, List, [], _∷_, URA, w64, SProp, Memory, Routine, Heap, Atoms, Fun, u8, u64, Contract, tripleOf, At, Rule, by-shr, number, of-enum, Chosen, Ks, Qs, As, Vss}
+-- The contract of `checker::marker`, for its own walk and for the walks that call it: what is passed, what is asked, and what is said of the result r and of the last values z. `known` shows that it is the contract.
+use Rattle.references.proofs.Call.{_≡_, _<_, [], _∷_, URA, w64, SProp, Memory, Routine, Heap, Calls, Atoms, Fun, u8, u64, Triple, tripleOf, Terms, val, shr, of-number, of-enum, Knows, bound-at, rule-of}
 use Rattle.table.proofs.Info as Info-T
 use Rattle.tape.specs.Nodes.{kindAt, isOpen}
 use Rattle.tape.specs.Nodes.{count as nodes}
@@ -8,18 +8,14 @@ use Rattle.cursor.specs.Info.{infoAt}
 use Rattle.checker.specs.Walking.{onlyOpen}
 use Rattle.checker.proofs.marker as marker-F
 
-abbrev pub Con : {M : Type 1} (𝓤 : URA M) (H : Heap 𝓤) (A : Atoms 𝓤) (at-mem : Memory → SProp 𝓤) (run : Routine → Fun 𝓤) → Contract 𝓤
-Con 𝓤 H A at-mem run = tripleOf 𝓤 H A marker-F.signature (marker-F.spec 𝓤 H A at-mem run)
+abbrev pub terms : Terms
+terms = record {
+  name = marker-F.Symbol.name;
+  sorts = shr u8 ∷ shr u64 ∷ val (of-number w64) ∷ shr u8 ∷ val (of-number w64) ∷ [];
+  result = of-enum Info-T.the-type Info-T.Laws.the-laws Info-T.Laws.the-plain tt;
+  requires = λ table₀ words₀ count₀ tape₀ i₀. ((Indexed table₀ words₀ count₀) × (i₀ < nodes tape₀)) ∷ [];
+  ensures = λ table₀ words₀ count₀ tape₀ i₀ r z. (infoOf r ≡ onlyOpen (isOpen (kindAt tape₀ i₀)) (infoAt table₀ tape₀ i₀)) ∷ [];
+}
 
-module _ (table-at : At) (table₀ : List ℕ) (words-at : At) (words₀ : List ℕ) (count₀ : ℕ) (tape-at : At) (tape₀ : List ℕ) (i₀ : ℕ) where
-  abbrev pub rule : Rule
-  rule = record {
-    name = marker-F.Symbol.name;
-    pars = by-shr u8 table-at table₀ ∷ by-shr u64 words-at words₀ ∷ number w64 count₀ ∷ by-shr u8 tape-at tape₀ ∷ number w64 i₀ ∷ [];
-    result = of-enum Info-T.the-type Info-T.Laws.the-laws;
-    requires = ((Indexed table₀ words₀ count₀) × (i₀ < nodes tape₀)) ∷ [];
-    ensures = λ r z. (infoOf r ≡ onlyOpen (isOpen (kindAt tape₀ i₀)) (infoAt table₀ tape₀ i₀)) ∷ [];
-  }
-
-  abbrev pub to : {M : Type 1} (𝓤 : URA M) (H : Heap 𝓤) (A : Atoms 𝓤) (at-mem : Memory → SProp 𝓤) (run : Routine → Fun 𝓤) → Chosen (rule .pars) → Con 𝓤 H A at-mem run .Ghost
-  to 𝓤 H A at-mem run cs = ((Ks (rule .pars) cs, Qs (rule .pars) cs, tt, As (rule .pars) cs, Vss (rule .pars)), tt)
+pub known : {M : Type 1} (𝓤 : URA M) (H : Heap 𝓤) (A : Atoms 𝓤) (at-mem : Memory → SProp 𝓤) (run : Routine → Fun 𝓤) (C : Calls 𝓤 H) → Triple 𝓤 (C marker-F.Symbol.name) (tripleOf 𝓤 H A marker-F.signature (marker-F.spec 𝓤 H A at-mem run)) → Knows 𝓤 H A C terms
+known 𝓤 H A at-mem run C holds x cs = holds (bound-at (rule-of terms x .pars) cs)

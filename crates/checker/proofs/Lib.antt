@@ -6,7 +6,6 @@ pub mod Entries
 pub mod CallAnchored
 pub mod CallIsQuiet
 pub mod CallVisitMarker
-pub mod CallMilestone
 pub mod CallLinkAt
 pub mod CallWithAnchor
 pub mod CallInside

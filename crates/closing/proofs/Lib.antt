@@ -4,3 +4,5 @@ pub mod Starts
 pub mod Lacking
 pub mod CallTellOpen
 pub mod CallCounts
+pub mod CallUnclosed
+pub mod CallClearOpens

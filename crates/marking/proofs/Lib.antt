@@ -4,11 +4,9 @@ pub mod Whole
 pub mod Lists
 pub mod Course
 pub mod CallBegun
-pub mod CallUnclosed
 pub mod CallEnded
 pub mod CallRun
 pub mod CallClearSeen
-pub mod CallClearOpens
 pub mod CallReported
 pub mod CallNodeCount
 pub mod Through
