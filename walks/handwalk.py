@@ -533,7 +533,7 @@ class Crate:
             'use %s.{if-then, skip-then, exit-then, switch-then, assoc-then, loop-then, meets-at, frees-any}' % s.law('Flow'),
             'use %s.{At, lent as relent, ptrVal, fatVal, ref, HasRef, HasMut, HasShr, KeptRef, KeptMut, KeptShr, OpenRef, OpenAt, lend-ref, back-ref, lend-mut, back-mut, lend-shr, back-shr, open-ref, shut-ref, open-at, shut-at, back-at}' % s.law('Hand'),
             'use %s.{Inputs, Rule, rule-of, Met, Knows, bound-at, calls-any, calls-any-last, calls-met, calls-met-last}' % s.law('Call'),
-            'use %s.{Facing, Walks, Walked, Leaves, walks-under, proves, ends, say, span, env-of, Stands, Dying}' % s.law('Ends'),
+            'use %s.{Facing, WalkFor, WalkIn, Leaves, walks-under, proves, ends, say, span, env-of, Stands, Dying}' % s.law('Ends'),
             'use types.Kit.{Sq}', 'use mathlib.Core.List.{_++_}', 'use lib.ListN.{take, drop as skip}', 'use lib.Seq.{length-take-le}', 'use %s.{part, KeptPart, lend-part, back-part, part-length, room-le, local, KeptLocal, lend-local, back-local}' % s.law('Hand'), 'use %s.{ne-of, is-true, is-false}' % s.law('Flow'), 'use denote.Index.{place}', 'use lib.Dec.{nleb→lt}',
             'use denote.Slice.{sliceVal}',
             'use mir.Syntax.{tyArray}',
@@ -1819,7 +1819,7 @@ class Walk:
         req3 = len(f.req) > 2
         reqlet = s.let('req', c.says(f, f.req, d), flat([conj_at('reqs', i, len(f.req)) for i in range(len(f.req))])) if req3 else ''
         rule = 'rule-of %s-C.terms %s' % (k, s.inputs())
-        X = 'Walks 𝓤 H A W (𝓣 .C) (𝓣 .Λ) %s %s-C.terms' % (fn, k)
+        X = 'WalkFor 𝓤 H A W (𝓣 .C) (𝓣 .Λ) %s %s-C.terms' % (fn, k)
         slets = ''
         if selfs:
             at = lambda g, v: s.fillp(s.cycle['measures'][g], c.fns[g], {p.name: '(%s)' % (proj(v, i) + (' .1' if p.isref else '')) for i, p in enumerate(c.fns[g].params)})
@@ -1838,7 +1838,7 @@ class Walk:
                 o.append('  abbrev req : %s\n  req = %s\n' % (c.says(f, f.req, d), flat([conj_at('reqs', i, len(f.req)) for i in range(len(f.req))])))
             o.append('  abbrev ρ : Rule\n  ρ = %s\n' % rule)
             o += s.lemmas
-            o.append('  pub walk : Walked 𝓤 H A W (𝓣 .C) (𝓣 .Λ) %s %s-C.terms %s\n  unfolding afterTurn\n  walk %s =\n      %s' % (fn, k, s.inputs(), ' '.join(ls), slets + s.head(t) + t + '\n'))
+            o.append('  pub walk : WalkIn 𝓤 H A W (𝓣 .C) (𝓣 .Λ) %s %s-C.terms %s\n  unfolding afterTurn\n  walk %s =\n      %s' % (fn, k, s.inputs(), ' '.join(ls), slets + s.head(t) + t + '\n'))
         else:
             if selfs:
                 X = '(λ x. Self 𝓤 H A (𝓣 .C) x → %s x)' % X

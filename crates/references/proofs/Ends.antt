@@ -395,11 +395,11 @@ module _ {M : Type 1} {𝓤 : URA M} {H : Heap 𝓤} {A : Atoms 𝓤} (W : Given
 -- ---- a walk is a proof of the contract
 module _ {M : Type 1} (𝓤 : URA M) (H : Heap 𝓤) (A : Atoms 𝓤) (W : Given 𝓤 H A) (C : Calls 𝓤 H) (Λ : Loops 𝓤 H) (f : Fn) (F : Terms) where
   -- the code, from where its body begins
-  abbrev pub Walked : Inputs (F .sorts) → Type 1
-  Walked x = Allocs 𝓤 H (f .locals) (λ E. Sq W (Begun W E (Vs (rule-of F x .pars)) (Held 𝓤 H A (rule-of F x .pars))) (runs C Λ E (f .body) (atRet E (Leaves 𝓤 H A (rule-of F x)))))
+  abbrev pub WalkIn : Inputs (F .sorts) → Type 1
+  WalkIn x = Allocs 𝓤 H (f .locals) (λ E. Sq W (Begun W E (Vs (rule-of F x .pars)) (Held 𝓤 H A (rule-of F x .pars))) (runs C Λ E (f .body) (atRet E (Leaves 𝓤 H A (rule-of F x)))))
 
-  abbrev pub Walks : Inputs (F .sorts) → Type 1
-  Walks x = Every (rule-of F x .requires) → Walked x
+  abbrev pub WalkFor : Inputs (F .sorts) → Type 1
+  WalkFor x = Every (rule-of F x .requires) → WalkIn x
 
   module _ (κs : Lfts (refs (F .sorts))) (qs : Shares (refs (F .sorts))) (a : Passed (F .sorts)) where
     abbrev xᵢ : Inputs (F .sorts)
@@ -408,7 +408,7 @@ module _ {M : Type 1} (𝓤 : URA M) (H : Heap 𝓤) (A : Atoms 𝓤) (W : Given
     abbrev ρᵢ : Rule
     ρᵢ = rule-of F xᵢ
 
-    walk-from : (vss : Each (ρᵢ .pars)) → TakesIn W (f .locals) (ρᵢ .pars) → (Related (ρᵢ .pars) (Vss (ρᵢ .pars)) → Walks xᵢ) → ent 𝓤 (Enters 𝓤 H A ρᵢ vss) (WpFn 𝓤 H C Λ f (flat-of (ρᵢ .pars) vss) (Leaves 𝓤 H A ρᵢ))
+    walk-from : (vss : Each (ρᵢ .pars)) → TakesIn W (f .locals) (ρᵢ .pars) → (Related (ρᵢ .pars) (Vss (ρᵢ .pars)) → WalkFor xᵢ) → ent 𝓤 (Enters 𝓤 H A ρᵢ vss) (WpFn 𝓤 H C Λ f (flat-of (ρᵢ .pars) vss) (Leaves 𝓤 H A ρᵢ))
     walk-from vss takes w =
         let TO : SProp 𝓤 = sep 𝓤 (ToksIn 𝓤 H A (ρᵢ .pars)) (sem 𝓤 H A (OwnsIn (ρᵢ .pars) vss)) in
         let κ : Lft = first-life (F .sorts) xᵢ in
@@ -422,17 +422,17 @@ module _ {M : Type 1} (𝓤 : URA M) (H : Heap 𝓤) (A : Atoms 𝓤) (W : Given
         (via 𝓤 (⋆ 𝓤 H A (Held 𝓤 H A (ρᵢ .pars))) (take-up 𝓤 H A W (ρᵢ .pars)) (qed W (Held 𝓤 H A (ρᵢ .pars)) ∵ enter ! C Λ f (Vs (ρᵢ .pars)) (Leaves 𝓤 H A ρᵢ) $
         begin-all W (f .locals) (ρᵢ .pars) (λ E. runs C Λ E (f .body) (atRet E (Leaves 𝓤 H A ρᵢ))) (Held 𝓤 H A (ρᵢ .pars)) takes (fitting κ (F .sorts) κs qs a g′) (w g′ req)))))))
 
-    pub walks : (vss : Each (ρᵢ .pars)) → TakesIn W (f .locals) (ρᵢ .pars) → Facing (F .sorts) Walks → ent 𝓤 (Enters 𝓤 H A ρᵢ vss) (WpFn 𝓤 H C Λ f (flat-of (ρᵢ .pars) vss) (Leaves 𝓤 H A ρᵢ))
-    walks vss takes w = walk-from vss takes (λ g. faced (first-life (F .sorts) xᵢ) (F .sorts) Walks w κs qs a g)
+    pub walks : (vss : Each (ρᵢ .pars)) → TakesIn W (f .locals) (ρᵢ .pars) → Facing (F .sorts) WalkFor → ent 𝓤 (Enters 𝓤 H A ρᵢ vss) (WpFn 𝓤 H C Λ f (flat-of (ρᵢ .pars) vss) (Leaves 𝓤 H A ρᵢ))
+    walks vss takes w = walk-from vss takes (λ g. faced (first-life (F .sorts) xᵢ) (F .sorts) WalkFor w κs qs a g)
 
     -- a walk under what else is known of what is passed, as in a cycle of calls
-    pub walks-under : (P : Inputs (F .sorts) → Type 1) → P xᵢ → (vss : Each (ρᵢ .pars)) → TakesIn W (f .locals) (ρᵢ .pars) → Facing (F .sorts) (λ x. P x → Walks x) → ent 𝓤 (Enters 𝓤 H A ρᵢ vss) (WpFn 𝓤 H C Λ f (flat-of (ρᵢ .pars) vss) (Leaves 𝓤 H A ρᵢ))
-    walks-under P p vss takes w = walk-from vss takes (λ g. faced (first-life (F .sorts) xᵢ) (F .sorts) (λ x. P x → Walks x) w κs qs a g p)
+    pub walks-under : (P : Inputs (F .sorts) → Type 1) → P xᵢ → (vss : Each (ρᵢ .pars)) → TakesIn W (f .locals) (ρᵢ .pars) → Facing (F .sorts) (λ x. P x → WalkFor x) → ent 𝓤 (Enters 𝓤 H A ρᵢ vss) (WpFn 𝓤 H C Λ f (flat-of (ρᵢ .pars) vss) (Leaves 𝓤 H A ρᵢ))
+    walks-under P p vss takes w = walk-from vss takes (λ g. faced (first-life (F .sorts) xᵢ) (F .sorts) (λ x. P x → WalkFor x) w κs qs a g p)
 
 -- a function's theorem, at its own entry
 module _ {M : Type 1} (𝓤 : URA M) (H : Heap 𝓤) (𝓜 : Model 𝓤 H) (𝓖 : GhostRules 𝓤 H) (𝓡 : Running 𝓤 H 𝓜) (γ : Named) where
   pub proves : (k : Name) (f : Fn) → Closed 𝓤 H (tables 𝓤 H 𝓜 𝓡 γ .C) (tables 𝓤 H 𝓜 𝓡 γ .Λ) k f → (F : Terms) (κs : Lfts (refs (F .sorts))) (qs : Shares (refs (F .sorts))) (a : Passed (F .sorts)) (vss : Each (rule-of F (inputs (F .sorts) κs qs a) .pars))
-      → TakesIn (givenOf 𝓤 H 𝓜 𝓖) (f .locals) (rule-of F (inputs (F .sorts) κs qs a) .pars) → Facing (F .sorts) (Walks 𝓤 H (𝓖 .A) (givenOf 𝓤 H 𝓜 𝓖) (tables 𝓤 H 𝓜 𝓡 γ .C) (tables 𝓤 H 𝓜 𝓡 γ .Λ) f F)
+      → TakesIn (givenOf 𝓤 H 𝓜 𝓖) (f .locals) (rule-of F (inputs (F .sorts) κs qs a) .pars) → Facing (F .sorts) (WalkFor 𝓤 H (𝓖 .A) (givenOf 𝓤 H 𝓜 𝓖) (tables 𝓤 H 𝓜 𝓡 γ .C) (tables 𝓤 H 𝓜 𝓡 γ .Λ) f F)
       → ent 𝓤 (Enters 𝓤 H (𝓖 .A) (rule-of F (inputs (F .sorts) κs qs a)) vss) (tables 𝓤 H 𝓜 𝓡 γ .C k (flat-of (rule-of F (inputs (F .sorts) κs qs a) .pars) vss) (Leaves 𝓤 H (𝓖 .A) (rule-of F (inputs (F .sorts) κs qs a))))
   proves k f closed F κs qs a vss takes w = via 𝓤 _ (walks 𝓤 H (𝓖 .A) (givenOf 𝓤 H 𝓜 𝓖) (tables 𝓤 H 𝓜 𝓡 γ .C) (tables 𝓤 H 𝓜 𝓡 γ .Λ) f F κs qs a vss takes w) (closed _ _)
 

@@ -19,7 +19,7 @@ use denote.Triple.Table.{cited}
 use Rattle.references.proofs.Flow.{if-then, skip-then, assoc-then}
 use Rattle.references.proofs.Hand.{HasRef, OpenRef, open-ref, shut-ref}
 use Rattle.references.proofs.Call.{Rule, rule-of, Knows, calls-any}
-use Rattle.references.proofs.Ends.{Facing, Walks, proves, ends, span}
+use Rattle.references.proofs.Ends.{Facing, WalkFor, proves, ends, span}
 use Rattle.references.proofs.Flow.{is-true, is-false}
 use Rattle.attachment.proofs.Attached as Attached-T
 use Rattle.attachment.proofs.Attached.Laws as Attached-L
@@ -51,7 +51,7 @@ use Rattle.checker.proofs.numbers_after.Symbol as numbers-after-def
 use Rattle.checker.proofs.numbers_after.Met as numbers-after-thm
 
 module _ {M : Type 1} (𝓤 : URA M) (H : Heap 𝓤) (A : Atoms 𝓤) (W : Given 𝓤 H A) (𝓣 : Tables 𝓤 H) (known-is-number : Knows 𝓤 H A (𝓣 .C) is-number-C.terms) (known-leaf : Knows 𝓤 H A (𝓣 .C) leaf-C.terms) (known-numbers-after : Knows 𝓤 H A (𝓣 .C) numbers-after-C.terms) where
-  pub walk : Facing (visit-leaf-C.terms .sorts) (Walks 𝓤 H A W (𝓣 .C) (𝓣 .Λ) code.function visit-leaf-C.terms)
+  pub walk : Facing (visit-leaf-C.terms .sorts) (WalkFor 𝓤 H A W (𝓣 .C) (𝓣 .Λ) code.function visit-leaf-C.terms)
   unfolding afterTurn
   walk table-at table₀ table-room table-n words-at words₀ words-room words-n count₀ count₀-is source-at source₀ source-room source-n tape-at tape₀ tape-room tape-n i₀ i₀-is next₀ next₀-is to₀ to₀-is around₀ around₀-is numbers₀ numbers₀-is rec-at rec₀ seen-at seen₀ seen-room seen-n list-at list₀ list-room list-n req l0 l1 l2 l3 l4 l5 l6 l7 l8 l9 l10 l11 l12 l13 l14 l15 l16 l17 l18 l19 l20 =
       let ρ : Rule = rule-of visit-leaf-C.terms ((table-at, table₀), ((words-at, words₀), (count₀, ((source-at, source₀), ((tape-at, tape₀), (i₀, (next₀, (to₀, (around₀, (numbers₀, ((rec-at, rec₀), ((seen-at, seen₀), ((list-at, list₀), tt))))))))))))) in

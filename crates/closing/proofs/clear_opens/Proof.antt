@@ -27,7 +27,7 @@ use denote.Struct.Laws as LL
 use Rattle.references.proofs.Flow.{if-then, skip-then, exit-then, loop-then}
 use Rattle.references.proofs.Hand.{fatVal, HasMut, OpenAt, open-at, shut-at}
 use Rattle.references.proofs.Call.{Rule, rule-of}
-use Rattle.references.proofs.Ends.{Facing, Walks, proves, ends, say, span, env-of, Stands}
+use Rattle.references.proofs.Ends.{Facing, WalkFor, proves, ends, say, span, env-of, Stands}
 use denote.Index.{place}
 use Rattle.validate.specs.declared.OpenStart.{OpenStart}
 use Rattle.validate.proofs.OpenStart as OpenStart-T
@@ -41,7 +41,7 @@ use Rattle.closing.proofs.clear_opens.Statement as stated
 use Rattle.closing.proofs.clear_opens.Key as key
 
 module _ {M : Type 1} (𝓤 : URA M) (H : Heap 𝓤) (A : Atoms 𝓤) (W : Given 𝓤 H A) (𝓣 : Tables 𝓤 H) where
-  pub walk : Facing (clear-opens-C.terms .sorts) (Walks 𝓤 H A W (𝓣 .C) (𝓣 .Λ) code.function clear-opens-C.terms)
+  pub walk : Facing (clear-opens-C.terms .sorts) (WalkFor 𝓤 H A W (𝓣 .C) (𝓣 .Λ) code.function clear-opens-C.terms)
   unfolding afterTurn
   walk opens-at opens₀ opens-room opens-n n₀ n₀-is req l0 l1 l2 l3 l4 l5 l6 l7 =
       let ρ : Rule = rule-of clear-opens-C.terms ((opens-at, opens₀), (n₀, tt)) in

@@ -28,7 +28,7 @@ use denote.Triple.Table.{cited}
 use Rattle.references.proofs.Flow.{if-then, skip-then, exit-then, loop-then}
 use Rattle.references.proofs.Hand.{fatVal, HasMut, HasShr, OpenAt, open-at, back-at}
 use Rattle.references.proofs.Call.{Rule, rule-of, Knows, calls-any}
-use Rattle.references.proofs.Ends.{Facing, Walks, proves, ends, say, span, env-of, Stands}
+use Rattle.references.proofs.Ends.{Facing, WalkFor, proves, ends, say, span, env-of, Stands}
 use denote.Index.{place}
 use Rattle.findings.specs.declared.Counts.{Counts}
 use Rattle.findings.proofs.Counts as Counts-T
@@ -55,7 +55,7 @@ use Rattle.closing.proofs.tell_open.Symbol as tell-open-def
 use Rattle.closing.proofs.tell_open.Met as tell-open-thm
 
 module _ {M : Type 1} (𝓤 : URA M) (H : Heap 𝓤) (A : Atoms 𝓤) (W : Given 𝓤 H A) (𝓣 : Tables 𝓤 H) (known-counts : Knows 𝓤 H A (𝓣 .C) counts-C.terms) (known-tell-open : Knows 𝓤 H A (𝓣 .C) tell-open-C.terms) where
-  pub walk : Facing (unclosed-C.terms .sorts) (Walks 𝓤 H A W (𝓣 .C) (𝓣 .Λ) code.function unclosed-C.terms)
+  pub walk : Facing (unclosed-C.terms .sorts) (WalkFor 𝓤 H A W (𝓣 .C) (𝓣 .Λ) code.function unclosed-C.terms)
   unfolding afterTurn
   walk source-at source₀ source-room source-n tape-at tape₀ tape-room tape-n opens-at opens₀ opens-room opens-n rec₀ rec₀-is list-at list₀ list-room list-n req l0 l1 l2 l3 l4 l5 l6 l7 l8 l9 l10 l11 l12 l13 l14 l15 =
       let ρ : Rule = rule-of unclosed-C.terms ((source-at, source₀), ((tape-at, tape₀), ((opens-at, opens₀), (rec₀, ((list-at, list₀), tt))))) in

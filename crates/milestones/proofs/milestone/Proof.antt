@@ -15,7 +15,7 @@ use denote.Struct.Laws as LL
 use denote.Enum.Laws as EL
 use denote.Triple.Table.{cited}
 use Rattle.references.proofs.Call.{Rule, rule-of, Knows, calls-any}
-use Rattle.references.proofs.Ends.{Facing, Walks, proves, ends, span}
+use Rattle.references.proofs.Ends.{Facing, WalkFor, proves, ends, span}
 use Rattle.milestones.proofs.Step as Step-T
 use Rattle.milestones.proofs.Step.Laws as Step-L
 use Rattle.milestones.proofs.Paired as Paired-T
@@ -44,7 +44,7 @@ use Rattle.milestones.proofs.after_pair.Symbol as after-pair-def
 use Rattle.milestones.proofs.after_pair.Met as after-pair-thm
 
 module _ {M : Type 1} (𝓤 : URA M) (H : Heap 𝓤) (A : Atoms 𝓤) (W : Given 𝓤 H A) (𝓣 : Tables 𝓤 H) (known-step-of : Knows 𝓤 H A (𝓣 .C) step-of-C.terms) (known-pair : Knows 𝓤 H A (𝓣 .C) pair-C.terms) (known-after-pair : Knows 𝓤 H A (𝓣 .C) after-pair-C.terms) where
-  pub walk : Facing (milestone-C.terms .sorts) (Walks 𝓤 H A W (𝓣 .C) (𝓣 .Λ) code.function milestone-C.terms)
+  pub walk : Facing (milestone-C.terms .sorts) (WalkFor 𝓤 H A W (𝓣 .C) (𝓣 .Λ) code.function milestone-C.terms)
   unfolding afterTurn
   walk m₀ m₀-is source-at source₀ source-room source-n tape-at tape₀ tape-room tape-n i₀ i₀-is opens-at opens₀ opens-room opens-n rec₀ rec₀-is list-at list₀ list-room list-n req l0 l1 l2 l3 l4 l5 l6 l7 l8 l9 l10 l11 l12 l13 =
       let ρ : Rule = rule-of milestone-C.terms (m₀, ((source-at, source₀), ((tape-at, tape₀), (i₀, ((opens-at, opens₀), (rec₀, ((list-at, list₀), tt))))))) in

@@ -31,7 +31,7 @@ use denote.Triple.Table.{cited}
 use Rattle.references.proofs.Flow.{if-then, skip-then, exit-then, loop-then}
 use Rattle.references.proofs.Hand.{At, fatVal, HasMut, HasShr, OpenAt, open-at, back-at}
 use Rattle.references.proofs.Call.{Rule, rule-of, Knows, calls-any}
-use Rattle.references.proofs.Ends.{Facing, Walks, proves, ends, say, span, env-of, Stands}
+use Rattle.references.proofs.Ends.{Facing, WalkFor, proves, ends, say, span, env-of, Stands}
 use Rattle.references.proofs.Flow.{is-true, is-false}
 use denote.Index.{place}
 use Rattle.milestones.proofs.Found as Found-T
@@ -56,7 +56,7 @@ use Rattle.milestones.proofs.has_base.Symbol as has-base-def
 use Rattle.milestones.proofs.has_base.Met as has-base-thm
 
 module _ {M : Type 1} (𝓤 : URA M) (H : Heap 𝓤) (A : Atoms 𝓤) (W : Given 𝓤 H A) (𝓣 : Tables 𝓤 H) (known-has-base : Knows 𝓤 H A (𝓣 .C) has-base-C.terms) where
-  pub walk : Facing (nearest-C.terms .sorts) (Walks 𝓤 H A W (𝓣 .C) (𝓣 .Λ) code.function nearest-C.terms)
+  pub walk : Facing (nearest-C.terms .sorts) (WalkFor 𝓤 H A W (𝓣 .C) (𝓣 .Λ) code.function nearest-C.terms)
   unfolding afterTurn
   walk source-at source₀ source-room source-n tape-at tape₀ tape-room tape-n opens-at opens₀ opens-room opens-n k₀ k₀-is at₀ at₀-is len₀ len₀-is req l0 l1 l2 l3 l4 l5 l6 l7 l8 l9 l10 l11 l12 l13 =
       let ρ : Rule = rule-of nearest-C.terms ((source-at, source₀), ((tape-at, tape₀), ((opens-at, opens₀), (k₀, (at₀, (len₀, tt)))))) in

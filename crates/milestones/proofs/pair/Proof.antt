@@ -22,7 +22,7 @@ use denote.Triple.Table.{cited}
 use Rattle.references.proofs.Flow.{switch-then, assoc-then}
 use Rattle.references.proofs.Hand.{At}
 use Rattle.references.proofs.Call.{Rule, rule-of, Knows, calls-any}
-use Rattle.references.proofs.Ends.{Facing, Walks, proves, ends, span}
+use Rattle.references.proofs.Ends.{Facing, WalkFor, proves, ends, span}
 use Rattle.milestones.specs.declared.Found.{Found}
 use Rattle.milestones.proofs.Found as Found-T
 use Rattle.milestones.proofs.Found.Laws as Found-L
@@ -65,7 +65,7 @@ cases-Step (Step-V.End a0 a1) = inr (inl (a0, a1, refl))
 cases-Step Step-V.Neither = inr (inr refl)
 
 module _ {M : Type 1} (𝓤 : URA M) (H : Heap 𝓤) (A : Atoms 𝓤) (W : Given 𝓤 H A) (𝓣 : Tables 𝓤 H) (known-push : Knows 𝓤 H A (𝓣 .C) push-C.terms) (known-nearest : Knows 𝓤 H A (𝓣 .C) nearest-C.terms) (known-remove : Knows 𝓤 H A (𝓣 .C) remove-C.terms) where
-  pub walk : Facing (pair-C.terms .sorts) (Walks 𝓤 H A W (𝓣 .C) (𝓣 .Λ) code.function pair-C.terms)
+  pub walk : Facing (pair-C.terms .sorts) (WalkFor 𝓤 H A W (𝓣 .C) (𝓣 .Λ) code.function pair-C.terms)
   unfolding afterTurn
   walk source-at source₀ source-room source-n tape-at tape₀ tape-room tape-n step₀ step₀-is opens-at opens₀ opens-room opens-n k₀ k₀-is req l0 l1 l2 l3 l4 l5 l6 l7 l8 l9 l10 l11 l12 l13 l14 l15 l16 l17 l18 l19 l20 l21 l22 =
       let ρ : Rule = rule-of pair-C.terms ((source-at, source₀), ((tape-at, tape₀), (step₀, ((opens-at, opens₀), (k₀, tt))))) in

@@ -20,7 +20,7 @@ use denote.Index.{place-is}
 use denote.Struct.Laws as LL
 use Rattle.references.proofs.Hand.{HasMut, OpenAt, open-at, shut-at}
 use Rattle.references.proofs.Call.{Rule, rule-of}
-use Rattle.references.proofs.Ends.{Facing, Walks, proves, ends, span}
+use Rattle.references.proofs.Ends.{Facing, WalkFor, proves, ends, span}
 use denote.Index.{place}
 use Rattle.validate.proofs.OpenStart as OpenStart-T
 use Rattle.validate.proofs.OpenStart.Laws as OpenStart-L
@@ -32,7 +32,7 @@ use Rattle.milestones.proofs.push.Statement as stated
 use Rattle.milestones.proofs.push.Key as key
 
 module _ {M : Type 1} (𝓤 : URA M) (H : Heap 𝓤) (A : Atoms 𝓤) (W : Given 𝓤 H A) (𝓣 : Tables 𝓤 H) where
-  pub walk : Facing (push-C.terms .sorts) (Walks 𝓤 H A W (𝓣 .C) (𝓣 .Λ) code.function push-C.terms)
+  pub walk : Facing (push-C.terms .sorts) (WalkFor 𝓤 H A W (𝓣 .C) (𝓣 .Λ) code.function push-C.terms)
   unfolding afterTurn
   walk opens-at opens₀ opens-room opens-n k₀ k₀-is o₀ o₀-is req l0 l1 l2 l3 l4 l5 =
       let ρ : Rule = rule-of push-C.terms ((opens-at, opens₀), (k₀, (o₀, tt))) in

@@ -26,7 +26,7 @@ use denote.Struct.Laws as LL
 use Rattle.references.proofs.Flow.{if-then, skip-then, exit-then, loop-then}
 use Rattle.references.proofs.Hand.{fatVal, HasMut, OpenAt, open-at, shut-at, back-at}
 use Rattle.references.proofs.Call.{Rule, rule-of}
-use Rattle.references.proofs.Ends.{Facing, Walks, proves, ends, say, span, env-of, Stands}
+use Rattle.references.proofs.Ends.{Facing, WalkFor, proves, ends, say, span, env-of, Stands}
 use denote.Index.{place}
 use Rattle.validate.specs.declared.OpenStart.{OpenStart}
 use Rattle.validate.proofs.OpenStart as OpenStart-T
@@ -41,7 +41,7 @@ use Rattle.milestones.proofs.remove.Statement as stated
 use Rattle.milestones.proofs.remove.Key as key
 
 module _ {M : Type 1} (𝓤 : URA M) (H : Heap 𝓤) (A : Atoms 𝓤) (W : Given 𝓤 H A) (𝓣 : Tables 𝓤 H) where
-  pub walk : Facing (remove-C.terms .sorts) (Walks 𝓤 H A W (𝓣 .C) (𝓣 .Λ) code.function remove-C.terms)
+  pub walk : Facing (remove-C.terms .sorts) (WalkFor 𝓤 H A W (𝓣 .C) (𝓣 .Λ) code.function remove-C.terms)
   unfolding afterTurn
   walk opens-at opens₀ opens-room opens-n k₀ k₀-is at₀ at₀-is req l0 l1 l2 l3 l4 l5 l6 l7 l8 l9 l10 l11 l12 =
       let ρ : Rule = rule-of remove-C.terms ((opens-at, opens₀), (k₀, (at₀, tt))) in

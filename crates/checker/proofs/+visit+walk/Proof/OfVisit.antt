@@ -24,7 +24,7 @@ use denote.Struct.Laws as LL
 use Rattle.references.proofs.Flow.{if-then, skip-then, assoc-then}
 use Rattle.references.proofs.Hand.{At, ptrVal, fatVal, HasRef, HasMut, HasShr, OpenRef, open-ref, shut-ref}
 use Rattle.references.proofs.Call.{Inputs, Rule, rule-of, Met, Knows, calls-any, calls-met}
-use Rattle.references.proofs.Ends.{Walked, Leaves, ends, say, span, env-of, Stands}
+use Rattle.references.proofs.Ends.{WalkIn, Leaves, ends, say, span, env-of, Stands}
 use types.Kit.{Sq}
 use Rattle.references.proofs.Flow.{is-true, is-false}
 use Rattle.attachment.specs.declared.Attached.{Attached}
@@ -195,7 +195,7 @@ module _ {M : Type 1} (𝓤 : URA M) (H : Heap 𝓤) (A : Atoms 𝓤) (W : Given
       skip-then ! $
       forget ! 32 refl $ forget ! 33 refl $ say ! (φ-c18 ((xc13 .0), ((xc13 .1 .0), (i₀ + 1, (z-link-at .0, ((xc13 .1 .1 .0), ((xc13 .1 .1 .1 .0), tt))))))) (is-b-c13, (is-p-c13, (fits-1, (fits-2, (len-ys-c13, (len-l-c13, (inv-c13 .0, refl, says-link-at, inv-c13 .1))))))) $ keep ! (0 ∷ span 3 47 (1 ∷ 2 ∷ span 50 4 [])) $ cut-18 l0 l1 l2 l3 l4 l5 l6 l7 l8 l9 l10 l11 l12 l13 l14 l15 l16 l17 l18 l19 l20 l21 l22 l23 l24 l25 l26 l27 l28 l29 l30 l31 l32 l33 l34 l35 l36 l37 l38 l39 l40 l41 l42 l43 ((xc13 .0), ((xc13 .1 .0), (i₀ + 1, (z-link-at .0, ((xc13 .1 .1 .0), ((xc13 .1 .1 .1 .0), tt))))))))))
 
-  pub walk : Walked 𝓤 H A W (𝓣 .C) (𝓣 .Λ) code.visit-function visit-C.terms ((table-at, table₀), ((words-at, words₀), (count₀, ((source-at, source₀), ((tape-at, tape₀), (i₀, (to₀, (depth₀, (m₀, (around₀, (numbers₀, ((rec-at, rec₀), ((seen-at, seen₀), ((opens-at, opens₀), ((list-at, list₀), tt)))))))))))))))
+  pub walk : WalkIn 𝓤 H A W (𝓣 .C) (𝓣 .Λ) code.visit-function visit-C.terms ((table-at, table₀), ((words-at, words₀), (count₀, ((source-at, source₀), ((tape-at, tape₀), (i₀, (to₀, (depth₀, (m₀, (around₀, (numbers₀, ((rec-at, rec₀), ((seen-at, seen₀), ((opens-at, opens₀), ((list-at, list₀), tt)))))))))))))))
   unfolding afterTurn
   walk l0 l1 l2 l3 l4 l5 l6 l7 l8 l9 l10 l11 l12 l13 l14 l15 l16 l17 l18 l19 l20 l21 l22 l23 l24 l25 l26 l27 l28 l29 l30 l31 l32 l33 l34 l35 l36 l37 l38 l39 l40 l41 l42 l43 =
       move ! (49 ∷ []) $ use1 W (later (given (Is Record-T.the-row rec₀ ((LL.vals Record-T.the-type Record-L.the-laws) rec₀)) (‵ (cellAt fullShare (Record-T.the-row .mir) ((LL.vals Record-T.the-type Record-L.the-laws) rec₀) (rec-at .b) (rec-at .o)) ⊛ ‵ (OpenRef Record-T.the-row rec-at rec₀)))) (open-ref Record-T.the-row 𝓤 H A W rec-at (LL.vals Record-T.the-type Record-L.the-laws) (LL.tells Record-T.the-type Record-L.the-laws) rec₀) $ await ! tt $ learn ! (λ open-1. split ! $

@@ -29,7 +29,7 @@ use denote.Enum.Laws as EL
 use Rattle.references.proofs.Flow.{if-then, skip-then, exit-then, switch-then, loop-then}
 use Rattle.references.proofs.Hand.{At, ptrVal, fatVal, HasRef, HasMut, HasShr, OpenRef, open-ref, shut-ref}
 use Rattle.references.proofs.Call.{Inputs, Rule, rule-of, Met, Knows, calls-any, calls-met-last}
-use Rattle.references.proofs.Ends.{Walked, Leaves, ends, say, span, env-of, Stands}
+use Rattle.references.proofs.Ends.{WalkIn, Leaves, ends, say, span, env-of, Stands}
 use types.Kit.{Sq}
 use Rattle.attachment.specs.declared.Attached.{Attached}
 use Rattle.attachment.proofs.Attached as Attached-T
@@ -66,7 +66,7 @@ use Rattle.cursor.specs.Steps.{pastNode}
 use Rattle.findings.specs.Written.{Room}
 use Rattle.attachment.specs.Attached.{startsOf}
 use Rattle.running.specs.Running.{aroundOf, anchorOf, startsFor, countsOf}
-use Rattle.checker.specs.Walking.{Ready, Walked, Visited, Visitable, Anchored, walkAt, visitFindings, Passable, PassedBy, onlyOpen}
+use Rattle.checker.specs.Walking.{Ready, Visited, Visitable, Anchored, walkAt, visitFindings, Passable, PassedBy, onlyOpen}
 use Rattle.checker.proofs.Going.{Going, going-start, going-end, going-below, passable, going-past, visit-asks, going-visited, going-nearer}
 use Rattle.checker.proofs.Visiting.{same-depth}
 
@@ -169,7 +169,7 @@ module _ {M : Type 1} (𝓤 : URA M) (H : Heap 𝓤) (A : Atoms 𝓤) (W : Given
       keep ! (span 0 43 []) $
       ends ! ρ refl tt tt refl ((y100 .1 .1 .0), ((y100 .1 .1 .1 .0), ((y100 .1 .1 .1 .1 .0), ((y100 .1 .1 .1 .1 .1 .0), tt)))) (len-sn-100, (len-ys-100, (len-l-100, tt))) (going-end inv-100 test-0) refl))) (from₀, ((xc3 .0), (rec₀, (seen₀, (opens₀, (list₀, tt)))))))
 
-  pub walk : Walked 𝓤 H A W (𝓣 .C) (𝓣 .Λ) code.walk-function walk-C.terms ((table-at, table₀), ((words-at, words₀), (count₀, ((source-at, source₀), ((tape-at, tape₀), (from₀, (to₀, (depth₀, (around₀, ((rec-at, rec₀), ((seen-at, seen₀), ((opens-at, opens₀), ((list-at, list₀), tt)))))))))))))
+  pub walk : WalkIn 𝓤 H A W (𝓣 .C) (𝓣 .Λ) code.walk-function walk-C.terms ((table-at, table₀), ((words-at, words₀), (count₀, ((source-at, source₀), ((tape-at, tape₀), (from₀, (to₀, (depth₀, (around₀, ((rec-at, rec₀), ((seen-at, seen₀), ((opens-at, opens₀), ((list-at, list₀), tt)))))))))))))
   unfolding afterTurn
   walk l0 l1 l2 l3 l4 l5 l6 l7 l8 l9 l10 l11 l12 l13 l14 l15 l16 l17 l18 l19 l20 l21 l22 l23 l24 l25 l26 l27 l28 l29 l30 l31 l32 l33 =
       move ! (39 ∷ []) $ use1 W (later (given (Is Record-T.the-row rec₀ ((LL.vals Record-T.the-type Record-L.the-laws) rec₀)) (‵ (cellAt fullShare (Record-T.the-row .mir) ((LL.vals Record-T.the-type Record-L.the-laws) rec₀) (rec-at .b) (rec-at .o)) ⊛ ‵ (OpenRef Record-T.the-row rec-at rec₀)))) (open-ref Record-T.the-row 𝓤 H A W rec-at (LL.vals Record-T.the-type Record-L.the-laws) (LL.tells Record-T.the-type Record-L.the-laws) rec₀) $ await ! tt $ learn ! (λ open-1. split ! $
