@@ -6,3 +6,4 @@ pub mod CallPutRecord
 pub mod CallReadRecords
 pub mod CallWriteRecords
 pub mod CallCheckWith
+pub mod CallCheckWords
