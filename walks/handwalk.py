@@ -510,6 +510,7 @@ class Crate:
             'use ghost.Atoms.{Atoms, sem}',
             'use contract.Monad.{Fun, fact, factI}',
             'use contract.Running.{givenOf, tables, tablesOf}',
+            'use contract.Lifetimes.{Lfts, Shares, toks}',
             'use types.Kit.{Given, Item, ‵, raw, given, mean, ⋆, cut, atRet, Post as PostOf, Seq, runs, lands, settles, use0, _⊛_, some, later, _$_, _∵_, !, qed, by, move, keep, group, drop, use1, use2, use3, split, join, pick, learn, rewrite, fsplit, fjoin, feqL, suffices, frame, check, await, updating, now as at-once, show, done}',
             'use types.Run.{Opds, look, look-raw, store, store-raw, init, forget, stop, hop, fld, from, load, lit, unit-lit, true-lit, false-lit, addr, of-opd, bin, un, and-then, no-more, assigns, assigns-last, first, branches, skips, jumps, calls, calls-last, land, land-last, returns-within, again, enter, alloc1, alloc0, params1, pass1, pass0}',
             'use denote.Plain.{uint-lawful}',
@@ -533,7 +534,7 @@ class Crate:
             'use %s.{if-then, skip-then, exit-then, switch-then, assoc-then, loop-then, meets-at, frees-any}' % s.law('Flow'),
             'use %s.{At, lent as relent, ptrVal, fatVal, ref, HasRef, HasMut, HasShr, KeptRef, KeptMut, KeptShr, OpenRef, OpenAt, lend-ref, back-ref, lend-mut, back-mut, lend-shr, back-shr, open-ref, shut-ref, open-at, shut-at, back-at}' % s.law('Hand'),
             'use %s.{Inputs, Rule, rule-of, Met, Knows, bound-at, calls-any, calls-any-last, calls-met, calls-met-last}' % s.law('Call'),
-            'use %s.{Facing, WalkFor, WalkIn, Leaves, walks-under, proves, ends, say, span, env-of, Stands, Dying}' % s.law('Ends'),
+            'use %s.{Facing, WalkFor, WalkIn, Leaves, walks-under, proves, proves-by, halves, whole-again, refs, inputs, ends, say, span, env-of, Stands, Dying}' % s.law('Ends'),
             'use types.Kit.{Sq}', 'use mathlib.Core.List.{_++_}', 'use lib.ListN.{take, drop as skip}', 'use lib.Seq.{length-take-le}', 'use %s.{part, KeptPart, lend-part, back-part, part-length, room-le, local, KeptLocal, lend-local, back-local}' % s.law('Hand'), 'use %s.{ne-of, is-true, is-false}' % s.law('Flow'), 'use denote.Index.{place}', 'use lib.Dec.{nleb→lt}',
             'use denote.Slice.{sliceVal}',
             'use mir.Syntax.{tyArray}',
@@ -1828,8 +1829,8 @@ class Walk:
             slets = ''.join(s.let('self-%s' % dash(g), P_[i].replace(' C', ' (𝓣 .C)'), conj_at('self', i, len(selfs))) for i, g in enumerate(selfs)) if len(selfs) > 1 else ''
         self1 = ['self-%s' % dash(selfs[0]) if len(selfs) == 1 else 'self'] if selfs else []
         ls = ['l%d' % i for i in range(s.n)]
-        if s.lemmas:
-            tele = ' '.join('(%s : %s)' % x for x in faces)
+        if s.lemmas or f.sharers:
+            tele = ' '.join('(%s : %s)' % x for x in faces + [p.same for p in f.sharers])
             if selfs:
                 tele += ' (%s : Self 𝓤 H A (𝓣 .C) %s)' % (self1[0], s.inputs())
             tele += ' (%s : %s)' % ('reqs' if req3 else 'req', conj([P(x) for x in c.facts(f, f.req, d)]) if f.req else 'Unit {0}')
@@ -1892,7 +1893,18 @@ def write_function(cr, name, desc):
         us += ['use %s.Symbol as %s-def' % (gm, dash(g)), 'use %s.Met as %s-thm' % (gm, dash(g))]
     t = w.text(us)
     T = '(tablesOf 𝓤 H 𝓜 (tables 𝓤 H 𝓜 𝓡 code.env))'
-    t += '\npub %s-spec : {M : Type 1} → stated.statement M\nunfolding code.routine tablesOf\n%s-spec 𝓤 H 𝓜 𝓖 𝓡 y =\n    proves 𝓤 H 𝓜 𝓖 𝓡 code.env key.name code.function (code.unfolded 𝓤 H 𝓜 𝓡) %s-C.terms (y .0 .0) (y .0 .1) (y .0 .3) (y .0 .4) %s\n    (walk 𝓤 H (𝓖 .A) (givenOf 𝓤 H 𝓜 𝓖) %s%s)\n' % (k, k, k, w.takes(), T, ''.join('\n    ' + w.cited(g, cr) for g in gs))
+    f = w.f
+    if f.sharers:
+        if f.sharers != [f.params[1]] or f.params[1].owner is not f.params[0]:
+            raise Exception('%s: only the second parameter may have the lifetime of the first' % name)
+        args = []
+        for i, p in enumerate(f.params):
+            x, g = (proj('x', i), proj('g', i))
+            args += ['(%s .0) (%s .1)' % (x, x) + (' (%s .0 .1) refl' % g if p.kind != 'ref' else '') if p.isref else '(%s) (%s)' % (x, p.ty.of_is(g) if p.ty.fact('x') else 'tt')]
+        q = '(y .0 .1 .0)'
+        t += '\npub %s-spec : {M : Type 1} → stated.statement M\nunfolding code.routine tablesOf\n%s-spec 𝓤 H 𝓜 𝓖 𝓡 y =\n    let κs : Lfts (refs (%s-C.terms .sorts)) = (y .0 .0 .0, y .0 .0) in\n    let qs : Shares (refs (%s-C.terms .sorts)) = (PosShare·left %s, (PosShare·right %s, y .0 .1 .1)) in\n    let x : Inputs (%s-C.terms .sorts) = inputs (%s-C.terms .sorts) κs qs (y .0 .3) in\n    proves-by 𝓤 H 𝓜 𝓖 𝓡 code.env key.name code.function (code.unfolded 𝓤 H 𝓜 𝓡) %s-C.terms κs qs (y .0 .3) (y .0 .4) (toks 𝓤 (𝓖 .A) %d (y .0 .0) (y .0 .1)) (halves 𝓤 H (𝓖 .A) (givenOf 𝓤 H 𝓜 𝓖) (y .0 .0 .0) %s (toks 𝓤 (𝓖 .A) %d (y .0 .0 .1) (y .0 .1 .1))) (whole-again 𝓤 H (𝓖 .A) (givenOf 𝓤 H 𝓜 𝓖) (y .0 .0 .0) %s (toks 𝓤 (𝓖 .A) %d (y .0 .0 .1) (y .0 .1 .1))) %s\n    (λ g. walk 𝓤 H (𝓖 .A) (givenOf 𝓤 H 𝓜 𝓖) %s%s\n    %s refl)\n' % (k, k, k, k, q, q, k, k, k, f.lives, q, f.lives - 1, q, f.lives - 1, w.takes(), T, ''.join('\n    ' + w.cited(g, cr) for g in gs), ' '.join(args))
+    else:
+        t += '\npub %s-spec : {M : Type 1} → stated.statement M\nunfolding code.routine tablesOf\n%s-spec 𝓤 H 𝓜 𝓖 𝓡 y =\n    proves 𝓤 H 𝓜 𝓖 𝓡 code.env key.name code.function (code.unfolded 𝓤 H 𝓜 𝓡) %s-C.terms (y .0 .0) (y .0 .1) (y .0 .3) (y .0 .4) %s\n    (walk 𝓤 H (𝓖 .A) (givenOf 𝓤 H 𝓜 𝓖) %s%s)\n' % (k, k, k, w.takes(), T, ''.join('\n    ' + w.cited(g, cr) for g in gs))
     os.makedirs('%s/proofs/%s' % (cr.dir, name), exist_ok=True)
     p = '%s/proofs/%s/Proof.antt' % (cr.dir, name)
     open(p, 'w').write(prune(desc.get('turn', str)(t)))
