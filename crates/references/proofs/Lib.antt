@@ -4,3 +4,4 @@ pub mod Sizes
 pub mod Arrays
 pub mod Call
 pub mod Ends
+pub mod Walk
