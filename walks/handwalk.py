@@ -483,7 +483,7 @@ class Crate:
         return t
 
     def uses(s, extra=()):
-        o = ['use %s.{_≡_, refl, sym, ap, subst, _∙_, Bool, true, false, not, full, empty, _⊎_, inl, inr, WellFounded, InvImage·wf, ℕ, zero, suc, _<_, _≤_, _^_, _+_, _-_, _*_, _/_, _%%_, lt-of-le-of-lt, div-le-self, arith, [], _∷_, List, length, getD, set, length-set, Nat·lt-wfRel, T, lit<, ltb, leb, eqb, ltb→lt, nltb→le, leb→le, eqb→eq, URA, fullShare, PosShare·left, PosShare·right, Ty, Body, Place, Operand, seq, call, named, erased, mut, imm, w8, w16, w32, w64, tyInt, tyBool, tyUnit, tyPtr, tyRef, Val, vunit, vint, vbool, vptr, hasTy, WT, SProp, ent, sep, emp, via, id⊢, GName, Lft, Share, fsep, ftrue, fat, froom, fdies, flft, Memory, Routine, Heap, Env, Calls, Loops, WpFn, Tables, Atoms, sem, Fun, fact, factI, givenOf, tables, Lfts, Shares, toks, Given, Item, ‵, raw, given, mean, ⋆, cut, atRet, PostOf, Seq, runs, lands, settles, use0, _⊛_, some, later, _$_, _∵_, !, qed, by, move, keep, group, drop, use1, use2, use3, split, join, pick, learn, rewrite, fsplit, fjoin, feqL, suffices, frame, check, await, updating, at-once, show, done, Opds, look, look-raw, store, store-raw, init, forget, stop, hop, fld, from, load, lit, unit-lit, true-lit, false-lit, addr, of-opd, bin, un, and-then, no-more, assigns, assigns-last, first, branches, skips, jumps, calls, calls-last, land, land-last, returns-within, again, enter, alloc1, alloc0, params1, pass1, pass0, uint-lawful, vrt, look-tag, in-variant, agg, whole, sub, look-in, store-in, FmC, fmOf, WpFn-mono, Is, shows, mem, cellAt, pointee, uint-vals, uint-tells, uint-makes, bool-vals, bool-tells, bool-makes, nothing-vals, nothing-tells, nothing-makes, u8, u16, u32, u64, usize, bool, unit, RefT, MutRef, ptr-vals, mut-tells, SizeOf, sliceTy, MutSlice, ShrSlice, slice-vals, mut-slice-tells, shr-slice-tells, place-is, only, owned, facts, heard, nothing, Contract, Triple, Meets, tripleOf, entered, cited, measured, at-on, mutual-elim, AllBelow, if-then, skip-then, exit-then, switch-then, assoc-then, loop-then, meets-at, frees-any, At, relent, ptrVal, fatVal, ref, HasRef, HasMut, HasShr, KeptRef, KeptMut, KeptShr, OpenRef, OpenAt, lend-ref, back-ref, lend-mut, back-mut, lend-shr, back-shr, open-ref, shut-ref, open-at, shut-at, back-at, Inputs, Rule, rule-of, Met, Knows, bound-at, calls-any, calls-any-last, calls-met, calls-met-last, Facing, WalkFor, WalkIn, Leaves, walks-under, proves, proves-by, halves, whole-again, refs, inputs, ends, say, span, env-of, Stands, Dying, Sq, _++_, take, skip, length-take-le, part, KeptPart, lend-part, back-part, part-length, room-le, local, KeptLocal, lend-local, back-local, ne-of, is-true, is-false, place, nleb→lt, sliceVal, tyArray, Filled, as-long, array, ArrayAt, KeptArray, KeptArrayShr, lend-array, back-array, lend-array-shr, back-array-shr, free-array, fills-array, needs-by, and-fact, last-fact, cell, sets, resets, lands-at, relands-at}' % s.law('Walk'), 'use prog.Wp.{afterTurn}', 'use contract.Running.{tablesOf}', 'use denote.Struct.Laws as LL', 'use denote.Enum.Laws as EL']
+        o = ['use %s.{_≡_, refl, sym, ap, subst, _∙_, Bool, true, false, not, full, empty, _⊎_, inl, inr, WellFounded, InvImage·wf, ℕ, zero, suc, _<_, _≤_, _^_, _+_, _-_, _*_, _/_, _%%_, lt-of-le-of-lt, div-le-self, arith, [], _∷_, List, length, getD, set, length-set, Nat·lt-wfRel, T, lit<, ltb, leb, eqb, ltb→lt, nltb→le, leb→le, eqb→eq, URA, fullShare, PosShare·left, PosShare·right, Ty, Body, Place, Operand, seq, call, named, erased, mut, imm, w8, w16, w32, w64, tyInt, tyBool, tyUnit, tyPtr, tyRef, Val, vunit, vint, vbool, vptr, hasTy, WT, SProp, ent, sep, emp, via, id⊢, GName, Lft, Share, fsep, ftrue, fat, froom, fdies, flft, Memory, Routine, Heap, Env, Calls, Loops, WpFn, Tables, Atoms, sem, Fun, fact, factI, givenOf, tables, Lfts, Shares, toks, Given, Item, ‵, raw, given, mean, ⋆, cut, atRet, PostOf, Seq, runs, lands, settles, use0, _⊛_, some, later, _$_, _∵_, !, qed, by, move, keep, group, drop, use1, use2, use3, split, join, pick, learn, rewrite, fsplit, fjoin, feqL, suffices, frame, check, await, updating, at-once, show, done, Opds, look, look-raw, store, store-raw, init, forget, stop, hop, fld, from, load, lit, unit-lit, true-lit, false-lit, addr, of-opd, bin, un, and-then, no-more, assigns, assigns-last, first, branches, skips, jumps, calls, calls-last, land, land-last, returns-within, again, enter, alloc1, alloc0, params1, pass1, pass0, uint-lawful, vrt, look-tag, in-variant, agg, whole, sub, look-in, store-in, FmC, fmOf, WpFn-mono, Is, shows, mem, cellAt, pointee, uint-vals, uint-tells, uint-makes, bool-vals, bool-tells, bool-makes, nothing-vals, nothing-tells, nothing-makes, u8, u16, u32, u64, usize, bool, unit, RefT, MutRef, ptr-vals, mut-tells, SizeOf, sliceTy, MutSlice, ShrSlice, slice-vals, mut-slice-tells, shr-slice-tells, place-is, only, owned, facts, heard, nothing, Contract, Triple, Meets, tripleOf, entered, cited, measured, at-on, mutual-elim, AllBelow, if-then, skip-then, exit-then, switch-then, assoc-then, loop-then, meets-at, frees-any, At, relent, ptrVal, fatVal, ref, HasRef, HasMut, HasShr, KeptRef, KeptMut, KeptShr, OpenRef, OpenAt, lend-ref, back-ref, lend-mut, back-mut, lend-shr, back-shr, open-ref, shut-ref, open-at, shut-at, back-at, Inputs, Rule, rule-of, Met, Knows, bound-at, calls-any, calls-any-last, calls-met, calls-met-last, Facing, WalkFor, WalkIn, Leaves, walks-under, proves, proves-by, halves, whole-again, refs, inputs, ends, say, span, env-of, Stands, Dying, Sq, _++_, take, skip, length-take-le, part, KeptPart, lend-part, back-part, part-length, room-le, local, KeptLocal, lend-local, back-local, ne-of, is-true, is-false, place, nleb→lt, sliceVal, tyArray, Filled, as-long, array, ArrayAt, KeptArray, KeptArrayShr, lend-array, back-array, lend-array-shr, back-array-shr, free-array, fills-array, needs-by, and-fact, last-fact, cell, cell-field, sets, resets, lands-at, relands-at, opens-elem, shuts-elem, back-elem, opens-ref, shuts-ref, of-number, of-truth, of-nothing, of-struct, of-enum}' % s.law('Walk'), 'use prog.Wp.{afterTurn}', 'use contract.Running.{tablesOf}', 'use denote.Struct.Laws as LL', 'use denote.Enum.Laws as EL']
         o += s.type_uses()
         return '\n'.join(o + list(extra)) + '\n'
 
@@ -697,6 +697,7 @@ def term(t, i):
 def short(t):
     """the commonest statements, by their rules (references, Walk.antt)"""
     t = re.sub('\\(load ! \\(from ! \\(stop !\\)\\) \\(look ! (\\d+) refl\\)\\)', '(cell ! \\1 refl)', t)
+    t = re.sub('\\(load ! \\(from ! \\(fld ! refl \\(stop !\\)\\)\\) \\(look-in ! (\\d+) \\(sub ! (\\d+) refl \\(whole !\\)\\)\\)\\)', '(cell-field ! \\1 \\2 refl refl refl)', t)
     o = ''
     i = 0
     for m in re.finditer('(?<![^\\s(])(assigns|land) ! ', t):
@@ -1224,7 +1225,7 @@ class Walk:
         isn = 'open-%d' % n
         if v.kind == 'ptr':
             h = st.has[v.key]
-            txt = st.front(['H-' + v.key]) + 'use1 W (later (given (Is {r} {h} ({vs} {h})) (‵ (cellAt fullShare ({r} .mir) ({vs} {h}) ({a} .b) ({a} .o)) ⊛ ‵ (OpenRef {r} {a} {h})))) (open-ref {r} 𝓤 H A W {a} {vs} {tl} {h}) $ await ! tt $ learn ! (λ {i}. split ! $'.format(r=t.row, h=P(h), vs=t.vals, tl=t.tells, a=v.at, i=isn)
+            txt = st.front(['H-' + v.key]) + 'opens-ref ! tt (%s) %s %s (λ %s.' % (t.ret, v.at, P(h), isn)
             cur = h
         else:
             ys = st.has[v.key]
@@ -1232,7 +1233,7 @@ class Walk:
             bd = s.arith_key('index', v.key)
             n2 = 'in-%d' % n
             cur = '(getD %s %s %s)' % (P(ys), P(v.ix), d)
-            txt = s.let(n2, '%s < length %s' % (P(v.ix), P(ys)), bd) + st.front(['H-' + v.key]) + 'use1 W (later (given (Is {r} {c} ({vs} {c})) (‵ (cellAt fullShare ({r} .mir) ({vs} {c}) ({a} .b) (place {z} ({a} .o) {i})) ⊛ ‵ (OpenAt {r} {a} {ys} {i})))) (open-at {r} 𝓤 H A W {a} {vs} {tl} {ys} {i} {d} {b}) $ await ! tt $ learn ! (λ {nm}. split ! $'.format(r=t.row, c=cur, vs=t.vals, tl=t.tells, a=v.at, ys=P(ys), i=P(v.ix), d=d, b=n2, nm=isn, z=s.sizeof(v.key))
+            txt = s.let(n2, '%s < length %s' % (P(v.ix), P(ys)), bd) + st.front(['H-' + v.key]) + 'opens-elem ! tt (%s) %s %s %s %s %s (λ %s.' % (t.ret, v.at, P(ys), P(v.ix), d, n2, isn)
         st.ctx = ['CELL', 'OPEN'] + st.ctx[1:]
         return (txt + s.nl, t, cur, isn, n)
 
@@ -1244,15 +1245,15 @@ class Walk:
     def shut(s, v, st, t, new, newis, n, same):
         p = s.par[v.key]
         if v.kind == 'ptr':
-            txt = 'use2 W (later (‵ (HasRef {r} {a} {y}))) (shut-ref {r} 𝓤 H A W {a} {vs} {tl} ({mk}) {h} {y} {i}) $ await ! tt $'.format(r=t.row, a=v.at, y=P(new), vs=t.vals, tl=t.tells, mk=t.makes, h=P(st.has[v.key]), i=newis)
+            txt = 'shuts-ref ! tt (%s) %s %s %s %s $' % (t.ret, v.at, P(st.has[v.key]), P(new), P(newis))
             st.has[v.key] = new
         else:
             ys = st.has[v.key]
             if same:
                 d = '(%s)' % s.desc.get('default', {}).get(v.key, 'none')
-                txt = 'use2 W (later (‵ (HasMut {r} {a} {ys}))) (back-at {r} 𝓤 H A W {a} {vs} {tl} ({mk}) {ys} {ix} {d} in-{n} {i}) $ await ! tt $'.format(r=t.row, a=v.at, ys=P(ys), vs=t.vals, tl=t.tells, mk=t.makes, ix=P(v.ix), d=d, n=n, i=newis)
+                txt = 'back-elem ! tt (%s) %s %s %s %s in-%d %s $' % (t.ret, v.at, P(ys), P(v.ix), d, n, P(newis))
             else:
-                txt = 'use2 W (later (‵ (HasMut {r} {a} (set {ys} {ix} {y})))) (shut-at {r} 𝓤 H A W {a} {vs} {tl} ({mk}) {ys} {ix} {y} in-{n} {i}) $ await ! tt $'.format(r=t.row, a=v.at, ys=P(ys), vs=t.vals, tl=t.tells, mk=t.makes, ix=P(v.ix), y=P(new), n=n, i=newis)
+                txt = 'shuts-elem ! tt (%s) %s %s %s %s in-%d %s $' % (t.ret, v.at, P(ys), P(v.ix), P(new), n, P(newis))
                 st.has[v.key] = 'set %s %s %s' % (P(ys), P(v.ix), P(new))
                 st.len[v.key] = '(length-set %s %s %s ∙ %s)' % (P(ys), P(v.ix), P(new), st.len[v.key])
         st.ctx = ['H-' + v.key] + st.ctx[2:]

@@ -1,6 +1,7 @@
 -- What a walk by hand names, in one file: the rules of the kit and of this crate, and rules for the commonest statements. It says nothing of any one crate.
 --     cell, cell-field     an operand that is a local, or a field of one, at a position of the context
 --     sets, resets         an assignment to a local that is room, or that holds something
+--     opens-elem, shuts-elem, back-elem, opens-ref, shuts-ref     element i of a `&mut [T]`, and what a `&mut T` leads to, opened and shut
 --     lands-at, relands-at     a call's result, likewise
 pub use mathlib.Core.Path.{_≡_, refl, sym, ap, subst, _∙_}
 pub use mathlib.Core.Bool.{Bool, true, false, not}
@@ -46,7 +47,7 @@ pub use denote.Triple.Table.{entered, cited}
 pub use denote.Triple.Cycle.{measured, at-on, mutual-elim, AllBelow}
 pub use Rattle.references.proofs.Flow.{if-then, skip-then, exit-then, switch-then, assoc-then, loop-then, meets-at, frees-any, ne-of, is-true, is-false}
 pub use Rattle.references.proofs.Hand.{At, lent as relent, ptrVal, fatVal, ref, HasRef, HasMut, HasShr, KeptRef, KeptMut, KeptShr, OpenRef, OpenAt, lend-ref, back-ref, lend-mut, back-mut, lend-shr, back-shr, open-ref, shut-ref, open-at, shut-at, back-at, part, KeptPart, lend-part, back-part, part-length, room-le, local, KeptLocal, lend-local, back-local}
-pub use Rattle.references.proofs.Call.{Inputs, Rule, rule-of, Met, Knows, bound-at, calls-any, calls-any-last, calls-met, calls-met-last}
+pub use Rattle.references.proofs.Call.{of-number, of-truth, of-nothing, of-struct, of-enum, Inputs, Rule, rule-of, Met, Knows, bound-at, calls-any, calls-any-last, calls-met, calls-met-last}
 pub use Rattle.references.proofs.Ends.{Facing, WalkFor, WalkIn, Leaves, walks-under, proves, proves-by, halves, whole-again, refs, inputs, ends, say, span, env-of, Stands, Dying}
 pub use lib.Seq.{length-take-le}
 pub use Rattle.references.proofs.Arrays.{Filled, as-long, array, ArrayAt, KeptArray, KeptArrayShr, lend-array, back-array, lend-array-shr, back-array-shr, free-array, fills-array, needs-by, and-fact, last-fact}
@@ -56,12 +57,21 @@ use prog.Memory.{fieldOf}
 use prog.Wp.{spotOf}
 use mir.Syntax.{Tys, Sym, tyStruct}
 use mir.Val.{Vals, vstruct}
-use types.Kit.{nth, put, Step, Goal}
+use types.Kit.{nth, put, Step, step, Goal}
 use types.Run.{Opd, Rv}
+use types.Kit.{Soaks}
+use types.Part.{Part}
+use mir.Fields.{getV}
+use prog.Memory.{fieldAt}
+use Rattle.references.proofs.Call.{Data}
 
 module _ {M : Type 1} {𝓤 : URA M} {H : Heap 𝓤} {A : Atoms 𝓤} {K : Type 0} {W : Given 𝓤 H A} {Γ : List (Item 𝓤)} {E : Env 𝓤 H} where
   pub cell : K → {i : ℕ} (n : ℕ) {q : Share} {v : Val} → nth 𝓤 H A n Γ ≡ ‵ (fat q (spotOf 𝓤 H E i .0) (spotOf 𝓤 H E i .1) (spotOf 𝓤 H E i .2) v) → Opd K W Γ E (copy (at-place i [])) v
   cell t n e = load t (from t (stop t)) (look t n e)
+
+  pub cell-field : K → {i : ℕ} (n k : ℕ) {q : Share} {ν : Sym} {τs : Tys} {τ : Ty} {d : ℕ} {vs : Vals} → nth 𝓤 H A n Γ ≡ ‵ (fat q (tyStruct ν τs) (spotOf 𝓤 H E i .1) (spotOf 𝓤 H E i .2) (vstruct vs)) → fieldOf (spotOf 𝓤 H E i .0) k ≡ is-some (τ, d) → fieldAt 0 τs k ≡ is-some (τ, d)
+      → Opd K W Γ E (copy (at-place i (field k ∷ []))) (getV vs k)
+  cell-field t {i} n k {q} {ν} {τs} {τ} {d} {vs} e f g = load t (from t (fld t f (stop t))) (look-in t n (sub t k g (subst (λ (j : Item 𝓤). Part K W j q (tyStruct ν τs) (spotOf 𝓤 H E i .1) (spotOf 𝓤 H E i .2) (vstruct vs) (λ u. ‵ (fat q (tyStruct ν τs) (spotOf 𝓤 H E i .1) (spotOf 𝓤 H E i .2) u))) (sym e) (whole t))))
 
   module _ {C : Calls 𝓤 H} {Λ : Loops 𝓤 H} {q : PostOf 𝓤 H} where
     pub sets : K → {i : ℕ} {rv : RValue} {rest : Body} {v : Val} → Rv K W Γ E rv v → (n : ℕ) → nth 𝓤 H A n Γ ≡ ‵ (froom (spotOf 𝓤 H E i .0) (spotOf 𝓤 H E i .1) (spotOf 𝓤 H E i .2)) → T (hasTy (spotOf 𝓤 H E i .0) v) × WT v
@@ -79,3 +89,24 @@ module _ {M : Type 1} {𝓤 : URA M} {H : Heap 𝓤} {A : Atoms 𝓤} {K : Type 
     pub relands-at : K → {i : ℕ} {rest : Body} {v v₀ : Val} → (n : ℕ) → nth 𝓤 H A n Γ ≡ ‵ (fat fullShare (spotOf 𝓤 H E i .0) (spotOf 𝓤 H E i .1) (spotOf 𝓤 H E i .2) v₀) → T (hasTy (spotOf 𝓤 H E i .0) v) × WT v
         → Step K W (put 𝓤 H A n (‵ (fat fullShare (spotOf 𝓤 H E i .0) (spotOf 𝓤 H E i .1) (spotOf 𝓤 H E i .2) v)) Γ) (runs C Λ E rest q) Γ (lands C Λ E (at-place i []) v rest q)
     relands-at t n e w = land t (from t (stop t)) (store t n e w)
+
+-- ---- through a reference
+module _ {M : Type 1} {𝓤 : URA M} {H : Heap 𝓤} {A : Atoms 𝓤} {K : Type 0} {W : Given 𝓤 H A} {Γ : List (Item 𝓤)} {G : Goal 𝓤 H} where
+  pub opens-elem : K → Soaks G → (D : Data) (p : At) (ys : List (D .row .Denot)) (i : ℕ) (d : D .row .Denot) → i < length ys
+      → (Is (D .row) (getD ys i d) (D .val (getD ys i d) ∷ []) → Seq K W (‵ (cellAt fullShare (D .row .mir) (D .val (getD ys i d) ∷ []) (p .b) (place (mem (D .row) .size) (p .o) i)) ∷ ‵ (OpenAt (D .row) p ys i) ∷ Γ) G) → Seq K W (‵ (HasMut (D .row) p ys) ∷ Γ) G
+  opens-elem t z D p ys i d l k = use1 W (later (given (Is (D .row) (getD ys i d) (D .val (getD ys i d) ∷ [])) (‵ (cellAt fullShare (D .row .mir) (D .val (getD ys i d) ∷ []) (p .b) (place (mem (D .row) .size) (p .o) i)) ⊛ ‵ (OpenAt (D .row) p ys i))))
+      (open-at (D .row) 𝓤 H A W p (λ x. D .val x ∷ []) (D .tells) ys i d l) $ await t z $ learn t (λ is. split t $ k is)
+
+  pub shuts-elem : K → Soaks G → (D : Data) (p : At) (ys : List (D .row .Denot)) (i : ℕ) (y : D .row .Denot) → i < length ys → Is (D .row) y (D .val y ∷ [])
+      → Step K W (‵ (HasMut (D .row) p (set ys i y)) ∷ Γ) G (‵ (cellAt fullShare (D .row .mir) (D .val y ∷ []) (p .b) (place (mem (D .row) .size) (p .o) i)) ∷ ‵ (OpenAt (D .row) p ys i) ∷ Γ) G
+  shuts-elem t z D p ys i y l is = step (λ s. use2 W (later (‵ (HasMut (D .row) p (set ys i y)))) (shut-at (D .row) 𝓤 H A W p (λ x. D .val x ∷ []) (D .tells) (D .makes M 𝓤 H A W) ys i y l is) $ await t z $ s)
+
+  pub back-elem : K → Soaks G → (D : Data) (p : At) (ys : List (D .row .Denot)) (i : ℕ) (d : D .row .Denot) → i < length ys → Is (D .row) (getD ys i d) (D .val (getD ys i d) ∷ [])
+      → Step K W (‵ (HasMut (D .row) p ys) ∷ Γ) G (‵ (cellAt fullShare (D .row .mir) (D .val (getD ys i d) ∷ []) (p .b) (place (mem (D .row) .size) (p .o) i)) ∷ ‵ (OpenAt (D .row) p ys i) ∷ Γ) G
+  back-elem t z D p ys i d l is = step (λ s. use2 W (later (‵ (HasMut (D .row) p ys))) (back-at (D .row) 𝓤 H A W p (λ x. D .val x ∷ []) (D .tells) (D .makes M 𝓤 H A W) ys i d l is) $ await t z $ s)
+
+  pub opens-ref : K → Soaks G → (D : Data) (p : At) (h : D .row .Denot) → (Is (D .row) h (D .val h ∷ []) → Seq K W (‵ (cellAt fullShare (D .row .mir) (D .val h ∷ []) (p .b) (p .o)) ∷ ‵ (OpenRef (D .row) p h) ∷ Γ) G) → Seq K W (‵ (HasRef (D .row) p h) ∷ Γ) G
+  opens-ref t z D p h k = use1 W (later (given (Is (D .row) h (D .val h ∷ [])) (‵ (cellAt fullShare (D .row .mir) (D .val h ∷ []) (p .b) (p .o)) ⊛ ‵ (OpenRef (D .row) p h)))) (open-ref (D .row) 𝓤 H A W p (λ x. D .val x ∷ []) (D .tells) h) $ await t z $ learn t (λ is. split t $ k is)
+
+  pub shuts-ref : K → Soaks G → (D : Data) (p : At) (h y : D .row .Denot) → Is (D .row) y (D .val y ∷ []) → Step K W (‵ (HasRef (D .row) p y) ∷ Γ) G (‵ (cellAt fullShare (D .row .mir) (D .val y ∷ []) (p .b) (p .o)) ∷ ‵ (OpenRef (D .row) p h) ∷ Γ) G
+  shuts-ref t z D p h y is = step (λ s. use2 W (later (‵ (HasRef (D .row) p y))) (shut-ref (D .row) 𝓤 H A W p (λ x. D .val x ∷ []) (D .tells) (D .makes M 𝓤 H A W) h y is) $ await t z $ s)

@@ -1,5 +1,5 @@
 -- The walk of `milestones::nearest`, by hand.
-use Rattle.references.proofs.Walk.{_≡_, refl, sym, _∙_, true, false, full, empty, InvImage·wf, ℕ, _<_, _≤_, _^_, _+_, _-_, _*_, arith, [], _∷_, List, length, getD, Nat·lt-wfRel, ltb→lt, nltb→le, URA, fullShare, w64, tyPtr, vint, vptr, fat, Heap, Env, Tables, Atoms, givenOf, tables, Given, Item, ‵, given, _⊛_, later, _$_, !, move, keep, use1, use2, split, learn, rewrite, await, look, look-raw, forget, stop, hop, fld, from, load, lit, of-opd, bin, and-then, no-more, branches, skips, again, agg, whole, sub, look-in, Is, mem, cellAt, u8, place-is, heard, cited, if-then, skip-then, exit-then, loop-then, At, fatVal, HasMut, HasShr, OpenAt, open-at, back-at, Rule, rule-of, Knows, calls-any, Facing, WalkFor, proves, ends, say, span, env-of, Stands, is-true, is-false, place, cell, sets, resets, lands-at}
+use Rattle.references.proofs.Walk.{_≡_, refl, sym, _∙_, true, false, full, empty, InvImage·wf, ℕ, _<_, _≤_, _^_, _+_, _-_, _*_, arith, [], _∷_, List, length, getD, Nat·lt-wfRel, ltb→lt, nltb→le, URA, fullShare, w64, tyPtr, vint, vptr, fat, Heap, Env, Tables, Atoms, givenOf, tables, Given, Item, ‵, _$_, !, move, keep, rewrite, look, look-raw, forget, stop, hop, from, load, lit, of-opd, bin, and-then, no-more, branches, skips, again, agg, mem, u8, place-is, heard, cited, if-then, skip-then, exit-then, loop-then, At, fatVal, HasMut, HasShr, Rule, rule-of, Knows, calls-any, Facing, WalkFor, proves, ends, say, span, env-of, Stands, is-true, is-false, cell, cell-field, sets, resets, lands-at, opens-elem, back-elem, of-struct}
 use prog.Wp.{afterTurn}
 use contract.Running.{tablesOf}
 use denote.Struct.Laws as LL
@@ -49,12 +49,12 @@ module _ {M : Type 1} (𝓤 : URA M) (H : Heap 𝓤) (A : Atoms 𝓤) (W : Given
       resets ! (bin ! (cell ! 8 refl) (lit ! tt) sub-1) 8 refl (tt, record { fits = fits-1 }) $
       let fits-2 : (((y100 .0) - 1) * 8) < 2 ^ 64 = scaled _ _ _ (inside _ _ _ _ (req .0) _ test-0 (inv-100 .0)) opens-n (opens-room .1) in
       sets ! (bin ! (cell ! 8 refl) (lit ! tt) (record { fits = fits-2 })) 11 refl (tt, record { fits = fits-2 }) $
-      sets ! (bin ! (load ! (from ! (fld ! refl (stop !))) (look-in ! 4 (sub ! 0 refl (whole !)))) (cell ! 11 refl) tt) 12 refl (tt, tt) $
+      sets ! (bin ! (cell-field ! 4 0 refl refl refl) (cell ! 11 refl) tt) 12 refl (tt, tt) $
       rewrite ! 12 (λ (x : ℕ). ‵ (fat fullShare tyPtr l11 0 (vptr (opens-at .b) x))) (sym (place-is 8 (opens-at .o) ((y100 .0) - 1))) refl $
       let in-1 : ((y100 .0) - 1) < length opens₀ = inside _ _ _ _ (req .0) _ test-0 (inv-100 .0) in
-      move ! (17 ∷ []) $ use1 W (later (given (Is OpenStart-T.the-row (getD opens₀ ((y100 .0) - 1) (noStart)) ((LL.vals OpenStart-T.the-type OpenStart-L.the-laws) (getD opens₀ ((y100 .0) - 1) (noStart)))) (‵ (cellAt fullShare (OpenStart-T.the-row .mir) ((LL.vals OpenStart-T.the-type OpenStart-L.the-laws) (getD opens₀ ((y100 .0) - 1) (noStart))) (opens-at .b) (place 8 (opens-at .o) ((y100 .0) - 1))) ⊛ ‵ (OpenAt OpenStart-T.the-row opens-at opens₀ ((y100 .0) - 1))))) (open-at OpenStart-T.the-row 𝓤 H A W opens-at (LL.vals OpenStart-T.the-type OpenStart-L.the-laws) (LL.tells OpenStart-T.the-type OpenStart-L.the-laws) opens₀ ((y100 .0) - 1) (noStart) in-1) $ await ! tt $ learn ! (λ open-1. split ! $
+      move ! (17 ∷ []) $ opens-elem ! tt (of-struct OpenStart-T.the-type OpenStart-T.Laws.the-laws OpenStart-T.Laws.the-plain) opens-at opens₀ ((y100 .0) - 1) (noStart) in-1 (λ open-1.
       sets ! (of-opd ! (load ! (from ! (hop ! (look ! 14 refl) (stop !))) (look-raw ! 0 refl))) 15 refl (LL.lawful OpenStart-T.the-type OpenStart-L.the-laws 𝓤 H A W .typed (getD opens₀ ((y100 .0) - 1) (noStart)) _ open-1 .0) $
-      use2 W (later (‵ (HasMut OpenStart-T.the-row opens-at opens₀))) (back-at OpenStart-T.the-row 𝓤 H A W opens-at (LL.vals OpenStart-T.the-type OpenStart-L.the-laws) (LL.tells OpenStart-T.the-type OpenStart-L.the-laws) (LL.makes OpenStart-T.the-type OpenStart-L.the-plain 𝓤 H A) opens₀ ((y100 .0) - 1) (noStart) in-1 open-1) $ await ! tt $
+      back-elem ! tt (of-struct OpenStart-T.the-type OpenStart-T.Laws.the-laws OpenStart-T.Laws.the-plain) opens-at opens₀ ((y100 .0) - 1) (noStart) in-1 open-1 $
       sets ! (of-opd ! (cell ! 14 refl)) 10 refl (LL.lawful OpenStart-T.the-type OpenStart-L.the-laws 𝓤 H A W .typed (getD opens₀ ((y100 .0) - 1) (noStart)) _ open-1 .0) $
       move ! (16 ∷ 17 ∷ []) $ let req-has-base : (Measured source₀ tape₀ ((getD opens₀ ((y100 .0) - 1) (noStart)) .node) ((getD opens₀ ((y100 .0) - 1) (noStart)) .«base_len»)) × (at₀ + len₀ ≤ length source₀) = (entry-fits _ _ _ _ (req .0) _ test-0 (inv-100 .0), req .1) in
       calls-any W 𝓣 has-base-C.terms ((source-at, source₀), ((tape-at, tape₀), ((getD opens₀ ((y100 .0) - 1) (noStart)), (at₀, (len₀, tt))))) ! (open-1, ((refl, at₀-is), ((refl, len₀-is), tt))) req-has-base known-has-base

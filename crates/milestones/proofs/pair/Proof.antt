@@ -1,5 +1,5 @@
 -- The walk of `milestones::pair`, by hand.
-use Rattle.references.proofs.Walk.{_≡_, refl, subst, _∙_, _⊎_, inl, inr, ℕ, _<_, _≤_, _^_, _+_, _-_, [], _∷_, length, set, URA, fullShare, fat, Heap, Tables, Atoms, givenOf, tables, Given, ‵, _$_, !, move, keep, rewrite, stop, hop, fld, from, load, lit, addr, of-opd, bin, and-then, no-more, vrt, look-tag, in-variant, agg, whole, sub, look-in, Is, mem, cited, switch-then, assoc-then, At, Rule, rule-of, Knows, calls-any, Facing, WalkFor, proves, ends, span, cell, sets, lands-at}
+use Rattle.references.proofs.Walk.{_≡_, refl, subst, _∙_, _⊎_, inl, inr, ℕ, _<_, _≤_, _^_, _+_, _-_, [], _∷_, length, set, URA, fullShare, fat, Heap, Tables, Atoms, givenOf, tables, Given, ‵, _$_, !, move, keep, rewrite, stop, hop, fld, from, load, lit, addr, of-opd, bin, and-then, no-more, vrt, look-tag, in-variant, agg, whole, sub, look-in, Is, mem, cited, switch-then, assoc-then, At, Rule, rule-of, Knows, calls-any, Facing, WalkFor, proves, ends, span, cell, cell-field, sets, lands-at}
 use prog.Wp.{afterTurn}
 use contract.Running.{tablesOf}
 use denote.Struct.Laws as LL
@@ -57,7 +57,7 @@ module _ {M : Type 1} (𝓤 : URA M) (H : Heap 𝓤) (A : Atoms 𝓤) (W : Given
             switch-then ! (load ! (from ! (vrt ! refl (fld ! refl (stop !)))) (look-tag ! 4 (whole !))) tt $
             assoc-then 𝓣 ! $ sets ! (of-opd ! (load ! (from ! (vrt ! refl (fld ! refl (stop !)))) (look-in ! 4 (in-variant ! 0 0 refl refl (whole !))))) 7 refl (LL.lawful OpenStart-T.the-type OpenStart-L.the-laws 𝓤 H A W .typed (y1 .0) _ (EL.owed Step-T.the-type Step-L.the-laws (Step-V.Start (y1 .0)) _ is-1-0 .0) .0) $
             assoc-then 𝓣 ! $ sets ! (addr ! (from ! (fld ! refl (hop ! (look-in ! 5 (sub ! 0 refl (whole !))) (stop !))))) 13 refl (tt, tt) $
-            assoc-then 𝓣 ! $ sets ! (agg ! (and-then ! (cell ! 13 refl) (and-then ! (load ! (from ! (fld ! refl (stop !))) (look-in ! 5 (sub ! 1 refl (whole !)))) (no-more !)))) 14 refl (tt, (tt, (record { fits = (opens-room .0) }, tt))) $
+            assoc-then 𝓣 ! $ sets ! (agg ! (and-then ! (cell ! 13 refl) (and-then ! (cell-field ! 5 1 refl refl refl) (no-more !)))) 14 refl (tt, (tt, (record { fits = (opens-room .0) }, tt))) $
             assoc-then 𝓣 ! $ move ! (26 ∷ []) $ let req-push : k₀ < length opens₀ = req .1 in
             calls-any W 𝓣 push-C.terms ((opens-at, opens₀), (k₀, ((y1 .0), tt))) ! ((refl, k₀-is), ((EL.owed Step-T.the-type Step-L.the-laws (Step-V.Start (y1 .0)) _ is-1-0 .0), tt)) req-push known-push
             (and-then ! (cell ! 15 refl) (and-then ! (cell ! 7 refl) (and-then ! (cell ! 8 refl) (no-more !)))) (λ z-push s-push.
@@ -78,7 +78,7 @@ module _ {M : Type 1} (𝓤 : URA M) (H : Heap 𝓤) (A : Atoms 𝓤) (W : Given
               assoc-then 𝓣 ! $ sets ! (of-opd ! (load ! (from ! (vrt ! refl (fld ! refl (stop !)))) (look-in ! 4 (in-variant ! 1 0 refl refl (whole !))))) 8 refl (tt, record { fits = (EL.lawful Step-T.the-type Step-L.the-laws 𝓤 H A W tt .typed (Step-V.End (y1 .0) (y1 .1)) _ is-1-1 .0) .1 .1 .0 .fits }) $
               assoc-then 𝓣 ! $ sets ! (of-opd ! (load ! (from ! (vrt ! refl (fld ! refl (stop !)))) (look-in ! 4 (in-variant ! 1 1 refl refl (whole !))))) 9 refl (tt, record { fits = (EL.lawful Step-T.the-type Step-L.the-laws 𝓤 H A W tt .typed (Step-V.End (y1 .0) (y1 .1)) _ is-1-1 .0) .1 .1 .1 .0 .fits }) $
               assoc-then 𝓣 ! $ sets ! (addr ! (from ! (fld ! refl (hop ! (look-in ! 5 (sub ! 0 refl (whole !))) (stop !))))) 17 refl (tt, tt) $
-              assoc-then 𝓣 ! $ sets ! (agg ! (and-then ! (cell ! 17 refl) (and-then ! (load ! (from ! (fld ! refl (stop !))) (look-in ! 5 (sub ! 1 refl (whole !)))) (no-more !)))) 18 refl (tt, (tt, (record { fits = (opens-room .0) }, tt))) $
+              assoc-then 𝓣 ! $ sets ! (agg ! (and-then ! (cell ! 17 refl) (and-then ! (cell-field ! 5 1 refl refl refl) (no-more !)))) 18 refl (tt, (tt, (record { fits = (opens-room .0) }, tt))) $
               assoc-then 𝓣 ! $ move ! (24 ∷ 25 ∷ 26 ∷ []) $ let req-nearest : (Opens source₀ tape₀ opens₀ k₀) × ((y1 .0) + (y1 .1) ≤ length source₀) = (req .0, placed source₀ tape₀ opens₀ k₀ step₀ _ _ told-1 (req .2)) in
               calls-any W 𝓣 nearest-C.terms ((source-at, source₀), ((tape-at, tape₀), ((opens-at, opens₀), (k₀, ((y1 .0), ((y1 .1), tt)))))) ! ((refl, k₀-is), ((refl, (EL.lawful Step-T.the-type Step-L.the-laws 𝓤 H A W tt .typed (Step-V.End (y1 .0) (y1 .1)) _ is-1-1 .0) .1 .1 .0 .fits), ((refl, (EL.lawful Step-T.the-type Step-L.the-laws 𝓤 H A W tt .typed (Step-V.End (y1 .0) (y1 .1)) _ is-1-1 .0) .1 .1 .1 .0 .fits), tt))) req-nearest known-nearest
               (and-then ! (cell ! 3 refl) (and-then ! (cell ! 4 refl) (and-then ! (cell ! 19 refl) (and-then ! (cell ! 7 refl) (and-then ! (cell ! 9 refl) (and-then ! (cell ! 10 refl) (no-more !))))))) (λ z-nearest s-nearest.
@@ -92,7 +92,7 @@ module _ {M : Type 1} (𝓤 : URA M) (H : Heap 𝓤) (A : Atoms 𝓤) (W : Given
                     switch-then ! (load ! (from ! (vrt ! refl (fld ! refl (stop !)))) (look-tag ! 19 (whole !))) tt $
                     assoc-then 𝓣 ! $ sets ! (of-opd ! (load ! (from ! (vrt ! refl (fld ! refl (stop !)))) (look-in ! 19 (in-variant ! 0 0 refl refl (whole !))))) 13 refl (tt, record { fits = (EL.lawful Found-T.the-type Found-L.the-laws 𝓤 H A W tt .typed (Found-V.At (y2 .0)) _ is-2-0 .0) .1 .1 .0 .fits }) $
                     assoc-then 𝓣 ! $ sets ! (addr ! (from ! (fld ! refl (hop ! (look-in ! 8 (sub ! 0 refl (whole !))) (stop !))))) 24 refl (tt, tt) $
-                    assoc-then 𝓣 ! $ sets ! (agg ! (and-then ! (cell ! 24 refl) (and-then ! (load ! (from ! (fld ! refl (stop !))) (look-in ! 8 (sub ! 1 refl (whole !)))) (no-more !)))) 25 refl (tt, (tt, (record { fits = (opens-room .0) }, tt))) $
+                    assoc-then 𝓣 ! $ sets ! (agg ! (and-then ! (cell ! 24 refl) (and-then ! (cell-field ! 8 1 refl refl refl) (no-more !)))) 25 refl (tt, (tt, (record { fits = (opens-room .0) }, tt))) $
                     assoc-then 𝓣 ! $ move ! (2 ∷ []) $ let req-remove : ((y2 .0) < k₀) × (k₀ ≤ length (z-nearest .1 .0)) = (end-inside source₀ tape₀ opens₀ k₀ step₀ _ _ told-1 _ _ (says-nearest .1) told-2, known-room source₀ tape₀ opens₀ (z-nearest .1 .0) k₀ (req .0) len-nearest-opens) in
                     calls-any W 𝓣 remove-C.terms ((opens-at, (z-nearest .1 .0)), (k₀, ((y2 .0), tt))) ! ((refl, k₀-is), ((refl, (EL.lawful Found-T.the-type Found-L.the-laws 𝓤 H A W tt .typed (Found-V.At (y2 .0)) _ is-2-0 .0) .1 .1 .0 .fits), tt)) req-remove known-remove
                     (and-then ! (cell ! 25 refl) (and-then ! (cell ! 9 refl) (and-then ! (cell ! 13 refl) (no-more !)))) (λ z-remove s-remove.

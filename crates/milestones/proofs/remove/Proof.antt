@@ -1,5 +1,5 @@
 -- The walk of `milestones::remove`, by hand.
-use Rattle.references.proofs.Walk.{_≡_, refl, sym, _∙_, full, empty, InvImage·wf, ℕ, _<_, _≤_, _^_, _+_, _-_, _*_, [], _∷_, List, length, getD, set, length-set, Nat·lt-wfRel, ltb→lt, nltb→le, URA, fullShare, w64, tyPtr, vint, vptr, fat, Heap, Env, Tables, Atoms, givenOf, tables, Given, Item, ‵, given, _⊛_, later, _$_, !, move, keep, use1, use2, split, learn, rewrite, await, look, look-raw, store, store-raw, forget, stop, hop, fld, from, load, lit, unit-lit, of-opd, bin, assigns, assigns-last, again, whole, sub, look-in, Is, cellAt, place-is, heard, if-then, skip-then, exit-then, loop-then, fatVal, HasMut, OpenAt, open-at, shut-at, back-at, Rule, rule-of, Facing, WalkFor, proves, ends, say, span, env-of, Stands, place, cell, sets, resets}
+use Rattle.references.proofs.Walk.{_≡_, refl, sym, _∙_, full, empty, InvImage·wf, ℕ, _<_, _≤_, _^_, _+_, _-_, _*_, [], _∷_, List, length, getD, set, length-set, Nat·lt-wfRel, ltb→lt, nltb→le, URA, fullShare, w64, tyPtr, vint, vptr, fat, Heap, Env, Tables, Atoms, givenOf, tables, Given, Item, ‵, _$_, !, move, keep, rewrite, look, look-raw, store, store-raw, forget, stop, hop, from, load, lit, unit-lit, of-opd, bin, assigns, assigns-last, again, place-is, heard, if-then, skip-then, exit-then, loop-then, fatVal, HasMut, Rule, rule-of, Facing, WalkFor, proves, ends, say, span, env-of, Stands, cell, cell-field, sets, resets, opens-elem, shuts-elem, back-elem, of-struct}
 use prog.Wp.{afterTurn}
 use contract.Running.{tablesOf}
 use denote.Struct.Laws as LL
@@ -42,21 +42,21 @@ module _ {M : Type 1} (𝓤 : URA M) (H : Heap 𝓤) (A : Atoms 𝓤) (W : Given
       sets ! (bin ! (cell ! 6 refl) (lit ! tt) (record { fits = fits-2 })) 7 refl (tt, record { fits = fits-2 }) $
       let fits-3 : (((y100 .0) + 1) * 8) < 2 ^ 64 = scaled _ _ _ (next-inside _ _ _ test-0 (req .1)) opens-n (opens-room .1) in
       sets ! (bin ! (cell ! 7 refl) (lit ! tt) (record { fits = fits-3 })) 10 refl (tt, record { fits = fits-3 }) $
-      sets ! (bin ! (load ! (from ! (fld ! refl (stop !))) (look-in ! 2 (sub ! 0 refl (whole !)))) (cell ! 10 refl) tt) 11 refl (tt, tt) $
+      sets ! (bin ! (cell-field ! 2 0 refl refl refl) (cell ! 10 refl) tt) 11 refl (tt, tt) $
       rewrite ! 11 (λ (x : ℕ). ‵ (fat fullShare tyPtr l10 0 (vptr (opens-at .b) x))) (sym (place-is 8 (opens-at .o) ((y100 .0) + 1))) refl $
       let in-1 : ((y100 .0) + 1) < length (y100 .1 .0) = rw len-ys-100 (next-inside _ _ _ test-0 (req .1)) in
-      move ! (14 ∷ []) $ use1 W (later (given (Is OpenStart-T.the-row (getD (y100 .1 .0) ((y100 .0) + 1) (noStart)) ((LL.vals OpenStart-T.the-type OpenStart-L.the-laws) (getD (y100 .1 .0) ((y100 .0) + 1) (noStart)))) (‵ (cellAt fullShare (OpenStart-T.the-row .mir) ((LL.vals OpenStart-T.the-type OpenStart-L.the-laws) (getD (y100 .1 .0) ((y100 .0) + 1) (noStart))) (opens-at .b) (place 8 (opens-at .o) ((y100 .0) + 1))) ⊛ ‵ (OpenAt OpenStart-T.the-row opens-at (y100 .1 .0) ((y100 .0) + 1))))) (open-at OpenStart-T.the-row 𝓤 H A W opens-at (LL.vals OpenStart-T.the-type OpenStart-L.the-laws) (LL.tells OpenStart-T.the-type OpenStart-L.the-laws) (y100 .1 .0) ((y100 .0) + 1) (noStart) in-1) $ await ! tt $ learn ! (λ open-1. split ! $
+      move ! (14 ∷ []) $ opens-elem ! tt (of-struct OpenStart-T.the-type OpenStart-T.Laws.the-laws OpenStart-T.Laws.the-plain) opens-at (y100 .1 .0) ((y100 .0) + 1) (noStart) in-1 (λ open-1.
       sets ! (of-opd ! (load ! (from ! (hop ! (look ! 13 refl) (stop !))) (look-raw ! 0 refl))) 14 refl (LL.lawful OpenStart-T.the-type OpenStart-L.the-laws 𝓤 H A W .typed (getD (y100 .1 .0) ((y100 .0) + 1) (noStart)) _ open-1 .0) $
-      use2 W (later (‵ (HasMut OpenStart-T.the-row opens-at (y100 .1 .0)))) (back-at OpenStart-T.the-row 𝓤 H A W opens-at (LL.vals OpenStart-T.the-type OpenStart-L.the-laws) (LL.tells OpenStart-T.the-type OpenStart-L.the-laws) (LL.makes OpenStart-T.the-type OpenStart-L.the-plain 𝓤 H A) (y100 .1 .0) ((y100 .0) + 1) (noStart) in-1 open-1) $ await ! tt $
+      back-elem ! tt (of-struct OpenStart-T.the-type OpenStart-T.Laws.the-laws OpenStart-T.Laws.the-plain) opens-at (y100 .1 .0) ((y100 .0) + 1) (noStart) in-1 open-1 $
       sets ! (of-opd ! (cell ! 13 refl)) 9 refl (LL.lawful OpenStart-T.the-type OpenStart-L.the-laws 𝓤 H A W .typed (getD (y100 .1 .0) ((y100 .0) + 1) (noStart)) _ open-1 .0) $
       let fits-4 : ((y100 .0) * 8) < 2 ^ 64 = scaled _ _ _ (here-inside _ _ _ test-0 (req .1)) opens-n (opens-room .1) in
       resets ! (bin ! (cell ! 7 refl) (lit ! tt) (record { fits = fits-4 })) 11 refl (tt, record { fits = fits-4 }) $
-      sets ! (bin ! (load ! (from ! (fld ! refl (stop !))) (look-in ! 3 (sub ! 0 refl (whole !)))) (cell ! 11 refl) tt) 14 refl (tt, tt) $
+      sets ! (bin ! (cell-field ! 3 0 refl refl refl) (cell ! 11 refl) tt) 14 refl (tt, tt) $
       rewrite ! 14 (λ (x : ℕ). ‵ (fat fullShare tyPtr l12 0 (vptr (opens-at .b) x))) (sym (place-is 8 (opens-at .o) (y100 .0))) refl $
       let in-2 : (y100 .0) < length (y100 .1 .0) = rw len-ys-100 (here-inside _ _ _ test-0 (req .1)) in
-      use1 W (later (given (Is OpenStart-T.the-row (getD (y100 .1 .0) (y100 .0) (noStart)) ((LL.vals OpenStart-T.the-type OpenStart-L.the-laws) (getD (y100 .1 .0) (y100 .0) (noStart)))) (‵ (cellAt fullShare (OpenStart-T.the-row .mir) ((LL.vals OpenStart-T.the-type OpenStart-L.the-laws) (getD (y100 .1 .0) (y100 .0) (noStart))) (opens-at .b) (place 8 (opens-at .o) (y100 .0))) ⊛ ‵ (OpenAt OpenStart-T.the-row opens-at (y100 .1 .0) (y100 .0))))) (open-at OpenStart-T.the-row 𝓤 H A W opens-at (LL.vals OpenStart-T.the-type OpenStart-L.the-laws) (LL.tells OpenStart-T.the-type OpenStart-L.the-laws) (y100 .1 .0) (y100 .0) (noStart) in-2) $ await ! tt $ learn ! (λ open-2. split ! $
+      opens-elem ! tt (of-struct OpenStart-T.the-type OpenStart-T.Laws.the-laws OpenStart-T.Laws.the-plain) opens-at (y100 .1 .0) (y100 .0) (noStart) in-2 (λ open-2.
       assigns ! (of-opd ! (cell ! 10 refl)) (from ! (hop ! (look ! 15 refl) (stop !))) (store-raw ! 0 refl (LL.lawful OpenStart-T.the-type OpenStart-L.the-laws 𝓤 H A W .typed (getD (y100 .1 .0) ((y100 .0) + 1) (noStart)) _ open-1 .0)) $
-      use2 W (later (‵ (HasMut OpenStart-T.the-row opens-at (set (y100 .1 .0) (y100 .0) (getD (y100 .1 .0) ((y100 .0) + 1) (noStart)))))) (shut-at OpenStart-T.the-row 𝓤 H A W opens-at (LL.vals OpenStart-T.the-type OpenStart-L.the-laws) (LL.tells OpenStart-T.the-type OpenStart-L.the-laws) (LL.makes OpenStart-T.the-type OpenStart-L.the-plain 𝓤 H A) (y100 .1 .0) (y100 .0) (getD (y100 .1 .0) ((y100 .0) + 1) (noStart)) in-2 open-1) $ await ! tt $
+      shuts-elem ! tt (of-struct OpenStart-T.the-type OpenStart-T.Laws.the-laws OpenStart-T.Laws.the-plain) opens-at (y100 .1 .0) (y100 .0) (getD (y100 .1 .0) ((y100 .0) + 1) (noStart)) in-2 open-1 $
       assigns-last ! (of-opd ! (cell ! 8 refl)) (from ! (stop !)) (store ! 7 refl (tt, record { fits = fits-2 })) $
       forget ! 8 refl $ forget ! 9 refl $ forget ! 10 refl $ forget ! 11 refl $ forget ! 12 refl $ forget ! 13 refl $ forget ! 14 refl $ say ! (φ-100 ((y100 .0) + 1, (set (y100 .1 .0) (y100 .0) (getD (y100 .1 .0) ((y100 .0) + 1) (noStart)), tt))) (fits-2, ((length-set (y100 .1 .0) (y100 .0) (getD (y100 .1 .0) ((y100 .0) + 1) (noStart)) ∙ len-ys-100), (moving-turn _ _ _ _ _ inv-100 test-0))) $ keep ! (0 ∷ span 2 14 (1 ∷ [])) $ again ! less-0 I-0 y100 ((y100 .0) + 1, (set (y100 .1 .0) (y100 .0) (getD (y100 .1 .0) ((y100 .0) + 1) (noStart)), tt)) (nearer _ _ test-0))))
       (λ h0. let test-0 : (k₀ - 1) ≤ (y100 .0) = nltb→le (y100 .0) (k₀ - 1) h0 in
