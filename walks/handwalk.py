@@ -483,7 +483,7 @@ class Crate:
         return t
 
     def uses(s, extra=()):
-        o = ['use %s.{_≡_, refl, sym, ap, subst, _∙_, Bool, true, false, not, full, empty, _⊎_, inl, inr, WellFounded, InvImage·wf, ℕ, zero, suc, _<_, _≤_, _^_, _+_, _-_, _*_, _/_, _%%_, lt-of-le-of-lt, div-le-self, arith, [], _∷_, List, length, getD, set, length-set, Nat·lt-wfRel, T, lit<, ltb, leb, eqb, ltb→lt, nltb→le, leb→le, eqb→eq, URA, fullShare, PosShare·left, PosShare·right, Ty, Body, Place, Operand, seq, call, named, erased, mut, imm, w8, w16, w32, w64, tyInt, tyBool, tyUnit, tyPtr, tyRef, Val, vunit, vint, vbool, vptr, hasTy, WT, SProp, ent, sep, emp, via, id⊢, GName, Lft, Share, fsep, ftrue, fat, froom, fdies, flft, Memory, Routine, Heap, Env, Calls, Loops, WpFn, Tables, Atoms, sem, Fun, fact, factI, givenOf, tables, Lfts, Shares, toks, Given, Item, ‵, raw, given, mean, ⋆, cut, atRet, PostOf, Seq, runs, lands, settles, use0, _⊛_, some, later, _$_, _∵_, !, qed, by, move, keep, group, drop, use1, use2, use3, split, join, pick, learn, rewrite, fsplit, fjoin, feqL, suffices, frame, check, await, updating, at-once, show, done, Opds, look, look-raw, store, store-raw, init, forget, stop, hop, fld, from, load, lit, unit-lit, true-lit, false-lit, addr, of-opd, bin, un, and-then, no-more, assigns, assigns-last, first, branches, skips, jumps, calls, calls-last, land, land-last, returns-within, again, enter, alloc1, alloc0, params1, pass1, pass0, uint-lawful, vrt, look-tag, in-variant, agg, whole, sub, look-in, store-in, FmC, fmOf, WpFn-mono, Is, shows, mem, cellAt, pointee, uint-vals, uint-tells, uint-makes, bool-vals, bool-tells, bool-makes, nothing-vals, nothing-tells, nothing-makes, u8, u16, u32, u64, usize, bool, unit, RefT, MutRef, ptr-vals, mut-tells, SizeOf, sliceTy, MutSlice, ShrSlice, slice-vals, mut-slice-tells, shr-slice-tells, place-is, only, owned, facts, heard, nothing, Contract, Triple, Meets, tripleOf, entered, cited, measured, at-on, mutual-elim, AllBelow, if-then, skip-then, exit-then, switch-then, assoc-then, loop-then, meets-at, frees-any, At, relent, ptrVal, fatVal, ref, HasRef, HasMut, HasShr, KeptRef, KeptMut, KeptShr, OpenRef, OpenAt, lend-ref, back-ref, lend-mut, back-mut, lend-shr, back-shr, open-ref, shut-ref, open-at, shut-at, back-at, Inputs, Rule, rule-of, Met, Knows, bound-at, calls-any, calls-any-last, calls-met, calls-met-last, Facing, WalkFor, WalkIn, Leaves, walks-under, proves, proves-by, halves, whole-again, refs, inputs, ends, say, span, env-of, Stands, Dying, Sq, _++_, take, skip, length-take-le, part, KeptPart, lend-part, back-part, part-length, room-le, local, KeptLocal, lend-local, back-local, ne-of, is-true, is-false, place, nleb→lt, sliceVal, tyArray, Filled, as-long, array, ArrayAt, KeptArray, KeptArrayShr, lend-array, back-array, lend-array-shr, back-array-shr, free-array, fills-array, needs-by, and-fact, last-fact, cell, cell-field, sets, resets, lands-at, relands-at, opens-elem, shuts-elem, back-elem, opens-ref, shuts-ref, of-number, of-truth, of-nothing, of-struct, of-enum}' % s.law('Walk'), 'use prog.Wp.{afterTurn}', 'use contract.Running.{tablesOf}', 'use denote.Struct.Laws as LL', 'use denote.Enum.Laws as EL']
+        o = ['use %s.{_≡_, refl, sym, ap, subst, _∙_, Bool, true, false, not, full, empty, _⊎_, inl, inr, WellFounded, InvImage·wf, ℕ, zero, suc, _<_, _≤_, _^_, _+_, _-_, _*_, _/_, _%%_, lt-of-le-of-lt, div-le-self, arith, [], _∷_, List, length, getD, set, length-set, Nat·lt-wfRel, T, lit<, ltb, leb, eqb, ltb→lt, nltb→le, leb→le, eqb→eq, URA, fullShare, PosShare·left, PosShare·right, Ty, Body, Place, Operand, seq, call, named, erased, mut, imm, w8, w16, w32, w64, tyInt, tyBool, tyUnit, tyPtr, tyRef, Val, vunit, vint, vbool, vptr, hasTy, WT, SProp, ent, sep, emp, via, id⊢, GName, Lft, Share, fsep, ftrue, fat, froom, fdies, flft, Memory, Routine, Heap, Env, Calls, Loops, WpFn, Tables, Atoms, sem, Fun, fact, factI, givenOf, tables, Lfts, Shares, toks, Given, Item, ‵, raw, given, mean, ⋆, cut, atRet, PostOf, Seq, runs, lands, settles, use0, _⊛_, some, later, _$_, _∵_, !, qed, by, move, keep, group, drop, use1, use2, use3, split, join, pick, learn, rewrite, fsplit, fjoin, feqL, suffices, frame, check, await, updating, at-once, show, done, Opds, look, look-raw, store, store-raw, init, forget, stop, hop, fld, from, load, lit, unit-lit, true-lit, false-lit, addr, of-opd, bin, un, and-then, no-more, assigns, assigns-last, first, branches, skips, jumps, calls, calls-last, land, land-last, returns-within, again, enter, alloc1, alloc0, params1, pass1, pass0, uint-lawful, vrt, look-tag, in-variant, agg, whole, sub, look-in, store-in, FmC, fmOf, WpFn-mono, Is, shows, mem, cellAt, pointee, uint-vals, uint-tells, uint-makes, bool-vals, bool-tells, bool-makes, nothing-vals, nothing-tells, nothing-makes, u8, u16, u32, u64, usize, bool, unit, RefT, MutRef, ptr-vals, mut-tells, SizeOf, sliceTy, MutSlice, ShrSlice, slice-vals, mut-slice-tells, shr-slice-tells, place-is, only, owned, facts, heard, nothing, Contract, Triple, Meets, tripleOf, entered, cited, measured, at-on, mutual-elim, AllBelow, if-then, skip-then, exit-then, switch-then, assoc-then, loop-then, meets-at, frees-any, At, relent, ptrVal, fatVal, ref, HasRef, HasMut, HasShr, KeptRef, KeptMut, KeptShr, OpenRef, OpenAt, lend-ref, back-ref, lend-mut, back-mut, lend-shr, back-shr, open-ref, shut-ref, open-at, shut-at, back-at, Inputs, Rule, rule-of, Met, Knows, bound-at, calls-any, calls-any-last, calls-met, calls-met-last, calls-into, calls-into-met, Facing, WalkFor, WalkIn, Leaves, walks-under, proves, proves-by, halves, whole-again, refs, inputs, ends, say, span, env-of, Stands, Dying, Sq, _++_, take, skip, length-take-le, part, KeptPart, lend-part, back-part, part-length, room-le, local, KeptLocal, lend-local, back-local, ne-of, is-true, is-false, place, nleb→lt, sliceVal, tyArray, Filled, as-long, array, ArrayAt, KeptArray, KeptArrayShr, lend-array, back-array, lend-array-shr, back-array-shr, free-array, fills-array, needs-by, and-fact, last-fact, cell, cell-field, sets, resets, lands-at, relands-at, opens-elem, shuts-elem, back-elem, opens-ref, shuts-ref, of-number, of-truth, of-nothing, of-struct, of-enum}' % s.law('Walk'), 'use prog.Wp.{afterTurn}', 'use contract.Running.{tablesOf}', 'use denote.Struct.Laws as LL', 'use denote.Enum.Laws as EL']
         o += s.type_uses()
         return '\n'.join(o + list(extra)) + '\n'
 
@@ -717,6 +717,25 @@ def short(t):
         o += t[i:m.start()] + '%s ! %s%s refl %s' % (rule, rv, w[2], t[j + w.end():e])
         i = e + 1
     return o + t[i:]
+
+def needed(t):
+    """without the facts that nothing names; those that a proof may find by itself stay"""
+    if 'omega' in t or 'search' in t:
+        return t
+    while True:
+        ls = t.split('\n')
+        o = []
+        for l in ls:
+            m = re.fullmatch('(.*?)let ((?:len|says|is|told|in|req)-\\S+) : .* in', l)
+            if m and len(re.findall('(?<![^\\s(){}.;,])%s(?![^\\s(){}.;,])' % re.escape(m[2]), t)) == 1:
+                if m[1].strip():
+                    o.append(m[1].rstrip() + '@@JOIN@@')
+                continue
+            o.append(l)
+        n = re.sub('@@JOIN@@\n\\s*', ' ', '\n'.join(o))
+        if n == t:
+            return t
+        t = n
 
 def spans(xs):
     """a list of positions, rows of them by `span`"""
@@ -1299,6 +1318,11 @@ class Walk:
         last = '-last' if rest is None else ''
         _, vs = s.opds(a[2], st)
         pre = ''
+        into = int(a[3][1])
+        if not last and st.cells[into] is not None:
+            if any(o_ != 'unit' and o_[0] == 'copy' and int(o_[1][1]) == into for o_ in a[2] if not isinstance(o_, str)):
+                raise Exception('%s: a call reads the local that its result goes to' % s.name)
+            pre += s.free_cell(into, st)
         post = ''
         closes = ''
         keys = []
@@ -1414,8 +1438,11 @@ class Walk:
                     lets += s.let('says-%s-%s' % (lab, f.ens_names[i_]), T_, flat_at('says-' + lab, i_, len(f.ens)))
         res = V('plain', f.res, '%s .0' % z, P(f.res.of_is(P(conj_at(sv, 0, tot)))))
         i = int(a[3][1])
-        w = s.put(i, res, st)
-        out = pre + 'calls-%s%s W 𝓣 %s-C.terms %s ! %s %s %s%s%s' % (rule, last, kk, xs_, tup(facts), req, met, s.nl + '  ', ops) + ' (λ %s %s.' % (z, sv) + s.nl + lets + 'land%s ! (from ! (stop !)) %s $' % (last, w) + s.nl
+        if last:
+            w = s.put(i, res, st)
+            out = pre + 'calls-%s%s W 𝓣 %s-C.terms %s ! %s %s %s%s%s' % (rule, last, kk, xs_, tup(facts), req, met, s.nl + '  ', ops) + ' (λ %s %s.' % (z, sv) + s.nl + lets + 'land%s ! (from ! (stop !)) %s $' % (last, w) + s.nl
+        else:
+            out = pre + 'calls-into%s W 𝓣 %s-C.terms %s ! %s %s %s%s%s' % ('' if rule == 'any' else '-met', kk, xs_, tup(facts), req, met, s.nl + '  ', ops) + ' %d (λ _. refl) refl (λ %s %s.' % (st.pos(s.cell(i)), z, sv) + s.nl + lets
         st.cells[i] = res
         for p, v in zip(f.params, vs):
             if p.isref and getattr(v, 'array', None):
@@ -1735,7 +1762,7 @@ class Walk:
             if st.cells[i] is not None and st.cells[i].kind == 'array':
                 t += s.free_cell(i, st)
         order = ['D'] + [s.cell(i) for i in range(s.n)] + ['H-' + p.name for p in s.f.refs]
-        t += 'keep ! (%s) $ ' % spans([st.pos(l) for l in order]) + s.nl
+        t += 'keep ! (%s) $ ' % spans([st.pos(l) for l in order])
         zs = tup([st.has[p.name] for p in s.f.muts])
         kept = tup([st.len[p.name] for p in s.f.muts if p.kind == 'mut'])
         return t + 'ends ! ρ refl tt %s %s %s %s %s refl' % (P(v.den), P(v.ty.isP(v.den, v.fact)), zs, kept, P(s.fill(s.row(pf), st)) if s.f.ens else 'tt')
@@ -1849,7 +1876,7 @@ class Walk:
                     val = 'inr ' + P(val)
                 cs += 'cases-%s %s = %s\n' % (tn, P(pat), val)
             cs += '\n'
-        out = short('\n'.join(o)).replace('@@USES@@', c.uses(us)).replace('@@CASES@@\n', cs)
+        out = needed(short('\n'.join(o))).replace('@@USES@@', c.uses(us)).replace('@@CASES@@\n', cs)
         return re.sub('τ(\\d+)', lambda m: P(s.tytext(s.locals[int(m[1])])), out)
 
     def takes(s):

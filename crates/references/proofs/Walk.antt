@@ -2,6 +2,7 @@
 --     cell, cell-field     an operand that is a local, or a field of one, at a position of the context
 --     sets, resets         an assignment to a local that is room, or that holds something
 --     opens-elem, shuts-elem, back-elem, opens-ref, shuts-ref     element i of a `&mut [T]`, and what a `&mut T` leads to, opened and shut
+--     calls-into, calls-into-met     a call whose result goes to a local that is room
 --     lands-at, relands-at     a call's result, likewise
 pub use mathlib.Core.Path.{_≡_, refl, sym, ap, subst, _∙_}
 pub use mathlib.Core.Bool.{Bool, true, false, not}
@@ -63,7 +64,7 @@ use types.Kit.{Soaks}
 use types.Part.{Part}
 use mir.Fields.{getV}
 use prog.Memory.{fieldAt}
-use Rattle.references.proofs.Call.{Data}
+use Rattle.references.proofs.Call.{Data, Terms, Facts, Every, Vs, Z, Says, After, Held, HeldAt}
 
 module _ {M : Type 1} {𝓤 : URA M} {H : Heap 𝓤} {A : Atoms 𝓤} {K : Type 0} {W : Given 𝓤 H A} {Γ : List (Item 𝓤)} {E : Env 𝓤 H} where
   pub cell : K → {i : ℕ} (n : ℕ) {q : Share} {v : Val} → nth 𝓤 H A n Γ ≡ ‵ (fat q (spotOf 𝓤 H E i .0) (spotOf 𝓤 H E i .1) (spotOf 𝓤 H E i .2) v) → Opd K W Γ E (copy (at-place i [])) v
@@ -110,3 +111,17 @@ module _ {M : Type 1} {𝓤 : URA M} {H : Heap 𝓤} {A : Atoms 𝓤} {K : Type 
 
   pub shuts-ref : K → Soaks G → (D : Data) (p : At) (h y : D .row .Denot) → Is (D .row) y (D .val y ∷ []) → Step K W (‵ (HasRef (D .row) p y) ∷ Γ) G (‵ (cellAt fullShare (D .row .mir) (D .val y ∷ []) (p .b) (p .o)) ∷ ‵ (OpenRef (D .row) p h) ∷ Γ) G
   shuts-ref t z D p h y is = step (λ s. use2 W (later (‵ (HasRef (D .row) p y))) (shut-ref (D .row) 𝓤 H A W p (λ x. D .val x ∷ []) (D .tells) (D .makes M 𝓤 H A W) h y is) $ await t z $ s)
+
+-- ---- a call, and its result stored
+module _ {M : Type 1} {𝓤 : URA M} {H : Heap 𝓤} {A : Atoms 𝓤} {K : Type 0} (W : Given 𝓤 H A) {Γ : List (Item 𝓤)} {E : Env 𝓤 H} (𝓣 : Tables 𝓤 H) {q : PostOf 𝓤 H} {xs : List Operand} where
+  pub calls-into-met : (F : Terms) (x : Inputs (F .sorts)) → K → {i : ℕ} {rest : Body} → Facts (rule-of F x .pars) → Every (rule-of F x .requires) → Met 𝓤 H A (rule-of F x) (𝓣 .C) → Opds K W (raw (𝓣 .C (F .name) (Vs (rule-of F x .pars)) (λ v. mean 𝓤 H A (After 𝓤 H A (rule-of F x) v))) ∷ Γ) E xs (Vs (rule-of F x .pars))
+      → (n : ℕ) → ((z : Z 𝓤 H A (rule-of F x)) → nth 𝓤 H A n (HeldAt 𝓤 (rule-of F x .pars) (z .1) ++ Γ) ≡ ‵ (froom (spotOf 𝓤 H E i .0) (spotOf 𝓤 H E i .1) (spotOf 𝓤 H E i .2))) → spotOf 𝓤 H E i .0 ≡ F .result .mir
+      → ((z : Z 𝓤 H A (rule-of F x)) → Says 𝓤 H A (rule-of F x) (F .result .val (z .0)) z → Seq K W (put 𝓤 H A n (‵ (fat fullShare (spotOf 𝓤 H E i .0) (spotOf 𝓤 H E i .1) (spotOf 𝓤 H E i .2) (F .result .val (z .0)))) (HeldAt 𝓤 (rule-of F x .pars) (z .1) ++ Γ)) (runs (𝓣 .C) (𝓣 .Λ) E rest q))
+      → Seq K W (Held 𝓤 H A (rule-of F x .pars) ++ Γ) (runs (𝓣 .C) (𝓣 .Λ) E (seq (call (F .name) xs (at-place i [])) rest) q)
+  calls-into-met F x t {i} fs req met os n room fits k = calls-met W 𝓣 F x t fs req met os (λ z s. lands-at t n (room z) (subst (λ (τ : Ty). T (hasTy τ (F .result .val (z .0))) × WT (F .result .val (z .0))) (sym fits) (F .result .typed M 𝓤 H A W (z .0) (s .0))) $ k z s)
+
+  pub calls-into : (F : Terms) (x : Inputs (F .sorts)) → K → {i : ℕ} {rest : Body} → Facts (rule-of F x .pars) → Every (rule-of F x .requires) → Knows 𝓤 H A (𝓣 .C) F → Opds K W (raw (𝓣 .C (F .name) (Vs (rule-of F x .pars)) (λ v. mean 𝓤 H A (After 𝓤 H A (rule-of F x) v))) ∷ Γ) E xs (Vs (rule-of F x .pars))
+      → (n : ℕ) → ((z : Z 𝓤 H A (rule-of F x)) → nth 𝓤 H A n (HeldAt 𝓤 (rule-of F x .pars) (z .1) ++ Γ) ≡ ‵ (froom (spotOf 𝓤 H E i .0) (spotOf 𝓤 H E i .1) (spotOf 𝓤 H E i .2))) → spotOf 𝓤 H E i .0 ≡ F .result .mir
+      → ((z : Z 𝓤 H A (rule-of F x)) → Says 𝓤 H A (rule-of F x) (F .result .val (z .0)) z → Seq K W (put 𝓤 H A n (‵ (fat fullShare (spotOf 𝓤 H E i .0) (spotOf 𝓤 H E i .1) (spotOf 𝓤 H E i .2) (F .result .val (z .0)))) (HeldAt 𝓤 (rule-of F x .pars) (z .1) ++ Γ)) (runs (𝓣 .C) (𝓣 .Λ) E rest q))
+      → Seq K W (Held 𝓤 H A (rule-of F x .pars) ++ Γ) (runs (𝓣 .C) (𝓣 .Λ) E (seq (call (F .name) xs (at-place i [])) rest) q)
+  calls-into F x t fs req known os n room fits k = calls-into-met F x t fs req (known x) os n room fits k

@@ -1,5 +1,5 @@
 -- The walk of `milestones::nearest`, by hand.
-use Rattle.references.proofs.Walk.{_≡_, refl, sym, _∙_, true, false, full, empty, InvImage·wf, ℕ, _<_, _≤_, _^_, _+_, _-_, _*_, arith, [], _∷_, List, length, getD, Nat·lt-wfRel, ltb→lt, nltb→le, URA, fullShare, w64, tyPtr, vint, vptr, fat, Heap, Env, Tables, Atoms, givenOf, tables, Given, Item, ‵, _$_, !, move, keep, rewrite, look, look-raw, forget, stop, hop, from, load, lit, of-opd, bin, and-then, no-more, branches, skips, again, agg, mem, u8, place-is, heard, cited, if-then, skip-then, exit-then, loop-then, At, fatVal, HasMut, HasShr, Rule, rule-of, Knows, calls-any, Facing, WalkFor, proves, ends, say, span, env-of, Stands, is-true, is-false, cell, cell-field, sets, resets, lands-at, opens-elem, back-elem, of-struct}
+use Rattle.references.proofs.Walk.{_≡_, refl, sym, _∙_, true, false, full, empty, InvImage·wf, ℕ, _<_, _≤_, _^_, _+_, _-_, _*_, arith, [], _∷_, List, length, getD, Nat·lt-wfRel, ltb→lt, nltb→le, URA, fullShare, w64, tyPtr, vint, vptr, fat, Heap, Env, Tables, Atoms, givenOf, tables, Given, Item, ‵, _$_, !, move, keep, rewrite, look, look-raw, forget, stop, hop, from, load, lit, of-opd, bin, and-then, no-more, branches, skips, again, agg, mem, u8, place-is, heard, cited, if-then, skip-then, exit-then, loop-then, At, fatVal, HasMut, HasShr, Rule, rule-of, Knows, calls-into, Facing, WalkFor, proves, ends, say, span, env-of, Stands, is-true, is-false, cell, cell-field, sets, resets, opens-elem, back-elem, of-struct}
 use prog.Wp.{afterTurn}
 use contract.Running.{tablesOf}
 use denote.Struct.Laws as LL
@@ -57,22 +57,19 @@ module _ {M : Type 1} (𝓤 : URA M) (H : Heap 𝓤) (A : Atoms 𝓤) (W : Given
       back-elem ! tt (of-struct OpenStart-T.the-type OpenStart-T.Laws.the-laws OpenStart-T.Laws.the-plain) opens-at opens₀ ((y100 .0) - 1) (noStart) in-1 open-1 $
       sets ! (of-opd ! (cell ! 14 refl)) 10 refl (LL.lawful OpenStart-T.the-type OpenStart-L.the-laws 𝓤 H A W .typed (getD opens₀ ((y100 .0) - 1) (noStart)) _ open-1 .0) $
       move ! (16 ∷ 17 ∷ []) $ let req-has-base : (Measured source₀ tape₀ ((getD opens₀ ((y100 .0) - 1) (noStart)) .node) ((getD opens₀ ((y100 .0) - 1) (noStart)) .«base_len»)) × (at₀ + len₀ ≤ length source₀) = (entry-fits _ _ _ _ (req .0) _ test-0 (inv-100 .0), req .1) in
-      calls-any W 𝓣 has-base-C.terms ((source-at, source₀), ((tape-at, tape₀), ((getD opens₀ ((y100 .0) - 1) (noStart)), (at₀, (len₀, tt))))) ! (open-1, ((refl, at₀-is), ((refl, len₀-is), tt))) req-has-base known-has-base
-      (and-then ! (cell ! 4 refl) (and-then ! (cell ! 5 refl) (and-then ! (cell ! 11 refl) (and-then ! (cell ! 8 refl) (and-then ! (cell ! 9 refl) (no-more !)))))) (λ z-has-base s-has-base.
+      calls-into W 𝓣 has-base-C.terms ((source-at, source₀), ((tape-at, tape₀), ((getD opens₀ ((y100 .0) - 1) (noStart)), (at₀, (len₀, tt))))) ! (open-1, ((refl, at₀-is), ((refl, len₀-is), tt))) req-has-base known-has-base
+      (and-then ! (cell ! 4 refl) (and-then ! (cell ! 5 refl) (and-then ! (cell ! 11 refl) (and-then ! (cell ! 8 refl) (and-then ! (cell ! 9 refl) (no-more !)))))) 17 (λ _. refl) refl (λ z-has-base s-has-base.
       let says-has-base : (z-has-base .0) ≡ equal (baseOf (nodeAt source₀ tape₀ ((getD opens₀ ((y100 .0) - 1) (noStart)) .node))) (baseAt source₀ at₀ len₀) = s-has-base .1 in
-      lands-at ! 17 refl (tt, tt) $
       branches ! (cell ! 17 refl)
       (λ h1. let test-1 : z-has-base .0 ≡ true = is-true (z-has-base .0) h1 in
       sets ! (agg ! (and-then ! (lit ! tt) (and-then ! (cell ! 11 refl) (no-more !)))) 4 refl (EL.lawful Found-T.the-type Found-L.the-laws 𝓤 H A W tt .typed (Found-V.At ((y100 .0) - 1)) _ (EL.owes Found-T.the-type Found-L.the-laws (Found-V.At ((y100 .0) - 1)) ((refl, fits-1), tt)) .0) $
-      keep ! (span 3 15 (0 ∷ 1 ∷ 2 ∷ [])) $
-      ends ! ρ refl tt (Found-V.At ((y100 .0) - 1)) (EL.owes Found-T.the-type Found-L.the-laws (Found-V.At ((y100 .0) - 1)) ((refl, fits-1), tt)) (opens₀, tt) (refl, tt) (refl, sym (inv-100 .1 ∙ hit _ _ _ _ _ test-0 _ says-has-base test-1)) refl)
+      keep ! (span 3 15 (0 ∷ 1 ∷ 2 ∷ [])) $ ends ! ρ refl tt (Found-V.At ((y100 .0) - 1)) (EL.owes Found-T.the-type Found-L.the-laws (Found-V.At ((y100 .0) - 1)) ((refl, fits-1), tt)) (opens₀, tt) (refl, tt) (refl, sym (inv-100 .1 ∙ hit _ _ _ _ _ test-0 _ says-has-base test-1)) refl)
       (λ h1. let test-1 : z-has-base .0 ≡ false = is-false (z-has-base .0) h1 in
       skips ! $ forget ! 12 refl $ forget ! 13 refl $ forget ! 14 refl $ forget ! 15 refl $ forget ! 16 refl $ forget ! 17 refl $ say ! (φ-100 ((y100 .0) - 1, tt)) (fits-1, (omega (arith, inv-100 .0), inv-100 .1 ∙ miss _ _ _ _ _ test-0 _ says-has-base test-1)) $ keep ! (0 ∷ span 4 15 (1 ∷ 2 ∷ 3 ∷ [])) $ again ! less-0 I-0 y100 ((y100 .0) - 1, tt) (omega (arith, test-0))))))
       (λ h0. let test-0 : (y100 .0) ≤ 0 = nltb→le 0 (y100 .0) h0 in
       exit-then ! $ leave-0 _ $
       sets ! (agg ! (and-then ! (lit ! tt) (no-more !))) 1 refl (EL.lawful Found-T.the-type Found-L.the-laws 𝓤 H A W tt .typed Found-V.Nothing _ (EL.owes Found-T.the-type Found-L.the-laws Found-V.Nothing tt) .0) $
-      keep ! (span 0 18 []) $
-      ends ! ρ refl tt Found-V.Nothing (EL.owes Found-T.the-type Found-L.the-laws Found-V.Nothing tt) (opens₀, tt) (refl, tt) (refl, sym (inv-100 .1 ∙ nowhere _ _ _ _ _ test-0)) refl))) (k₀, tt)
+      keep ! (span 0 18 []) $ ends ! ρ refl tt Found-V.Nothing (EL.owes Found-T.the-type Found-L.the-laws Found-V.Nothing tt) (opens₀, tt) (refl, tt) (refl, sym (inv-100 .1 ∙ nowhere _ _ _ _ _ test-0)) refl))) (k₀, tt)
 
 pub nearest-spec : {M : Type 1} → stated.statement M
 unfolding code.routine tablesOf

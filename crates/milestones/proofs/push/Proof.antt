@@ -26,8 +26,7 @@ module _ {M : Type 1} (𝓤 : URA M) (H : Heap 𝓤) (A : Atoms 𝓤) (W : Given
       assigns ! (of-opd ! (cell ! 6 refl)) (from ! (hop ! (look ! 8 refl) (stop !))) (store-raw ! 0 refl (LL.lawful OpenStart-T.the-type OpenStart-L.the-laws 𝓤 H A W .typed o₀ _ o₀-is .0)) $
       shuts-elem ! tt (of-struct OpenStart-T.the-type OpenStart-T.Laws.the-laws OpenStart-T.Laws.the-plain) opens-at opens₀ k₀ o₀ in-1 o₀-is $
       sets ! (of-opd ! (unit-lit !)) 2 refl (tt, tt) $
-      keep ! (span 1 7 (0 ∷ [])) $
-      ends ! ρ refl tt tt refl (set opens₀ k₀ o₀, tt) ((length-set opens₀ k₀ o₀ ∙ refl), tt) refl refl)
+      keep ! (span 1 7 (0 ∷ [])) $ ends ! ρ refl tt tt refl (set opens₀ k₀ o₀, tt) ((length-set opens₀ k₀ o₀ ∙ refl), tt) refl refl)
 
 pub push-spec : {M : Type 1} → stated.statement M
 unfolding code.routine tablesOf
