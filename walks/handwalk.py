@@ -726,7 +726,7 @@ def needed(t):
         ls = t.split('\n')
         o = []
         for l in ls:
-            m = re.fullmatch('(.*?)let ((?:len|says|is|told|in|req)-\\S+) : .* in', l)
+            m = re.fullmatch('(.*?)let ((?:len|says|is|told|in|req)-\\S+) (?:: .* )?= .* in', l)
             if m and len(re.findall('(?<![^\\s(){}.;,])%s(?![^\\s(){}.;,])' % re.escape(m[2]), t)) == 1:
                 if m[1].strip():
                     o.append(m[1].rstrip() + '@@JOIN@@')
@@ -1057,6 +1057,9 @@ class Walk:
 
     def let(s, name, T, pf):
         return 'let %s : %s = %s in%s' % (name, T, pf, s.nl)
+
+    def know(s, name, pf):
+        return 'let %s = %s in%s' % (name, pf, s.nl)
 
     def env(s):
         return 'env-of (%s .locals) (%s)' % (s.fn, L(['l%d' % i for i in range(s.n)]))
@@ -1426,16 +1429,16 @@ class Walk:
             if p.kind == 'mut':
                 ln = 'len-%s-%s' % (lab, dash(p.name))
                 old = st.has[v.key]
-                lets += s.let(ln, 'length (%s) ≡ length %s' % (e[p.name], P(old)), conj_at(sv, 1 + nsl.index(p), tot))
+                lets += s.know(ln, conj_at(sv, 1 + nsl.index(p), tot))
                 st.len[v.key] = '(%s ∙ %s)' % (ln, st.len[v.key]) if st.len[v.key] != 'refl' else ln
             if p in f.muts:
                 st.has[v.key] = '(%s)' % e[p.name]
         if f.ens:
             said = conj_at(sv, tot - 1, tot)
-            lets += s.let('says-' + lab, s.cr.says(f, f.ens, dn, {k: P(x) for k, x in e.items()}, '(%s .0)' % z), said if len(f.ens) < 3 else flat([conj_at(said, i_, len(f.ens)) for i_ in range(len(f.ens))]))
+            lets += s.know('says-' + lab, said) if len(f.ens) < 3 else s.let('says-' + lab, s.cr.says(f, f.ens, dn, {k: P(x) for k, x in e.items()}, '(%s .0)' % z), flat([conj_at(said, i_, len(f.ens)) for i_ in range(len(f.ens))]))
             if len(f.ens) > 1:
                 for i_, T_ in enumerate(s.cr.facts(f, f.ens, dn, {k: P(x) for k, x in e.items()}, '(%s .0)' % z)):
-                    lets += s.let('says-%s-%s' % (lab, f.ens_names[i_]), T_, flat_at('says-' + lab, i_, len(f.ens)))
+                    lets += s.know('says-%s-%s' % (lab, f.ens_names[i_]), flat_at('says-' + lab, i_, len(f.ens)))
         res = V('plain', f.res, '%s .0' % z, P(f.res.of_is(P(conj_at(sv, 0, tot)))))
         i = int(a[3][1])
         if last:
@@ -1610,7 +1613,7 @@ class Walk:
         where = {}
         for i, (nm, T, src) in enumerate(facts):
             name = jd.get('name', 'inv') + '-' + x[1:] if nm == 'fact' else nm + '-' + x[1:]
-            lets += s.let(name, T, conj_at(j, i, len(facts)))
+            lets += s.know(name, conj_at(j, i, len(facts)))
             where[src] = name
         byc = {b: nm for nm, b in vs if isinstance(b, int)}
         byh = {b: nm for nm, b in vs if not isinstance(b, int)}

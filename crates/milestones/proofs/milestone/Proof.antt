@@ -1,5 +1,5 @@
 -- The walk of `milestones::milestone`, by hand.
-use Rattle.references.proofs.Walk.{_≡_, refl, _<_, [], _∷_, length, URA, Heap, Tables, Atoms, givenOf, tables, Given, _$_, !, move, keep, stop, hop, fld, from, addr, and-then, no-more, agg, whole, sub, look-in, mem, cited, Rule, rule-of, Knows, calls-into, Facing, WalkFor, proves, ends, span, cell, cell-field, sets}
+use Rattle.references.proofs.Walk.{refl, _<_, [], _∷_, length, URA, Heap, Tables, Atoms, givenOf, tables, Given, _$_, !, move, keep, stop, hop, fld, from, addr, and-then, no-more, agg, whole, sub, look-in, mem, cited, Rule, rule-of, Knows, calls-into, Facing, WalkFor, proves, ends, span, cell, cell-field, sets}
 use prog.Wp.{afterTurn}
 use contract.Running.{tablesOf}
 use denote.Struct.Laws as LL
@@ -14,7 +14,7 @@ use Rattle.tape.specs.Nodes.{count}
 use Rattle.table.specs.Entries.{entryOfInfo}
 use Rattle.cursor.specs.Inner.{Spanned}
 use Rattle.running.specs.Running.{Opens}
-use Rattle.milestones.specs.Inner.{Read, Placed, takenBy, opensBy, pairedBy, Counted, Countable}
+use Rattle.milestones.specs.Inner.{Placed, Countable}
 use Rattle.milestones.proofs.Whole.{countable, milestoned}
 use Rattle.milestones.proofs.Pairing.{inside, read-placed}
 use Rattle.milestones.proofs.milestone.Statement as stated
@@ -34,21 +34,21 @@ module _ {M : Type 1} (𝓤 : URA M) (H : Heap 𝓤) (A : Atoms 𝓤) (W : Given
       move ! (15 ∷ 16 ∷ []) $ let req-step-of : (Spanned source₀ tape₀ i₀) × (i₀ < 4294967296) = (req .spanned, req .low) in
       calls-into W 𝓣 step-of-C.terms (m₀, ((source-at, source₀), ((tape-at, tape₀), (i₀, tt)))) ! (m₀-is, ((refl, i₀-is), tt)) req-step-of known-step-of
       (and-then ! (cell ! 3 refl) (and-then ! (cell ! 4 refl) (and-then ! (cell ! 5 refl) (and-then ! (cell ! 6 refl) (no-more !))))) 11 (λ _. refl) refl (λ z-step-of s-step-of.
-      let says-step-of : Read (entryOfInfo m₀) source₀ tape₀ i₀ (z-step-of .0) = s-step-of .1 in
+      let says-step-of = s-step-of .1 in
       sets ! (addr ! (from ! (fld ! refl (hop ! (look-in ! 8 (sub ! 0 refl (whole !))) (stop !))))) 13 refl (tt, tt) $
       sets ! (agg ! (and-then ! (cell ! 13 refl) (and-then ! (cell-field ! 8 1 refl refl refl) (no-more !)))) 14 refl (tt, (tt, (record { fits = (opens-room .0) }, tt))) $
       move ! (0 ∷ 1 ∷ 17 ∷ []) $ let req-pair : (Opens source₀ tape₀ opens₀ (rec₀ .«open»)) × ((rec₀ .«open») < length opens₀) × (Placed source₀ (z-step-of .0)) = (req .known, req .more, read-placed (entryOfInfo m₀) source₀ tape₀ i₀ (z-step-of .0) says-step-of) in
       calls-into W 𝓣 pair-C.terms ((source-at, source₀), ((tape-at, tape₀), (z-step-of .0, ((opens-at, opens₀), (rec₀ .«open», tt))))) ! ((s-step-of .0), ((refl, (LL.lawful Record-T.the-type Record-L.the-laws 𝓤 H A W .typed rec₀ _ rec₀-is .0) .1 .1 .1 .1 .1 .1 .1 .1 .1 .0 .fits), tt)) req-pair known-pair
       (and-then ! (cell ! 4 refl) (and-then ! (cell ! 5 refl) (and-then ! (cell ! 10 refl) (and-then ! (cell ! 13 refl) (and-then ! (cell-field ! 8 8 refl refl refl) (no-more !)))))) 13 (λ _. refl) refl (λ z-pair s-pair.
-      let len-pair-opens : length (z-pair .1 .0) ≡ length opens₀ = s-pair .1 .0 in
-      let says-pair : ((z-pair .1 .0) ≡ opensBy (z-step-of .0) (takenBy source₀ tape₀ opens₀ (rec₀ .«open») (z-step-of .0)) opens₀ (rec₀ .«open»)) × ((z-pair .0) ≡ pairedBy (z-step-of .0) (takenBy source₀ tape₀ opens₀ (rec₀ .«open») (z-step-of .0)) (rec₀ .«open»)) = s-pair .1 .1 in
+      let len-pair-opens = s-pair .1 .0 in
+      let says-pair = s-pair .1 .1 in
       sets ! (addr ! (from ! (fld ! refl (hop ! (look-in ! 11 (sub ! 0 refl (whole !))) (stop !))))) 16 refl (tt, tt) $
       sets ! (agg ! (and-then ! (cell ! 16 refl) (and-then ! (cell-field ! 11 1 refl refl refl) (no-more !)))) 17 refl (tt, (tt, (record { fits = (list-room .0) }, tt))) $
       move ! (1 ∷ 18 ∷ []) $ let req-after-pair : (i₀ < count tape₀) × Countable tape₀ i₀ (z-pair .0) rec₀ = (req .spanned .inside, countable (entryOfInfo m₀) source₀ tape₀ i₀ opens₀ list₀ rec₀ (req .known) (z-step-of .0) says-step-of (z-pair .0) (says-pair .1) (req .room)) in
       calls-into W 𝓣 after-pair-C.terms ((tape-at, tape₀), (i₀, (z-pair .0, (rec₀, ((list-at, list₀), tt))))) ! ((refl, i₀-is), ((s-pair .0), (rec₀-is, tt))) req-after-pair known-after-pair
       (and-then ! (cell ! 7 refl) (and-then ! (cell ! 8 refl) (and-then ! (cell ! 13 refl) (and-then ! (cell ! 10 refl) (and-then ! (cell ! 17 refl) (no-more !)))))) 5 (λ _. refl) refl (λ z-after-pair s-after-pair.
-      let len-after-pair-list : length (z-after-pair .1 .0) ≡ length list₀ = s-after-pair .1 .0 in
-      let says-after-pair : Counted tape₀ i₀ (z-pair .0) list₀ rec₀ (z-after-pair .1 .0) (z-after-pair .0) = s-after-pair .1 .1 in
+      let len-after-pair-list = s-after-pair .1 .0 in
+      let says-after-pair = s-after-pair .1 .1 in
       keep ! (span 4 15 (2 ∷ 0 ∷ 3 ∷ 1 ∷ [])) $ ends ! ρ refl tt (z-after-pair .0) (s-after-pair .0) ((z-pair .1 .0), ((z-after-pair .1 .0), tt)) (len-pair-opens, (len-after-pair-list, tt)) (milestoned (entryOfInfo m₀) source₀ tape₀ i₀ opens₀ list₀ rec₀ (req .known) (z-step-of .0) says-step-of (req .spanned) (req .more) _ (says-pair .0) len-pair-opens (z-pair .0) (says-pair .1) _ _ says-after-pair) refl)))
 
 pub milestone-spec : {M : Type 1} → stated.statement M

@@ -12,9 +12,6 @@ use Rattle.validate.proofs.OpenStart.Laws as OpenStart-L
 use Rattle.milestones.proofs.CallNearest as nearest-C
 use Rattle.milestones.proofs.nearest.Code as code
 use Rattle.milestones.proofs.CallHasBase as has-base-C
-use Rattle.tape.specs.Nodes.{nodeAt}
-use Rattle.table.specs.Bytes.{equal}
-use Rattle.validate.specs.Milestones.{baseOf}
 use Rattle.validate.specs.Outcome.{noStart}
 use Rattle.milestones.specs.Inner.{Measured, baseAt, nearestIn}
 use Rattle.references.proofs.Sizes.{scaled, less-fits}
@@ -38,8 +35,8 @@ module _ {M : Type 1} (𝓤 : URA M) (H : Heap 𝓤) (A : Atoms 𝓤) (W : Given
       let I-0 : (ℕ × Unit {0}) → List (Item 𝓤) = λ y100. Stands 𝓤 H (φ-100 y100) E (empty ∷ full (fatVal source-at) ∷ full (fatVal tape-at) ∷ full (fatVal opens-at) ∷ full (vint w64 k₀) ∷ full (vint w64 at₀) ∷ full (vint w64 len₀) ∷ full (vint w64 (y100 .0)) ∷ []) (‵ (HasShr u8 source-at source₀) ∷ ‵ (HasShr u8 tape-at tape₀) ∷ ‵ (HasMut OpenStart-T.the-row opens-at opens₀) ∷ []) in
       say ! (φ-100 (k₀, tt)) (k₀-is, (omega arith, refl)) $ keep ! (span 0 19 []) $
       loop-then ! 𝓣 less-0 (InvImage·wf μ-0 (Nat·lt-wfRel .wf)) I-0 (λ y100 leave-0. heard ! (φ-100 y100) (λ j100.
-      let is-j-100 : (y100 .0) < 2 ^ 64 = j100 .0 in
-      let inv-100 : ((y100 .0) ≤ k₀) × (nearestIn source₀ tape₀ opens₀ k₀ (baseAt source₀ at₀ len₀) ≡ nearestIn source₀ tape₀ opens₀ (y100 .0) (baseAt source₀ at₀ len₀)) = j100 .1 in
+      let is-j-100 = j100 .0 in
+      let inv-100 = j100 .1 in
       sets ! (bin ! (lit ! tt) (cell ! 8 refl) tt) 10 refl (tt, tt) $
       if-then ! (cell ! 10 refl)
       (λ h0. let test-0 : 0 < (y100 .0) = ltb→lt 0 (y100 .0) h0 in
@@ -59,7 +56,7 @@ module _ {M : Type 1} (𝓤 : URA M) (H : Heap 𝓤) (A : Atoms 𝓤) (W : Given
       move ! (16 ∷ 17 ∷ []) $ let req-has-base : (Measured source₀ tape₀ ((getD opens₀ ((y100 .0) - 1) (noStart)) .node) ((getD opens₀ ((y100 .0) - 1) (noStart)) .«base_len»)) × (at₀ + len₀ ≤ length source₀) = (entry-fits _ _ _ _ (req .0) _ test-0 (inv-100 .0), req .1) in
       calls-into W 𝓣 has-base-C.terms ((source-at, source₀), ((tape-at, tape₀), ((getD opens₀ ((y100 .0) - 1) (noStart)), (at₀, (len₀, tt))))) ! (open-1, ((refl, at₀-is), ((refl, len₀-is), tt))) req-has-base known-has-base
       (and-then ! (cell ! 4 refl) (and-then ! (cell ! 5 refl) (and-then ! (cell ! 11 refl) (and-then ! (cell ! 8 refl) (and-then ! (cell ! 9 refl) (no-more !)))))) 17 (λ _. refl) refl (λ z-has-base s-has-base.
-      let says-has-base : (z-has-base .0) ≡ equal (baseOf (nodeAt source₀ tape₀ ((getD opens₀ ((y100 .0) - 1) (noStart)) .node))) (baseAt source₀ at₀ len₀) = s-has-base .1 in
+      let says-has-base = s-has-base .1 in
       branches ! (cell ! 17 refl)
       (λ h1. let test-1 : z-has-base .0 ≡ true = is-true (z-has-base .0) h1 in
       sets ! (agg ! (and-then ! (lit ! tt) (and-then ! (cell ! 11 refl) (no-more !)))) 4 refl (EL.lawful Found-T.the-type Found-L.the-laws 𝓤 H A W tt .typed (Found-V.At ((y100 .0) - 1)) _ (EL.owes Found-T.the-type Found-L.the-laws (Found-V.At ((y100 .0) - 1)) ((refl, fits-1), tt)) .0) $

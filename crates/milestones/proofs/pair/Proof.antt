@@ -1,5 +1,5 @@
 -- The walk of `milestones::pair`, by hand.
-use Rattle.references.proofs.Walk.{_≡_, refl, subst, _∙_, _⊎_, inl, inr, ℕ, _<_, _≤_, _^_, _+_, _-_, [], _∷_, length, set, URA, fullShare, fat, Heap, Tables, Atoms, givenOf, tables, Given, ‵, _$_, !, move, keep, rewrite, stop, hop, fld, from, load, lit, addr, of-opd, bin, and-then, no-more, vrt, look-tag, in-variant, agg, whole, sub, look-in, Is, mem, cited, switch-then, assoc-then, At, Rule, rule-of, Knows, calls-into, Facing, WalkFor, proves, ends, span, cell, cell-field, sets}
+use Rattle.references.proofs.Walk.{_≡_, refl, subst, _∙_, _⊎_, inl, inr, ℕ, _<_, _≤_, _^_, _+_, _-_, [], _∷_, length, URA, fullShare, fat, Heap, Tables, Atoms, givenOf, tables, Given, ‵, _$_, !, move, keep, rewrite, stop, hop, fld, from, load, lit, addr, of-opd, bin, and-then, no-more, vrt, look-tag, in-variant, agg, whole, sub, look-in, Is, mem, cited, switch-then, assoc-then, At, Rule, rule-of, Knows, calls-into, Facing, WalkFor, proves, ends, span, cell, cell-field, sets}
 use prog.Wp.{afterTurn}
 use contract.Running.{tablesOf}
 use denote.Struct.Laws as LL
@@ -24,7 +24,6 @@ use Rattle.milestones.proofs.CallPush as push-C
 use Rattle.milestones.proofs.CallNearest as nearest-C
 use Rattle.milestones.proofs.CallRemove as remove-C
 use Rattle.running.specs.Running.{Opens}
-use Rattle.milestones.specs.Inner.{baseAt, nearestIn, removed}
 use Rattle.references.proofs.Sizes.{less-fits, more-fits}
 use Rattle.milestones.proofs.Pairing.{first-of, pair-neither, pair-start, placed, pair-end, pair-alone, end-inside, known-room}
 use Rattle.milestones.proofs.pair.Statement as stated
@@ -61,8 +60,8 @@ module _ {M : Type 1} (𝓤 : URA M) (H : Heap 𝓤) (A : Atoms 𝓤) (W : Given
             assoc-then 𝓣 ! $ move ! (26 ∷ []) $ let req-push : k₀ < length opens₀ = req .1 in
             calls-into W 𝓣 push-C.terms ((opens-at, opens₀), (k₀, ((y1 .0), tt))) ! ((refl, k₀-is), ((EL.owed Step-T.the-type Step-L.the-laws (Step-V.Start (y1 .0)) _ is-1-0 .0), tt)) req-push known-push
             (and-then ! (cell ! 15 refl) (and-then ! (cell ! 7 refl) (and-then ! (cell ! 8 refl) (no-more !)))) 13 (λ _. refl) refl (λ z-push s-push.
-            let len-push-opens : length (z-push .1 .0) ≡ length opens₀ = s-push .1 .0 in
-            let says-push : (z-push .1 .0) ≡ set opens₀ k₀ (y1 .0) = s-push .1 .1 in
+            let len-push-opens = s-push .1 .0 in
+            let says-push = s-push .1 .1 in
             assoc-then 𝓣 ! $ let fits-1 : (k₀ + 1) < 2 ^ 64 = more-fits _ _ _ (req .1) opens-n (opens-room .0) in
             sets ! (bin ! (cell ! 7 refl) (lit ! tt) (record { fits = fits-1 })) 16 refl (tt, record { fits = fits-1 }) $
             sets ! (agg ! (and-then ! (lit ! tt) (and-then ! (cell ! 16 refl) (no-more !)))) 12 refl (EL.lawful Paired-T.the-type Paired-L.the-laws 𝓤 H A W tt .typed (Paired-V.Now (k₀ + 1)) _ (EL.owes Paired-T.the-type Paired-L.the-laws (Paired-V.Now (k₀ + 1)) ((refl, fits-1), tt)) .0) $
@@ -80,8 +79,8 @@ module _ {M : Type 1} (𝓤 : URA M) (H : Heap 𝓤) (A : Atoms 𝓤) (W : Given
               assoc-then 𝓣 ! $ move ! (24 ∷ 25 ∷ 26 ∷ []) $ let req-nearest : (Opens source₀ tape₀ opens₀ k₀) × ((y1 .0) + (y1 .1) ≤ length source₀) = (req .0, placed source₀ tape₀ opens₀ k₀ step₀ _ _ told-1 (req .2)) in
               calls-into W 𝓣 nearest-C.terms ((source-at, source₀), ((tape-at, tape₀), ((opens-at, opens₀), (k₀, ((y1 .0), ((y1 .1), tt)))))) ! ((refl, k₀-is), ((refl, (EL.lawful Step-T.the-type Step-L.the-laws 𝓤 H A W tt .typed (Step-V.End (y1 .0) (y1 .1)) _ is-1-1 .0) .1 .1 .0 .fits), ((refl, (EL.lawful Step-T.the-type Step-L.the-laws 𝓤 H A W tt .typed (Step-V.End (y1 .0) (y1 .1)) _ is-1-1 .0) .1 .1 .1 .0 .fits), tt))) req-nearest known-nearest
               (and-then ! (cell ! 3 refl) (and-then ! (cell ! 4 refl) (and-then ! (cell ! 19 refl) (and-then ! (cell ! 7 refl) (and-then ! (cell ! 9 refl) (and-then ! (cell ! 10 refl) (no-more !))))))) 19 (λ _. refl) refl (λ z-nearest s-nearest.
-              let len-nearest-opens : length (z-nearest .1 .0) ≡ length opens₀ = s-nearest .1 .0 in
-              let says-nearest : ((z-nearest .1 .0) ≡ opens₀) × ((z-nearest .0) ≡ nearestIn source₀ tape₀ opens₀ k₀ (baseAt source₀ (y1 .0) (y1 .1))) = s-nearest .1 .1 in
+              let len-nearest-opens = s-nearest .1 .0 in
+              let says-nearest = s-nearest .1 .1 in
               assoc-then 𝓣 ! $ elim (cases-Found (z-nearest .0)) [
                 | inl y2 ↦ rewrite ! 19 (λ (u : Found). ‵ (fat fullShare Found-L.mir l15 0 (EL.val Found-T.the-type Found-L.the-laws u))) (y2 .1) refl $
                     let told-2 : z-nearest .0 ≡ Found-V.At (y2 .0) = y2 .1 in
@@ -93,8 +92,8 @@ module _ {M : Type 1} (𝓤 : URA M) (H : Heap 𝓤) (A : Atoms 𝓤) (W : Given
                     assoc-then 𝓣 ! $ move ! (2 ∷ []) $ let req-remove : ((y2 .0) < k₀) × (k₀ ≤ length (z-nearest .1 .0)) = (end-inside source₀ tape₀ opens₀ k₀ step₀ _ _ told-1 _ _ (says-nearest .1) told-2, known-room source₀ tape₀ opens₀ (z-nearest .1 .0) k₀ (req .0) len-nearest-opens) in
                     calls-into W 𝓣 remove-C.terms ((opens-at, (z-nearest .1 .0)), (k₀, ((y2 .0), tt))) ! ((refl, k₀-is), ((refl, (EL.lawful Found-T.the-type Found-L.the-laws 𝓤 H A W tt .typed (Found-V.At (y2 .0)) _ is-2-0 .0) .1 .1 .0 .fits), tt)) req-remove known-remove
                     (and-then ! (cell ! 25 refl) (and-then ! (cell ! 9 refl) (and-then ! (cell ! 13 refl) (no-more !)))) 23 (λ _. refl) refl (λ z-remove s-remove.
-                    let len-remove-opens : length (z-remove .1 .0) ≡ length (z-nearest .1 .0) = s-remove .1 .0 in
-                    let says-remove : (z-remove .1 .0) ≡ removed (z-nearest .1 .0) k₀ (y2 .0) = s-remove .1 .1 in
+                    let len-remove-opens = s-remove .1 .0 in
+                    let says-remove = s-remove .1 .1 in
                     assoc-then 𝓣 ! $ let sub-2 : 1 ≤ k₀ = first-of _ _ (end-inside source₀ tape₀ opens₀ k₀ step₀ _ _ told-1 _ _ (says-nearest .1) told-2) in
                     let fits-2 : (k₀ - 1) < 2 ^ 64 = less-fits _ _ k₀-is in
                     sets ! (bin ! (cell ! 9 refl) (lit ! tt) sub-2) 26 refl (tt, record { fits = fits-2 }) $

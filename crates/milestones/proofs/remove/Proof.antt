@@ -31,8 +31,8 @@ module _ {M : Type 1} (𝓤 : URA M) (H : Heap 𝓤) (A : Atoms 𝓤) (W : Given
       let I-0 : (ℕ × ((List OpenStart) × Unit {0})) → List (Item 𝓤) = λ y100. Stands 𝓤 H (φ-100 y100) E (empty ∷ full (fatVal opens-at) ∷ full (vint w64 k₀) ∷ full (vint w64 at₀) ∷ full (vint w64 (k₀ - 1)) ∷ full (vint w64 (y100 .0)) ∷ []) (‵ (HasMut OpenStart-T.the-row opens-at (y100 .1 .0)) ∷ []) in
       say ! (φ-100 (at₀, (opens₀, tt))) (at₀-is, (refl, (moving-start _ _ _ (moves-first _ _ (req .0)) (moves-room _ _ _ (req .0) (req .1))))) $ keep ! (span 0 16 []) $
       loop-then ! 𝓣 less-0 (InvImage·wf μ-0 (Nat·lt-wfRel .wf)) I-0 (λ y100 leave-0. heard ! (φ-100 y100) (λ j100.
-      let len-ys-100 : length (y100 .1 .0) ≡ length opens₀ = j100 .1 .0 in
-      let inv-100 : Moving opens₀ at₀ (k₀ - 1) (y100 .1 .0) (y100 .0) = j100 .1 .1 in
+      let len-ys-100 = j100 .1 .0 in
+      let inv-100 = j100 .1 .1 in
       sets ! (bin ! (cell ! 6 refl) (cell ! 5 refl) tt) 9 refl (tt, tt) $
       if-then ! (cell ! 9 refl)
       (λ h0. let test-0 : (y100 .0) < (k₀ - 1) = ltb→lt (y100 .0) (k₀ - 1) h0 in
