@@ -28,6 +28,6 @@ hw.write_function(c,'check_with',dict(uses=L,default=D,
   calls={'read_records':dict(req='req'),'write_records':dict(req='(rw len-read-records-words (req .0), rw @opens (req .1))')},returns=['@words']))
 
 # The literal 65535 is a large one, whose step is `big-lit`.
-big = lambda text: re.sub(r'(\(look ! \d+ refl\)\) \(and-then ! )\(lit ! tt\)( \(no-more !\)\)\)\))', r'\1(big-lit ! (record { fits = lit< tt }))\2', text)
+big = lambda text: re.sub(r'(\(cell ! \d+ refl\) \(and-then ! )\(lit ! tt\)( \(no-more !\)\)\)\))', r'\1(big-lit ! (record { fits = lit< tt }))\2', text)
 hw.write_function(c,'check_words',dict(uses=L+['use Rattle.by_words.proofs.Numbers.{all-inside}','use Rattle.by_words.proofs.Literals.{big-lit}'],default=D,
   calls={'check_with':dict(req='all-inside _ _ _ _ says-records words-n @_8')},returns=['@words'],turn=big))

@@ -1321,11 +1321,7 @@ class Walk:
         last = '-last' if rest is None else ''
         _, vs = s.opds(a[2], st)
         pre = ''
-        into = int(a[3][1])
-        if not last and st.cells[into] is not None:
-            if any(o_ != 'unit' and o_[0] == 'copy' and int(o_[1][1]) == into for o_ in a[2] if not isinstance(o_, str)):
-                raise Exception('%s: a call reads the local that its result goes to' % s.name)
-            pre += s.free_cell(into, st)
+        into = st.cells[int(a[3][1])] is None and not last
         post = ''
         closes = ''
         keys = []
@@ -1441,7 +1437,7 @@ class Walk:
                     lets += s.know('says-%s-%s' % (lab, f.ens_names[i_]), flat_at('says-' + lab, i_, len(f.ens)))
         res = V('plain', f.res, '%s .0' % z, P(f.res.of_is(P(conj_at(sv, 0, tot)))))
         i = int(a[3][1])
-        if last:
+        if not into:
             w = s.put(i, res, st)
             out = pre + 'calls-%s%s W 𝓣 %s-C.terms %s ! %s %s %s%s%s' % (rule, last, kk, xs_, tup(facts), req, met, s.nl + '  ', ops) + ' (λ %s %s.' % (z, sv) + s.nl + lets + 'land%s ! (from ! (stop !)) %s $' % (last, w) + s.nl
         else:

@@ -1,10 +1,12 @@
 -- The two ends of a walk by hand, as laws over the list of the function's parameters. It says nothing of any one crate.
---     Leaves ρ v       what a function owes at its return, at the machine value v: the tokens, the result, and its clauses. It IS the `post` of its contract, by computation
---     Enters ρ vss     what a function has at its entry, at the machine values vss: its contract's `pre`
+--     Leaves ρ v, Enters ρ vss     what a function owes at its return, at the machine value v, and what it has at its entry, at the machine values vss: the `post` and the `pre` of its contract, by computation. LeavesBy T, EntersBy T: beside the tokens T
 --     Quiet ps         nothing is said at exit of what is passed by value: `tt` shows it
---     leaves           what a walk holds at its return, and its clauses, give `Leaves`
+--     leaves           what a walk holds at its return, and its clauses, give `Leaves`.        ends     the same as a rule: the locals are freed too
 --     Facing ss X      X of what is passed, under each parameter and what is known of it at entry
---     closes           a walk from what it holds at entry to `Leaves` is a proof of the contract
+--     Takes ls ps      the locals after the result are of the parameters' types: a `refl` for each plain value shows it
+--     WalkFor, WalkIn  a walk: from `Begun`, where the locals are there and the arguments are stored, through the function's body to `Leaves`
+--     walks, walks-under, proves, proves-by      a walk is a proof of the contract: of the MIR; of the MIR, under what else is known (a cycle of calls); of the function's own entry; the same from other tokens than one for each reference (`halves`: a lifetime that two references have)
+--     env-of, Stands   where a walk stands at a loop's head, a join or a cut.        say      a fact is put there.        span      positions in a row
 -- Assumes `Given`.
 use mathlib.Core.Path.{_≡_, refl, sym, ap, subst}
 use Prim.Native.Nat.{ℕ, zero, suc}
