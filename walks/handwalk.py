@@ -254,50 +254,11 @@ class Param:
     isref = property(lambda s: s.kind != 'val')
     Dnow = property(lambda s: s.ty.D if s.kind in ('val', 'ref') else 'List ' + P(s.ty.D))
     Has = property(lambda s: {'ref': 'HasRef', 'mut': 'HasMut', 'shr': 'HasShr'}[s.kind])
-    Kept = property(lambda s: {'ref': 'KeptRef', 'mut': 'KeptMut', 'shr': 'KeptShr'}[s.kind])
 
     def has(s, at, now):
         return '‵ (%s %s %s %s)' % (s.Has, s.ty.row, P(at), P(now))
 
-    def mval(s, at, d):
-        return s.ty.val(d) if s.kind == 'val' else ('ptrVal ' if s.kind == 'ref' else 'fatVal ') + P(at)
-
-    def arg(s, at, d):
-        return d if s.kind == 'val' else 'ref %s %s' % (P(at), P(d))
-
-    def stay(s):
-        if s.kind == 'val':
-            return 'stay-none (λ _. %s) yes' % s.ty.row
-        n = {'ref': 'stay-ref', 'mut': 'stay-slice', 'shr': 'stay-none-slice'}[s.kind]
-        return '%s (%d ∷ []) tt (plain (λ _. %s))%s' % (n, s.life, s.ty.row, ' yes' if s.kind == 'shr' else '')
-
-    def go(s, n):
-        if s.kind == 'val':
-            return 'goes-none 𝓤 H A W %d (λ _. %s) yes (λ κs x f. refl)' % (n, s.ty.row)
-        if s.kind == 'shr':
-            return 'goes-none-slice 𝓤 H A W %d (%d ∷ []) tt (plain (λ _. %s)) yes' % (n, s.life, s.ty.row)
-        return '%s 𝓤 H A W %d %d tt (plain (λ _. %s))' % ({'ref': 'goes-ref', 'mut': 'goes-slice'}[s.kind], n, s.life, s.ty.row)
-    # the parameter's type, at a lifetime
-
-    def rowT(s, kap):
-        if s.kind == 'val':
-            return s.ty.row
-        return '%s (named %d) %s %s' % ({'ref': 'MutRef', 'mut': 'MutSlice', 'shr': 'ShrSlice'}[s.kind], s.life, P(kap), s.ty.row)
-
-    # the slice at a lifetime of its own or at its owner's
-
-    def at_life(s, v):
-        return "(λ (κ′ : Lft). ‵ (ShrSlice erased κ′ %s .own (ref %s %s) (fatVal %s ∷ [])))" % (s.ty.row, s.at, P(v), s.at)
-
     same = property(lambda s: ('same-' + dash(s.name), '%s .κ ≡ %s .κ' % (s.at, s.owner.at)))
-
-    def spell(s):
-        return s.ty.vals if s.kind == 'val' else 'ptr-vals' if s.kind == 'ref' else 'slice-vals'
-
-    def tell(s, kap):
-        if s.kind == 'val':
-            return s.ty.tells
-        return '%s (named %d) %s %s' % ({'ref': 'mut-tells', 'mut': 'mut-slice-tells', 'shr': 'shr-slice-tells'}[s.kind], s.life, P(kap), s.ty.row)
 
 class Fn:
     pass
@@ -498,14 +459,6 @@ class Crate:
                 o.append('use %s.declared.%s.the-variants as %s-V' % (sp, n, n))
         return o
 
-    def binders(s, f, facts=True):
-        o = []
-        for p in f.params:
-            if p.isref:
-                o.append('(%s : At) (%s : %s)' % (p.at, p.v, p.Dnow))
-            else:
-                o.append('(%s : %s)' % (p.v, p.Dnow))
-        return ' '.join(o)
     # ---- the rule of a call
 
     def call_files(s, names, uses):
@@ -574,16 +527,6 @@ def trim(us, body):
             o.append(l)
     return o
 
-def row_facts(sc, fs, name, label):
-    """facts in a row, made from their product `name`, as one entry"""
-    n = len(fs)
-    for i in reversed(range(n)):
-        sc.say('use0 W (raw (fact 𝓤 (%s))) (factI 𝓤 (%s) (emp 𝓤) %s) $' % (fs[i], fs[i], P(flat_at(name, i, n))))
-        if i < n - 1:
-            sc.say('join ! $')
-            sc.pop(1)
-        sc.push([label])
-
 def prune(t):
     """a file, with those of its imports that it names"""
     ls = t.split('\n')
@@ -598,35 +541,6 @@ def prune(t):
             o += trim([l], body)
     return '\n'.join(o)
 
-class Script:
-    """a proof script, with the labels of its context"""
-
-    def __init__(s, ctx):
-        s.ctx = list(ctx)
-        s.parts = []
-        s.close = 0
-
-    def say(s, t, close=0):
-        s.parts.append(t)
-        s.close += close
-
-    def pos(s, l):
-        return s.ctx.index(l)
-
-    def push(s, ls):
-        s.ctx = list(ls) + s.ctx
-
-    def pop(s, n):
-        s.ctx = s.ctx[n:]
-
-    def front(s, ls):
-        if s.ctx[:len(ls)] == list(ls):
-            return
-        s.say('move ! (%s) $' % L([str(s.pos(l)) for l in ls]))
-        s.ctx = list(ls) + [x for x in s.ctx if x not in ls]
-
-    def text(s, sep):
-        return sep.join(s.parts) + ')' * s.close
 # ------------------------------------------------------------------ the walk
 
 class V:
