@@ -1,16 +1,17 @@
--- The contract of `by_words::read_records`, for its own walk and for the walks that call it: what is passed, what is asked, and what is said of the result r and of the last values z. `known` shows that it is the contract.
-use Rattle.references.proofs.Call.{_≡_, _≤_, _*_, [], _∷_, length, URA, w64, SProp, Memory, Routine, Heap, Calls, Atoms, Fun, u64, Triple, tripleOf, Terms, val, mut, of-number, of-nothing, Knows, bound-at, rule-of}
+-- Written by proof_writer/write from proof_writer/descriptions/by_words.py, from the code and its contracts.
+-- The contract of `by_words::read_records`, for its own walk and for the walks that call it: its symbol and its result; what is passed; what is asked of that; what is said of it, of the result r and of the last values z. `known` shows that it is the contract.
+use Rattle.references.proofs.Call.{Terms, stated-as, val, mut, of-number, of-nothing, w64, u64, [], _∷_, Known, bound-at, rule-of, cited}
+use mathlib.Core.Path.{_≡_}
+use Prim.Native.Nat.{_*_, _≤_}
+use lib.ListN.{length}
 use Rattle.validate.proofs.OpenStart as OpenStart-T
 use Rattle.by_words.proofs.read_records as read-records-F
 
 abbrev pub terms : Terms
-terms = record {
-  name = read-records-F.Symbol.name;
-  sorts = mut u64 ∷ mut OpenStart-T.the-row ∷ val (of-number w64) ∷ [];
-  result = of-nothing;
-  requires = λ words₀ opens₀ n₀. ((2 * n₀ ≤ length words₀) × (n₀ ≤ length opens₀)) ∷ [];
-  ensures = λ words₀ opens₀ n₀ r z. (length (z .0) ≡ length words₀) ∷ [];
-}
+terms = stated-as read-records-F.Symbol.name of-nothing
+    (mut u64 ∷ mut OpenStart-T.the-row ∷ val (of-number w64) ∷ [])
+    (λ words₀ opens₀ n₀. ((2 * n₀ ≤ length words₀) × (n₀ ≤ length opens₀)) ∷ [])
+    (λ words₀ opens₀ n₀ r z. (length (z .0) ≡ length words₀) ∷ [])
 
-pub known : {M : Type 1} (𝓤 : URA M) (H : Heap 𝓤) (A : Atoms 𝓤) (at-mem : Memory → SProp 𝓤) (run : Routine → Fun 𝓤) (C : Calls 𝓤 H) → Triple 𝓤 (C read-records-F.Symbol.name) (tripleOf 𝓤 H A read-records-F.signature (read-records-F.spec 𝓤 H A at-mem run)) → Knows 𝓤 H A C terms
-known 𝓤 H A at-mem run C holds x cs = holds (bound-at (rule-of terms x .pars) cs)
+pub known : Known terms read-records-F.signature (λ M 𝓤 H A at-mem run. read-records-F.spec 𝓤 H A at-mem run)
+known M 𝓤 H 𝓜 𝓖 𝓡 γ r at met x cs = cited 𝓤 H _ 𝓜 𝓡 γ (terms .name) r at met (bound-at (rule-of terms x .pars) cs)

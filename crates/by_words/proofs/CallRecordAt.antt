@@ -1,16 +1,16 @@
--- The contract of `by_words::record_at`, for its own walk and for the walks that call it: what is passed, what is asked, and what is said of the result r and of the last values z. `known` shows that it is the contract.
-use Rattle.references.proofs.Call.{_≤_, _+_, _*_, [], _∷_, length, URA, w64, SProp, Memory, Routine, Heap, Calls, Atoms, Fun, u64, Triple, tripleOf, Terms, val, mut, of-number, of-struct, Knows, bound-at, rule-of}
+-- Written by proof_writer/write from proof_writer/descriptions/by_words.py, from the code and its contracts.
+-- The contract of `by_words::record_at`, for its own walk and for the walks that call it: its symbol and its result; what is passed; what is asked of that; what is said of it, of the result r and of the last values z. `known` shows that it is the contract.
+use Rattle.references.proofs.Call.{Terms, stated-as, val, mut, of-number, of-struct, w64, u64, [], _∷_, Known, bound-at, rule-of, cited}
+use Prim.Native.Nat.{_+_, _*_, _≤_}
+use lib.ListN.{length}
 use Rattle.validate.proofs.OpenStart as OpenStart-T
 use Rattle.by_words.proofs.record_at as record-at-F
 
 abbrev pub terms : Terms
-terms = record {
-  name = record-at-F.Symbol.name;
-  sorts = mut u64 ∷ val (of-number w64) ∷ [];
-  result = of-struct OpenStart-T.the-type OpenStart-T.Laws.the-laws OpenStart-T.Laws.the-plain;
-  requires = λ words₀ k₀. (2 * k₀ + 2 ≤ length words₀) ∷ [];
-  ensures = λ words₀ k₀ r z. [];
-}
+terms = stated-as record-at-F.Symbol.name (of-struct OpenStart-T.the-type OpenStart-T.Laws.the-laws OpenStart-T.Laws.the-plain)
+    (mut u64 ∷ val (of-number w64) ∷ [])
+    (λ words₀ k₀. (2 * k₀ + 2 ≤ length words₀) ∷ [])
+    (λ words₀ k₀ r z. [])
 
-pub known : {M : Type 1} (𝓤 : URA M) (H : Heap 𝓤) (A : Atoms 𝓤) (at-mem : Memory → SProp 𝓤) (run : Routine → Fun 𝓤) (C : Calls 𝓤 H) → Triple 𝓤 (C record-at-F.Symbol.name) (tripleOf 𝓤 H A record-at-F.signature (record-at-F.spec 𝓤 H A at-mem run)) → Knows 𝓤 H A C terms
-known 𝓤 H A at-mem run C holds x cs = holds (bound-at (rule-of terms x .pars) cs)
+pub known : Known terms record-at-F.signature (λ M 𝓤 H A at-mem run. record-at-F.spec 𝓤 H A at-mem run)
+known M 𝓤 H 𝓜 𝓖 𝓡 γ r at met x cs = cited 𝓤 H _ 𝓜 𝓡 γ (terms .name) r at met (bound-at (rule-of terms x .pars) cs)

@@ -1,5 +1,4 @@
 pub mod Numbers
-pub mod Literals
 pub mod CallRecords
 pub mod CallRecordAt
 pub mod CallPutRecord

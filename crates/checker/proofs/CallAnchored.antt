@@ -1,21 +1,21 @@
--- The contract of `checker::anchored`, for its own walk and for the walks that call it: what is passed, what is asked, and what is said of the result r and of the last values z. `known` shows that it is the contract.
-use Rattle.references.proofs.Call.{_≡_, _≤_, [], _∷_, URA, w64, SProp, Memory, Routine, Heap, Calls, Atoms, Fun, u8, Triple, tripleOf, Terms, val, shr, of-number, of-struct, Knows, bound-at, rule-of}
-use Rattle.attachment.proofs.Attached as Attached-T
+-- Written by proof_writer/write from proof_writer/descriptions/checker.py, from the code and its contracts.
+-- The contract of `checker::anchored`, for its own walk and for the walks that call it: its symbol and its result; what is passed; what is asked of that; what is said of it, of the result r and of the last values z. `known` shows that it is the contract.
+use Rattle.references.proofs.Call.{Terms, stated-as, val, shr, of-number, of-struct, w64, u8, [], _∷_, Known, bound-at, rule-of, cited}
+use mathlib.Core.Path.{_≡_}
+use Prim.Native.Nat.{_≤_}
 use Rattle.tape.specs.Nodes.{count as nodes}
 use Rattle.tape.specs.Forest.{forest, Nested, Accepted}
 use Rattle.attachment.specs.Attached.{startsOf}
 use Rattle.running.specs.Running.{anchorOf, startsFor}
 use Rattle.checker.specs.Walking.{Anchored}
+use Rattle.attachment.proofs.Attached as Attached-T
 use Rattle.checker.proofs.anchored as anchored-F
 
 abbrev pub terms : Terms
-terms = record {
-  name = anchored-F.Symbol.name;
-  sorts = shr u8 ∷ shr u8 ∷ val (of-number w64) ∷ val (of-number w64) ∷ val (of-number w64) ∷ val (of-number w64) ∷ [];
-  result = of-struct Attached-T.the-type Attached-T.Laws.the-laws Attached-T.Laws.the-plain;
-  requires = λ source₀ tape₀ depth₀ anchor₀ from₀ to₀. ((Accepted source₀ tape₀) × (Nested tape₀ depth₀ from₀ to₀) × (to₀ ≤ nodes tape₀) × (Anchored tape₀ depth₀ anchor₀ from₀)) ∷ [];
-  ensures = λ source₀ tape₀ depth₀ anchor₀ from₀ to₀ r z. (startsOf r ≡ startsFor (anchorOf source₀ tape₀ anchor₀ from₀) (forest source₀ tape₀ from₀ to₀)) ∷ [];
-}
+terms = stated-as anchored-F.Symbol.name (of-struct Attached-T.the-type Attached-T.Laws.the-laws Attached-T.Laws.the-plain)
+    (shr u8 ∷ shr u8 ∷ val (of-number w64) ∷ val (of-number w64) ∷ val (of-number w64) ∷ val (of-number w64) ∷ [])
+    (λ source₀ tape₀ depth₀ anchor₀ from₀ to₀. ((Accepted source₀ tape₀) × (Nested tape₀ depth₀ from₀ to₀) × (to₀ ≤ nodes tape₀) × (Anchored tape₀ depth₀ anchor₀ from₀)) ∷ [])
+    (λ source₀ tape₀ depth₀ anchor₀ from₀ to₀ r z. (startsOf r ≡ startsFor (anchorOf source₀ tape₀ anchor₀ from₀) (forest source₀ tape₀ from₀ to₀)) ∷ [])
 
-pub known : {M : Type 1} (𝓤 : URA M) (H : Heap 𝓤) (A : Atoms 𝓤) (at-mem : Memory → SProp 𝓤) (run : Routine → Fun 𝓤) (C : Calls 𝓤 H) → Triple 𝓤 (C anchored-F.Symbol.name) (tripleOf 𝓤 H A anchored-F.signature (anchored-F.spec 𝓤 H A at-mem run)) → Knows 𝓤 H A C terms
-known 𝓤 H A at-mem run C holds x cs = holds (bound-at (rule-of terms x .pars) cs)
+pub known : Known terms anchored-F.signature (λ M 𝓤 H A at-mem run. anchored-F.spec 𝓤 H A at-mem run)
+known M 𝓤 H 𝓜 𝓖 𝓡 γ r at met x cs = cited 𝓤 H _ 𝓜 𝓡 γ (terms .name) r at met (bound-at (rule-of terms x .pars) cs)

@@ -1,20 +1,19 @@
--- The contract of `running::inside`, for its own walk and for the walks that call it: what is passed, what is asked, and what is said of the result r and of the last values z. `known` shows that it is the contract.
-use Rattle.references.proofs.Call.{_≡_, [], _∷_, URA, SProp, Memory, Routine, Heap, Calls, Atoms, Fun, Triple, tripleOf, Terms, val, of-struct, Knows, bound-at, rule-of}
+-- Written by proof_writer/write from proof_writer/descriptions/checker.py, from the code and its contracts.
+-- The contract of `running::inside`, for its own walk and for the walks that call it: its symbol and its result; what is passed; what is asked of that; what is said of it, of the result r and of the last values z. `known` shows that it is the contract.
+use Rattle.references.proofs.Call.{Terms, stated-as, val, of-struct, [], _∷_, Known, bound-at, rule-of, cited}
+use mathlib.Core.Path.{_≡_}
+use Rattle.table.specs.Entries.{entryOfInfo}
+use Rattle.running.specs.Running.{aroundOf}
+use Rattle.validate.specs.Walk as Walk
 use Rattle.running.proofs.Around as Around-T
 use Rattle.table.proofs.MarkerInfo as MarkerInfo-T
-use Rattle.table.specs.Entries.{entryOfInfo}
-use Rattle.validate.specs.Walk as Walk
-use Rattle.running.specs.Running.{aroundOf}
 use Rattle.running.proofs.inside as inside-F
 
 abbrev pub terms : Terms
-terms = record {
-  name = inside-F.Symbol.name;
-  sorts = val (of-struct Around-T.the-type Around-T.Laws.the-laws Around-T.Laws.the-plain) ∷ val (of-struct MarkerInfo-T.the-type MarkerInfo-T.Laws.the-laws MarkerInfo-T.Laws.the-plain) ∷ [];
-  result = of-struct Around-T.the-type Around-T.Laws.the-laws Around-T.Laws.the-plain;
-  requires = λ o₀ m₀. [];
-  ensures = λ o₀ m₀ r z. (aroundOf r ≡ Walk.inside (aroundOf o₀) (entryOfInfo m₀)) ∷ [];
-}
+terms = stated-as inside-F.Symbol.name (of-struct Around-T.the-type Around-T.Laws.the-laws Around-T.Laws.the-plain)
+    (val (of-struct Around-T.the-type Around-T.Laws.the-laws Around-T.Laws.the-plain) ∷ val (of-struct MarkerInfo-T.the-type MarkerInfo-T.Laws.the-laws MarkerInfo-T.Laws.the-plain) ∷ [])
+    (λ o₀ m₀. [])
+    (λ o₀ m₀ r z. (aroundOf r ≡ Walk.inside (aroundOf o₀) (entryOfInfo m₀)) ∷ [])
 
-pub known : {M : Type 1} (𝓤 : URA M) (H : Heap 𝓤) (A : Atoms 𝓤) (at-mem : Memory → SProp 𝓤) (run : Routine → Fun 𝓤) (C : Calls 𝓤 H) → Triple 𝓤 (C inside-F.Symbol.name) (tripleOf 𝓤 H A inside-F.signature (inside-F.spec 𝓤 H A at-mem run)) → Knows 𝓤 H A C terms
-known 𝓤 H A at-mem run C holds x cs = holds (bound-at (rule-of terms x .pars) cs)
+pub known : Known terms inside-F.signature (λ M 𝓤 H A at-mem run. inside-F.spec 𝓤 H A at-mem run)
+known M 𝓤 H 𝓜 𝓖 𝓡 γ r at met x cs = cited 𝓤 H _ 𝓜 𝓡 γ (terms .name) r at met (bound-at (rule-of terms x .pars) cs)

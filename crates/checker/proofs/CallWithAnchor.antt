@@ -1,17 +1,16 @@
--- The contract of `running::with_anchor`, for its own walk and for the walks that call it: what is passed, what is asked, and what is said of the result r and of the last values z. `known` shows that it is the contract.
-use Rattle.references.proofs.Call.{_≡_, [], _∷_, URA, w64, SProp, Memory, Routine, Heap, Calls, Atoms, Fun, Triple, tripleOf, Terms, val, of-number, of-struct, Knows, bound-at, rule-of}
-use Rattle.running.proofs.Record as Record-T
+-- Written by proof_writer/write from proof_writer/descriptions/checker.py, from the code and its contracts.
+-- The contract of `running::with_anchor`, for its own walk and for the walks that call it: its symbol and its result; what is passed; what is asked of that; what is said of it, of the result r and of the last values z. `known` shows that it is the contract.
+use Rattle.references.proofs.Call.{Terms, stated-as, val, of-number, of-struct, w64, [], _∷_, Known, bound-at, rule-of, cited}
+use mathlib.Core.Path.{_≡_}
 use Rattle.running.specs.Running.{withAnchor}
+use Rattle.running.proofs.Record as Record-T
 use Rattle.running.proofs.with_anchor as with-anchor-F
 
 abbrev pub terms : Terms
-terms = record {
-  name = with-anchor-F.Symbol.name;
-  sorts = val (of-struct Record-T.the-type Record-T.Laws.the-laws Record-T.Laws.the-plain) ∷ val (of-number w64) ∷ [];
-  result = of-struct Record-T.the-type Record-T.Laws.the-laws Record-T.Laws.the-plain;
-  requires = λ r₀ n₀. [];
-  ensures = λ r₀ n₀ r z. (r ≡ withAnchor r₀ n₀) ∷ [];
-}
+terms = stated-as with-anchor-F.Symbol.name (of-struct Record-T.the-type Record-T.Laws.the-laws Record-T.Laws.the-plain)
+    (val (of-struct Record-T.the-type Record-T.Laws.the-laws Record-T.Laws.the-plain) ∷ val (of-number w64) ∷ [])
+    (λ r₀ n₀. [])
+    (λ r₀ n₀ r z. (r ≡ withAnchor r₀ n₀) ∷ [])
 
-pub known : {M : Type 1} (𝓤 : URA M) (H : Heap 𝓤) (A : Atoms 𝓤) (at-mem : Memory → SProp 𝓤) (run : Routine → Fun 𝓤) (C : Calls 𝓤 H) → Triple 𝓤 (C with-anchor-F.Symbol.name) (tripleOf 𝓤 H A with-anchor-F.signature (with-anchor-F.spec 𝓤 H A at-mem run)) → Knows 𝓤 H A C terms
-known 𝓤 H A at-mem run C holds x cs = holds (bound-at (rule-of terms x .pars) cs)
+pub known : Known terms with-anchor-F.signature (λ M 𝓤 H A at-mem run. with-anchor-F.spec 𝓤 H A at-mem run)
+known M 𝓤 H 𝓜 𝓖 𝓡 γ r at met x cs = cited 𝓤 H _ 𝓜 𝓡 γ (terms .name) r at met (bound-at (rule-of terms x .pars) cs)

@@ -224,6 +224,8 @@ fn visit(
         return;
     }
     *rec = running::with_anchor(paired, 0);
+    let deeper = depth - 1;
+    let inner = running::inside(around, m);
     walk(
         table,
         words,
@@ -232,8 +234,8 @@ fn visit(
         tape,
         from,
         link,
-        depth - 1,
-        running::inside(around, m),
+        deeper,
+        inner,
         rec,
         seen,
         opens,

@@ -1,18 +1,17 @@
--- The contract of `running::counts`, for its own walk and for the walks that call it: what is passed, what is asked, and what is said of the result r and of the last values z. `known` shows that it is the contract.
-use Rattle.references.proofs.Call.{_≡_, [], _∷_, URA, SProp, Memory, Routine, Heap, Calls, Atoms, Fun, Triple, tripleOf, Terms, val, of-struct, Knows, bound-at, rule-of}
+-- Written by proof_writer/write from proof_writer/descriptions/closing.py, from the code and its contracts.
+-- The contract of `running::counts`, for its own walk and for the walks that call it: its symbol and its result; what is passed; what is asked of that; what is said of it, of the result r and of the last values z. `known` shows that it is the contract.
+use Rattle.references.proofs.Call.{Terms, stated-as, val, of-struct, [], _∷_, Known, bound-at, rule-of, cited}
+use mathlib.Core.Path.{_≡_}
+use Rattle.running.specs.Running.{countsOf}
 use Rattle.findings.proofs.Counts as Counts-T
 use Rattle.running.proofs.Record as Record-T
-use Rattle.running.specs.Running.{countsOf}
 use Rattle.running.proofs.counts as counts-F
 
 abbrev pub terms : Terms
-terms = record {
-  name = counts-F.Symbol.name;
-  sorts = val (of-struct Record-T.the-type Record-T.Laws.the-laws Record-T.Laws.the-plain) ∷ [];
-  result = of-struct Counts-T.the-type Counts-T.Laws.the-laws Counts-T.Laws.the-plain;
-  requires = λ r₀. [];
-  ensures = λ r₀ r z. (r ≡ countsOf r₀) ∷ [];
-}
+terms = stated-as counts-F.Symbol.name (of-struct Counts-T.the-type Counts-T.Laws.the-laws Counts-T.Laws.the-plain)
+    (val (of-struct Record-T.the-type Record-T.Laws.the-laws Record-T.Laws.the-plain) ∷ [])
+    (λ r₀. [])
+    (λ r₀ r z. (r ≡ countsOf r₀) ∷ [])
 
-pub known : {M : Type 1} (𝓤 : URA M) (H : Heap 𝓤) (A : Atoms 𝓤) (at-mem : Memory → SProp 𝓤) (run : Routine → Fun 𝓤) (C : Calls 𝓤 H) → Triple 𝓤 (C counts-F.Symbol.name) (tripleOf 𝓤 H A counts-F.signature (counts-F.spec 𝓤 H A at-mem run)) → Knows 𝓤 H A C terms
-known 𝓤 H A at-mem run C holds x cs = holds (bound-at (rule-of terms x .pars) cs)
+pub known : Known terms counts-F.signature (λ M 𝓤 H A at-mem run. counts-F.spec 𝓤 H A at-mem run)
+known M 𝓤 H 𝓜 𝓖 𝓡 γ r at met x cs = cited 𝓤 H _ 𝓜 𝓡 γ (terms .name) r at met (bound-at (rule-of terms x .pars) cs)

@@ -1,19 +1,18 @@
--- The contract of `marking::begun`, for its own walk and for the walks that call it: what is passed, what is asked, and what is said of the result r and of the last values z. `known` shows that it is the contract.
-use Rattle.references.proofs.Call.{_≡_, [], _∷_, URA, w64, SProp, Memory, Routine, Heap, Calls, Atoms, Fun, u8, u64, Triple, tripleOf, Terms, val, shr, mut, of-number, of-struct, Knows, bound-at, rule-of}
-use Rattle.running.proofs.Record as Record-T
+-- Written by proof_writer/write from proof_writer/descriptions/marking.py, from the code and its contracts.
+-- The contract of `marking::begun`, for its own walk and for the walks that call it: its symbol and its result; what is passed; what is asked of that; what is said of it, of the result r and of the last values z. `known` shows that it is the contract.
+use Rattle.references.proofs.Call.{Terms, stated-as, val, shr, mut, of-number, of-struct, w64, u8, u64, [], _∷_, Known, bound-at, rule-of, cited}
+use mathlib.Core.Path.{_≡_}
 use Rattle.tape.specs.Nodes.{linkAt}
 use Rattle.cursor.specs.Inner.{Run}
 use Rattle.marking.specs.Entry.{Begun}
+use Rattle.running.proofs.Record as Record-T
 use Rattle.marking.proofs.begun as begun-F
 
 abbrev pub terms : Terms
-terms = record {
-  name = begun-F.Symbol.name;
-  sorts = shr u8 ∷ shr u8 ∷ val (of-number w64) ∷ mut u64 ∷ [];
-  result = of-struct Record-T.the-type Record-T.Laws.the-laws Record-T.Laws.the-plain;
-  requires = λ source₀ tape₀ to₀ list₀. ((Run source₀ tape₀ 1 to₀) × (to₀ ≡ linkAt tape₀ 0)) ∷ [];
-  ensures = λ source₀ tape₀ to₀ list₀ r z. (Begun source₀ tape₀ list₀ (z .0) r) ∷ [];
-}
+terms = stated-as begun-F.Symbol.name (of-struct Record-T.the-type Record-T.Laws.the-laws Record-T.Laws.the-plain)
+    (shr u8 ∷ shr u8 ∷ val (of-number w64) ∷ mut u64 ∷ [])
+    (λ source₀ tape₀ to₀ list₀. ((Run source₀ tape₀ 1 to₀) × (to₀ ≡ linkAt tape₀ 0)) ∷ [])
+    (λ source₀ tape₀ to₀ list₀ r z. (Begun source₀ tape₀ list₀ (z .0) r) ∷ [])
 
-pub known : {M : Type 1} (𝓤 : URA M) (H : Heap 𝓤) (A : Atoms 𝓤) (at-mem : Memory → SProp 𝓤) (run : Routine → Fun 𝓤) (C : Calls 𝓤 H) → Triple 𝓤 (C begun-F.Symbol.name) (tripleOf 𝓤 H A begun-F.signature (begun-F.spec 𝓤 H A at-mem run)) → Knows 𝓤 H A C terms
-known 𝓤 H A at-mem run C holds x cs = holds (bound-at (rule-of terms x .pars) cs)
+pub known : Known terms begun-F.signature (λ M 𝓤 H A at-mem run. begun-F.spec 𝓤 H A at-mem run)
+known M 𝓤 H 𝓜 𝓖 𝓡 γ r at met x cs = cited 𝓤 H _ 𝓜 𝓡 γ (terms .name) r at met (bound-at (rule-of terms x .pars) cs)

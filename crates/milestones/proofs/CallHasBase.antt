@@ -1,20 +1,21 @@
--- The contract of `milestones::has_base`, for its own walk and for the walks that call it: what is passed, what is asked, and what is said of the result r and of the last values z. `known` shows that it is the contract.
-use Rattle.references.proofs.Call.{_≡_, _≤_, _+_, [], _∷_, length, URA, w64, SProp, Memory, Routine, Heap, Calls, Atoms, Fun, u8, Triple, tripleOf, Terms, val, shr, of-number, of-truth, of-struct, Knows, bound-at, rule-of}
-use Rattle.validate.proofs.OpenStart as OpenStart-T
+-- Written by proof_writer/write from proof_writer/descriptions/milestones.py, from the code and its contracts.
+-- The contract of `milestones::has_base`, for its own walk and for the walks that call it: its symbol and its result; what is passed; what is asked of that; what is said of it, of the result r and of the last values z. `known` shows that it is the contract.
+use Rattle.references.proofs.Call.{Terms, stated-as, val, shr, of-number, of-truth, of-struct, w64, u8, [], _∷_, Known, bound-at, rule-of, cited}
+use mathlib.Core.Path.{_≡_}
+use Prim.Native.Nat.{_+_, _≤_}
+use lib.ListN.{length}
 use Rattle.tape.specs.Nodes.{nodeAt}
 use Rattle.table.specs.Bytes.{equal}
 use Rattle.validate.specs.Milestones.{baseOf}
 use Rattle.milestones.specs.Inner.{Measured, baseAt}
+use Rattle.validate.proofs.OpenStart as OpenStart-T
 use Rattle.milestones.proofs.has_base as has-base-F
 
 abbrev pub terms : Terms
-terms = record {
-  name = has-base-F.Symbol.name;
-  sorts = shr u8 ∷ shr u8 ∷ val (of-struct OpenStart-T.the-type OpenStart-T.Laws.the-laws OpenStart-T.Laws.the-plain) ∷ val (of-number w64) ∷ val (of-number w64) ∷ [];
-  result = of-truth;
-  requires = λ source₀ tape₀ o₀ at₀ len₀. ((Measured source₀ tape₀ (o₀ .node) (o₀ .«base_len»)) × (at₀ + len₀ ≤ length source₀)) ∷ [];
-  ensures = λ source₀ tape₀ o₀ at₀ len₀ r z. (r ≡ equal (baseOf (nodeAt source₀ tape₀ (o₀ .node))) (baseAt source₀ at₀ len₀)) ∷ [];
-}
+terms = stated-as has-base-F.Symbol.name of-truth
+    (shr u8 ∷ shr u8 ∷ val (of-struct OpenStart-T.the-type OpenStart-T.Laws.the-laws OpenStart-T.Laws.the-plain) ∷ val (of-number w64) ∷ val (of-number w64) ∷ [])
+    (λ source₀ tape₀ o₀ at₀ len₀. ((Measured source₀ tape₀ (o₀ .node) (o₀ .«base_len»)) × (at₀ + len₀ ≤ length source₀)) ∷ [])
+    (λ source₀ tape₀ o₀ at₀ len₀ r z. (r ≡ equal (baseOf (nodeAt source₀ tape₀ (o₀ .node))) (baseAt source₀ at₀ len₀)) ∷ [])
 
-pub known : {M : Type 1} (𝓤 : URA M) (H : Heap 𝓤) (A : Atoms 𝓤) (at-mem : Memory → SProp 𝓤) (run : Routine → Fun 𝓤) (C : Calls 𝓤 H) → Triple 𝓤 (C has-base-F.Symbol.name) (tripleOf 𝓤 H A has-base-F.signature (has-base-F.spec 𝓤 H A at-mem run)) → Knows 𝓤 H A C terms
-known 𝓤 H A at-mem run C holds x cs = holds (bound-at (rule-of terms x .pars) cs)
+pub known : Known terms has-base-F.signature (λ M 𝓤 H A at-mem run. has-base-F.spec 𝓤 H A at-mem run)
+known M 𝓤 H 𝓜 𝓖 𝓡 γ r at met x cs = cited 𝓤 H _ 𝓜 𝓡 γ (terms .name) r at met (bound-at (rule-of terms x .pars) cs)

@@ -2,8 +2,8 @@
 --     if-then          a branch and what follows it: each arm goes on with what follows.        switch-then    the same of a `switch` on a number that is written out
 --     skip-then, exit-then     an arm that has ended
 --     assoc-then       the statements of an arm, one by one
+--     onto b rest      the statements of b, and then the rest, one after another.        onto-then    they run as b and then the rest do
 --     loop-then        a loop, and what follows it: the turn is handed `leave`, the step from where the loop is left (`exit 1`) to what follows
---     meets-at         arms that meet again: what follows is walked once, from a context J x that each arm reaches
 --     Rooms, Dies, frees-any       a function's locals in one go at its return, each cell full (true) or empty (false)
 -- Assumes `Given`, and a `Tables` where it says so.
 use mathlib.Core.Bool.{Bool, true, false, not}
@@ -22,6 +22,7 @@ use base.Fml.{froom, fdies, fat}
 use prog.Wp.{Heap, Env, Calls, Loops, Tables, Out, next, exits, returns as returnsᴼ, afterSeq, afterBlock, afterTurn, branch, Wp, WpArms}
 use ghost.Atoms.{Atoms}
 use sound.WpLaws.{Wp-mono}
+use sound.Laws.{Laws}
 use types.Kit.{Given, Item, ‵, _⊛_, Goal, Post, post, anyQ, runs, prop, frees, Seq, Step, step, move, split, use1, drop, _$_, mean}
 use types.Run.{Opd, first, branches, skips, jumps, blocks, loops, exec, switches-on, Below, free1, free0}
 
@@ -61,15 +62,49 @@ module _ {M : Type 1} (𝓤 : URA M) (H : Heap 𝓤) where
     to-arm (default b) x Q h = id⊢ 𝓤 (Wp 𝓤 H C Λ E b Q)
     to-arm noDefault x Q h = absurd h
 
+-- the statements of an arm and of what follows it, one after another
+abbrev pub onto : Body → Body → Body
+onto skip rest = seq skip rest
+onto (seq a b) rest = onto a (onto b rest)
+onto (assign p rv) rest = seq (assign p rv) rest
+onto (block b) rest = seq (block b) rest
+onto (loop b) rest = seq (loop b) rest
+onto (cond c a b) rest = seq (cond c a b) rest
+onto (switch c arms) rest = seq (switch c arms) rest
+onto (exit k) rest = seq (exit k) rest
+onto return rest = seq return rest
+onto (call f xs d) rest = seq (call f xs d) rest
+
+module _ {M : Type 1} (𝓤 : URA M) (H : Heap 𝓤) (L : Laws 𝓤 H) (𝓣 : Tables 𝓤 H) (E : Env 𝓤 H) where
+  abbrev ⟦_⟧ : Body → (Out → SProp 𝓤) → SProp 𝓤
+  ⟦ b ⟧ Q = Wp 𝓤 H (𝓣 .C) (𝓣 .Λ) E b Q
+
+  after-mono : (X Y : SProp 𝓤) (Q : Out → SProp 𝓤) → ent 𝓤 X Y → (o : Out) → ent 𝓤 (afterSeq 𝓤 H X Q o) (afterSeq 𝓤 H Y Q o)
+  after-mono X Y Q h next = h
+  after-mono X Y Q h (exits n) = id⊢ 𝓤 (Q (exits n))
+  after-mono X Y Q h returnsᴼ = id⊢ 𝓤 (Q returnsᴼ)
+
+  pub onto-runs : (b rest : Body) (Q : Out → SProp 𝓤) → ent 𝓤 (⟦ onto b rest ⟧ Q) (⟦ seq b rest ⟧ Q)
+  onto-runs skip rest Q = id⊢ 𝓤 _
+  onto-runs (seq a b) rest Q =
+      via 𝓤 (⟦ seq a (onto b rest) ⟧ Q) (onto-runs a (onto b rest) Q) (
+      via 𝓤 (⟦ seq a (seq b rest) ⟧ Q) (Wp-mono 𝓤 H L 𝓣 E a _ _ (after-mono (⟦ onto b rest ⟧ Q) (⟦ seq b rest ⟧ Q) Q (onto-runs b rest Q)))
+      (Wp-mono 𝓤 H L 𝓣 E a _ _ (same-after 𝓤 H (⟦ b ⟧ (afterSeq 𝓤 H (⟦ rest ⟧ Q) Q)) (⟦ rest ⟧ Q) Q)))
+  onto-runs (assign p rv) rest Q = id⊢ 𝓤 _
+  onto-runs (block b) rest Q = id⊢ 𝓤 _
+  onto-runs (loop b) rest Q = id⊢ 𝓤 _
+  onto-runs (cond c a b) rest Q = id⊢ 𝓤 _
+  onto-runs (switch c arms) rest Q = id⊢ 𝓤 _
+  onto-runs (exit k) rest Q = id⊢ 𝓤 _
+  onto-runs return rest Q = id⊢ 𝓤 _
+  onto-runs (call f xs d) rest Q = id⊢ 𝓤 _
+
 -- what a loop's turn is handed: where the loop is left, what follows it runs
 abbrev pub Leaves : {M : Type 1} (𝓤 : URA M) (H : Heap 𝓤) (A : Atoms 𝓤) (K : Type 0) (W : Given 𝓤 H A) (𝓣 : Tables 𝓤 H) (E : Env 𝓤 H) → Body → Post 𝓤 H → Type 2
 Leaves 𝓤 H A K W 𝓣 E rest q = (Γ : List (Item 𝓤)) → Step K W Γ (runs (𝓣 .C) (𝓣 .Λ) E rest q) Γ (prop (Wp 𝓤 H (𝓣 .C) (𝓣 .Λ) E rest (post 𝓤 H q)))
 
 module _ {M : Type 1} {𝓤 : URA M} {H : Heap 𝓤} {A : Atoms 𝓤} {K : Type 0} {W : Given 𝓤 H A} {Γ : List (Item 𝓤)} {E : Env 𝓤 H} where
   module _ {C : Calls 𝓤 H} {Λ : Loops 𝓤 H} {q : Post 𝓤 H} where
-    pub if-then : K → {c : Operand} {a b rest : Body} {y : Bool} → Opd K W Γ E c (vbool y) → (T y → Seq K W Γ (runs C Λ E (seq a rest) q)) → (T (not y) → Seq K W Γ (runs C Λ E (seq b rest) q)) → Seq K W Γ (runs C Λ E (seq (cond c a b) rest) q)
-    if-then t o held failed = first t $ branches t o (λ h. record { prf = held h .prf }) (λ h. record { prf = failed h .prf })
-
     pub skip-then : K → {rest : Body} → Step K W Γ (runs C Λ E rest q) Γ (runs C Λ E (seq skip rest) q)
     skip-then t = step (λ s. first t $ skips t $ record { prf = s .prf })
 
@@ -79,15 +114,18 @@ module _ {M : Type 1} {𝓤 : URA M} {H : Heap 𝓤} {A : Atoms 𝓤} {K : Type 
     pub switch-then : K → {c : Operand} {arms : Arms} {rest : Body} {w : Width} {x : ℕ} → Opd K W Γ E c (vint w x) → has-arm arms x → Step K W Γ (runs C Λ E (seq (arm-at arms x) rest) q) Γ (runs C Λ E (seq (switch c arms) rest) q)
     switch-then t {c} {arms} {rest} {w} {x} o h = step (λ s. first t $ switches-on t o $ record { prf = via 𝓤 (Wp 𝓤 H C Λ E (seq (arm-at arms x) rest) (post 𝓤 H q)) (s .prf) (to-arm 𝓤 H C Λ E arms x (afterSeq 𝓤 H (Wp 𝓤 H C Λ E rest (post 𝓤 H q)) (post 𝓤 H q)) h) })
 
-    pub meets-at : K → {s rest : Body} {X : Type 0} (J : X → List (Item 𝓤)) → ((x : X) → Seq K W (J x) (runs C Λ E rest q)) → (((x : X) → Seq K W (J x) (runs C Λ E rest q)) → Seq K W Γ (runs C Λ E (seq s rest) q)) → Seq K W Γ (runs C Λ E (seq s rest) q)
-    meets-at t J after k = k after
-
   module _ (𝓣 : Tables 𝓤 H) {q : Post 𝓤 H} where
     pub assoc-then : K → {a b rest : Body} → Step K W Γ (runs (𝓣 .C) (𝓣 .Λ) E (seq a (seq b rest)) q) Γ (runs (𝓣 .C) (𝓣 .Λ) E (seq (seq a b) rest) q)
     assoc-then t {a} {b} {rest} = step (λ s. record {
       prf = via 𝓤 (Wp 𝓤 H (𝓣 .C) (𝓣 .Λ) E (seq a (seq b rest)) (post 𝓤 H q)) (s .prf)
           (Wp-mono 𝓤 H (W .laws) 𝓣 E a _ _ (same-after 𝓤 H (Wp 𝓤 H (𝓣 .C) (𝓣 .Λ) E b (afterSeq 𝓤 H (Wp 𝓤 H (𝓣 .C) (𝓣 .Λ) E rest (post 𝓤 H q)) (post 𝓤 H q))) (Wp 𝓤 H (𝓣 .C) (𝓣 .Λ) E rest (post 𝓤 H q)) (post 𝓤 H q)));
     })
+
+    pub onto-then : K → {b rest : Body} → Step K W Γ (runs (𝓣 .C) (𝓣 .Λ) E (onto b rest) q) Γ (runs (𝓣 .C) (𝓣 .Λ) E (seq b rest) q)
+    onto-then t {b} {rest} = step (λ s. record { prf = via 𝓤 (Wp 𝓤 H (𝓣 .C) (𝓣 .Λ) E (onto b rest) (post 𝓤 H q)) (s .prf) (onto-runs 𝓤 H (W .laws) 𝓣 E b rest (post 𝓤 H q)) })
+
+    pub if-then : K → {c : Operand} {a b rest : Body} {y : Bool} → Opd K W Γ E c (vbool y) → (T y → Seq K W Γ (runs (𝓣 .C) (𝓣 .Λ) E (onto a rest) q)) → (T (not y) → Seq K W Γ (runs (𝓣 .C) (𝓣 .Λ) E (onto b rest) q)) → Seq K W Γ (runs (𝓣 .C) (𝓣 .Λ) E (seq (cond c a b) rest) q)
+    if-then t {c} {a} {b} {rest} o held failed = first t $ branches t o (λ h. record { prf = via 𝓤 _ (held h .prf) (onto-runs 𝓤 H (W .laws) 𝓣 E a rest (post 𝓤 H q)) }) (λ h. record { prf = via 𝓤 _ (failed h .prf) (onto-runs 𝓤 H (W .laws) 𝓣 E b rest (post 𝓤 H q)) })
 
 module _ {M : Type 1} {𝓤 : URA M} {H : Heap 𝓤} {A : Atoms 𝓤} {K : Type 0} {W : Given 𝓤 H A} {X : Type 0} {E : Env 𝓤 H} {q : Post 𝓤 H} where
   pub loop-then : K → (𝓣 : Tables 𝓤 H) (≺ : X → X → Type 0) → WellFounded ≺ → (I : X → List (Item 𝓤)) {b rest : Body}
@@ -135,17 +173,3 @@ is-true false h = absurd h
 pub is-false : (y : Bool) → T (not y) → y ≡ false
 is-false true h = absurd h
 is-false false h = refl
-
--- the code from the n-th statement on, counted from 0
-abbrev pub tail-of : ℕ → Body → Body
-tail-of zero b = b
-tail-of (suc n) skip = skip
-tail-of (suc n) (seq a b) = tail-of n b
-tail-of (suc n) (assign p rv) = skip
-tail-of (suc n) (block b) = skip
-tail-of (suc n) (loop b) = skip
-tail-of (suc n) (cond c a b) = skip
-tail-of (suc n) (switch c arms) = skip
-tail-of (suc n) (exit k) = skip
-tail-of (suc n) return = skip
-tail-of (suc n) (call f xs d) = skip

@@ -1,5 +1,9 @@
--- The walk of `closing::clear_opens`, by hand.
-use Rattle.references.proofs.Walk.{_≡_, refl, sym, _∙_, full, empty, InvImage·wf, ℕ, _<_, _≤_, _^_, _+_, _-_, _*_, arith, [], _∷_, List, length, set, length-set, Nat·lt-wfRel, lit<, ltb→lt, nltb→le, URA, fullShare, w64, tyPtr, vint, vptr, fat, Heap, Env, Tables, Atoms, givenOf, tables, Given, Item, ‵, _$_, !, move, keep, rewrite, look, store, store-raw, forget, stop, hop, from, lit, unit-lit, of-opd, bin, and-then, no-more, assigns, assigns-last, again, agg, Is, place-is, heard, if-then, skip-then, exit-then, loop-then, fatVal, HasMut, Rule, rule-of, Facing, WalkFor, proves, ends, say, span, env-of, Stands, cell, cell-field, sets, opens-elem, shuts-elem, of-struct}
+-- Written by proof_writer/write from proof_writer/descriptions/closing.py, from the code and its contracts.
+-- The walk of `closing::clear_opens`.
+use Rattle.references.proofs.Walk.{_≡_, refl, sym, _∙_, full, empty, InvImage·wf, ℕ, _<_, _≤_, _^_, _+_, _-_, _*_, arith, [], _∷_, List, length, set, length-set, Nat·lt-wfRel, lit<, ltb→lt, nltb→le, URA, fullShare, w64, tyPtr, vint, vptr, fat, Heap, Env, Tables, Atoms, givenOf, tables, Given, Item, ‵, _$_, !, move, keep, rewrite, look, store, store-raw, forget, stop, hop, from, lit, unit-lit, of-opd, bin, and-then, no-more, assigns, assigns-last, again, agg, Is, place-is, heard, if-then, skip-then, exit-then, loop-then, fatVal, HasMut, of-struct, Rule, rule-of, Facing, WalkFor, proves, ends, say, span, env-of, Stands, cell, cell-field, sets, opens-elem, shuts-elem}
+use Rattle.validate.specs.Outcome.{noStart, cleared}
+use Rattle.closing.proofs.Zeroed.{cleared-none, cleared-more, cleared-all, here}
+use Rattle.references.proofs.Sizes.{scaled, more-fits, nearer}
 use prog.Wp.{afterTurn}
 use contract.Running.{tablesOf}
 use denote.Struct.Laws as LL
@@ -8,9 +12,6 @@ use Rattle.validate.proofs.OpenStart as OpenStart-T
 use Rattle.validate.proofs.OpenStart.Laws as OpenStart-L
 use Rattle.closing.proofs.CallClearOpens as clear-opens-C
 use Rattle.closing.proofs.clear_opens.Code as code
-use Rattle.validate.specs.Outcome.{noStart, cleared}
-use Rattle.references.proofs.Sizes.{scaled, more-fits, nearer}
-use Rattle.closing.proofs.Zeroed.{cleared-none, cleared-more, cleared-all, here}
 use Rattle.closing.proofs.clear_opens.Statement as stated
 use Rattle.closing.proofs.clear_opens.Key as key
 
@@ -19,39 +20,19 @@ module _ {M : Type 1} (𝓤 : URA M) (H : Heap 𝓤) (A : Atoms 𝓤) (W : Given
   unfolding afterTurn
   walk opens-at opens₀ opens-room opens-n n₀ n₀-is req l0 l1 l2 l3 l4 l5 l6 l7 =
       let ρ : Rule = rule-of clear-opens-C.terms ((opens-at, opens₀), (n₀, tt)) in
-      let E : Env 𝓤 H = env-of (code.function .locals) (l0 ∷ l1 ∷ l2 ∷ l3 ∷ l4 ∷ l5 ∷ l6 ∷ l7 ∷ []) in
-      let made-1 : OpenStart = record { node = 0; «base_len» = 0 } in
-      let made-1-is : Is OpenStart-T.the-row made-1 (LL.val OpenStart-T.the-type OpenStart-L.the-laws made-1 ∷ []) = LL.owes OpenStart-T.the-type OpenStart-L.the-laws made-1 ((refl, (lit< tt)), ((refl, (lit< tt)), tt)) in
-      sets ! (agg ! (and-then ! (lit ! tt) (and-then ! (lit ! tt) (no-more !)))) 4 refl (LL.lawful OpenStart-T.the-type OpenStart-L.the-laws 𝓤 H A W .typed made-1 _ made-1-is .0) $
+      let E : Env 𝓤 H = env-of (code.function .locals) (l0 ∷ l1 ∷ l2 ∷ l3 ∷ l4 ∷ l5 ∷ l6 ∷ l7 ∷ []) in let made-1 : OpenStart = record { node = 0; «base_len» = 0 } in let made-1-is : Is OpenStart-T.the-row made-1 (LL.val OpenStart-T.the-type OpenStart-L.the-laws made-1 ∷ []) = LL.owes OpenStart-T.the-type OpenStart-L.the-laws made-1 ((refl, (lit< tt)), ((refl, (lit< tt)), tt)) in sets ! (agg ! (and-then ! (lit ! tt) (and-then ! (lit ! tt) (no-more !)))) 4 refl (LL.lawful OpenStart-T.the-type OpenStart-L.the-laws 𝓤 H A W .typed made-1 _ made-1-is .0) $
       sets ! (of-opd ! (lit ! tt)) 5 refl (tt, record { fits = (lit< tt) }) $
-      let φ-100 : (ℕ × ((List OpenStart) × Unit {0})) → Type 0 = λ y100. ((y100 .0) < 2 ^ 64) × ((length (y100 .1 .0) ≡ length opens₀) × ((((y100 .0) ≤ n₀) × ((y100 .1 .0) ≡ cleared noStart (y100 .0) opens₀)))) in
-      let μ-0 : (ℕ × ((List OpenStart) × Unit {0})) → ℕ = λ y. n₀ - (y .0) in
-      let less-0 : (ℕ × ((List OpenStart) × Unit {0})) → (ℕ × ((List OpenStart) × Unit {0})) → Type 0 = λ a b. μ-0 a < μ-0 b in
-      let I-0 : (ℕ × ((List OpenStart) × Unit {0})) → List (Item 𝓤) = λ y100. Stands 𝓤 H (φ-100 y100) E (empty ∷ full (fatVal opens-at) ∷ full (vint w64 n₀) ∷ full (LL.val OpenStart-T.the-type OpenStart-L.the-laws made-1) ∷ full (vint w64 (y100 .0)) ∷ []) (‵ (HasMut OpenStart-T.the-row opens-at (y100 .1 .0)) ∷ []) in
-      say ! (φ-100 (0, (opens₀, tt))) ((lit< tt), (refl, (omega arith, cleared-none noStart opens₀))) $ keep ! (span 0 11 []) $
-      loop-then ! 𝓣 less-0 (InvImage·wf μ-0 (Nat·lt-wfRel .wf)) I-0 (λ y100 leave-0. heard ! (φ-100 y100) (λ j100.
-      let is-i-100 = j100 .0 in
-      let len-ys-100 = j100 .1 .0 in
-      let inv-100 = j100 .1 .1 in
-      sets ! (bin ! (cell ! 5 refl) (cell ! 3 refl) tt) 6 refl (tt, tt) $
-      if-then ! (cell ! 6 refl)
-      (λ h0. let test-0 : (y100 .0) < n₀ = ltb→lt (y100 .0) n₀ h0 in
-      skip-then ! $
-      let fits-1 : ((y100 .0) * 8) < 2 ^ 64 = scaled _ _ _ (here _ _ _ test-0 req) opens-n (opens-room .1) in
-      sets ! (bin ! (cell ! 5 refl) (lit ! tt) (record { fits = fits-1 })) 7 refl (tt, record { fits = fits-1 }) $
-      sets ! (bin ! (cell-field ! 2 0 refl refl refl) (cell ! 7 refl) tt) 8 refl (tt, tt) $
-      rewrite ! 8 (λ (x : ℕ). ‵ (fat fullShare tyPtr l7 0 (vptr (opens-at .b) x))) (sym (place-is 8 (opens-at .o) (y100 .0))) refl $
-      let in-1 : (y100 .0) < length (y100 .1 .0) = rw len-ys-100 (here _ _ _ test-0 req) in
-      move ! (9 ∷ []) $ opens-elem ! tt (of-struct OpenStart-T.the-type OpenStart-T.Laws.the-laws OpenStart-T.Laws.the-plain) opens-at (y100 .1 .0) (y100 .0) (noStart) in-1 (λ open-1.
-      assigns ! (of-opd ! (cell ! 6 refl)) (from ! (hop ! (look ! 10 refl) (stop !))) (store-raw ! 0 refl (LL.lawful OpenStart-T.the-type OpenStart-L.the-laws 𝓤 H A W .typed made-1 _ made-1-is .0)) $
-      shuts-elem ! tt (of-struct OpenStart-T.the-type OpenStart-T.Laws.the-laws OpenStart-T.Laws.the-plain) opens-at (y100 .1 .0) (y100 .0) made-1 in-1 made-1-is $
-      let fits-2 : ((y100 .0) + 1) < 2 ^ 64 = more-fits _ _ _ (here _ _ _ test-0 req) opens-n (opens-room .0) in
-      assigns-last ! (bin ! (cell ! 6 refl) (lit ! tt) (record { fits = fits-2 })) (from ! (stop !)) (store ! 6 refl (tt, record { fits = fits-2 })) $
-      forget ! 7 refl $ forget ! 8 refl $ forget ! 9 refl $ say ! (φ-100 ((y100 .0) + 1, (set (y100 .1 .0) (y100 .0) made-1, tt))) (fits-2, ((length-set (y100 .1 .0) (y100 .0) made-1 ∙ len-ys-100), (omega (arith, test-0), cleared-more noStart opens₀ _ _ (inv-100 .1) (here _ _ _ test-0 req)))) $ keep ! (0 ∷ span 2 9 (1 ∷ [])) $ again ! less-0 I-0 y100 ((y100 .0) + 1, (set (y100 .1 .0) (y100 .0) made-1, tt)) (nearer _ _ test-0)))
-      (λ h0. let test-0 : n₀ ≤ (y100 .0) = nltb→le (y100 .0) n₀ h0 in
-      exit-then ! $ leave-0 _ $
+      let φ-kept : (ℕ × ((List OpenStart) × Unit {0})) → Type 0 = λ x-kept. ((x-kept .0) < 2 ^ 64) × ((length (x-kept .1 .0) ≡ length opens₀) × ((((x-kept .0) ≤ n₀) × ((x-kept .1 .0) ≡ cleared noStart (x-kept .0) opens₀)))) in
+      let μ : (ℕ × ((List OpenStart) × Unit {0})) → ℕ = λ y. n₀ - (y .0) in let less : (ℕ × ((List OpenStart) × Unit {0})) → (ℕ × ((List OpenStart) × Unit {0})) → Type 0 = λ a b. μ a < μ b in let I : (ℕ × ((List OpenStart) × Unit {0})) → List (Item 𝓤) = λ x-kept. Stands 𝓤 H (φ-kept x-kept) E (empty ∷ full (fatVal opens-at) ∷ full (vint w64 n₀) ∷ full (LL.val OpenStart-T.the-type OpenStart-L.the-laws made-1) ∷ full (vint w64 (x-kept .0)) ∷ []) (‵ (HasMut OpenStart-T.the-row opens-at (x-kept .1 .0)) ∷ []) in say ! (φ-kept (0, (opens₀, tt))) ((lit< tt), (refl, (omega arith, cleared-none noStart opens₀))) $ keep ! (span 0 11 []) $
+      loop-then ! 𝓣 less (InvImage·wf μ (Nat·lt-wfRel .wf)) I (λ x-kept leave. heard ! (φ-kept x-kept) (λ j-kept.
+      sets ! (bin ! (cell ! 5 refl) (cell ! 3 refl) tt) 6 refl (tt, tt) $ if-then 𝓣 ! (cell ! 6 refl)
+      (λ h-while. skip-then ! $
+      let fits-1 : ((x-kept .0) * 8) < 2 ^ 64 = scaled 8 _ _ _ (here _ _ _ (ltb→lt (x-kept .0) n₀ h-while) req) opens-n (opens-room .1) in sets ! (bin ! (cell ! 5 refl) (lit ! tt) (record { fits = fits-1 })) 7 refl (tt, record { fits = fits-1 }) $ sets ! (bin ! (cell-field ! 2 0 refl refl refl) (cell ! 7 refl) tt) 8 refl (tt, tt) $ rewrite ! 8 (λ (x : ℕ). ‵ (fat fullShare tyPtr l7 0 (vptr (opens-at .b) x))) (sym (place-is 8 (opens-at .o) (x-kept .0))) refl $ let in-1 : (x-kept .0) < length (x-kept .1 .0) = rw (j-kept .1 .0) (here _ _ _ (ltb→lt (x-kept .0) n₀ h-while) req) in move ! (9 ∷ []) $ opens-elem ! tt (of-struct OpenStart-T.the-type OpenStart-T.Laws.the-laws OpenStart-T.Laws.the-plain) opens-at (x-kept .1 .0) (x-kept .0) noStart in-1 (λ open-1. assigns ! (of-opd ! (cell ! 6 refl)) (from ! (hop ! (look ! 10 refl) (stop !))) (store-raw ! 0 refl (LL.lawful OpenStart-T.the-type OpenStart-L.the-laws 𝓤 H A W .typed made-1 _ made-1-is .0)) $ shuts-elem ! tt (of-struct OpenStart-T.the-type OpenStart-T.Laws.the-laws OpenStart-T.Laws.the-plain) opens-at (x-kept .1 .0) (x-kept .0) made-1 in-1 made-1-is $
+      let fits-2 : ((x-kept .0) + 1) < 2 ^ 64 = more-fits _ _ _ (here _ _ _ (ltb→lt (x-kept .0) n₀ h-while) req) opens-n (opens-room .0) in assigns-last ! (bin ! (cell ! 6 refl) (lit ! tt) (record { fits = fits-2 })) (from ! (stop !)) (store ! 6 refl (tt, record { fits = fits-2 })) $
+      forget ! 7 refl $ forget ! 8 refl $ forget ! 9 refl $ say ! (φ-kept ((x-kept .0) + 1, (set (x-kept .1 .0) (x-kept .0) made-1, tt))) (fits-2, ((length-set (x-kept .1 .0) (x-kept .0) made-1 ∙ (j-kept .1 .0)), (omega (arith, (ltb→lt (x-kept .0) n₀ h-while)), cleared-more noStart opens₀ _ _ ((j-kept .1 .1) .1) (here _ _ _ (ltb→lt (x-kept .0) n₀ h-while) req)))) $ keep ! (0 ∷ span 2 9 (1 ∷ [])) $ again ! less I x-kept ((x-kept .0) + 1, (set (x-kept .1 .0) (x-kept .0) made-1, tt)) (nearer _ _ (ltb→lt (x-kept .0) n₀ h-while))))
+      (λ h-while. exit-then ! $ leave _ $
       sets ! (of-opd ! (unit-lit !)) 1 refl (tt, tt) $
-      keep ! (span 0 10 []) $ ends ! ρ refl tt tt refl ((y100 .1 .0), tt) (len-ys-100, tt) (cleared-all noStart opens₀ _ _ _ (inv-100 .1) (inv-100 .0) test-0) refl))) (0, (opens₀, tt))
+      keep ! (span 0 10 []) $ ends ! ρ refl tt tt refl ((x-kept .1 .0), tt) ((j-kept .1 .0), tt) (cleared-all noStart opens₀ _ _ _ ((j-kept .1 .1) .1) ((j-kept .1 .1) .0) (nltb→le (x-kept .0) n₀ h-while)) refl))) (0, (opens₀, tt))
 
 pub clear-opens-spec : {M : Type 1} → stated.statement M
 unfolding code.routine tablesOf

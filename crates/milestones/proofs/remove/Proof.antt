@@ -1,5 +1,10 @@
--- The walk of `milestones::remove`, by hand.
-use Rattle.references.proofs.Walk.{_≡_, refl, sym, _∙_, full, empty, InvImage·wf, ℕ, _<_, _≤_, _^_, _+_, _-_, _*_, [], _∷_, List, length, getD, set, length-set, Nat·lt-wfRel, ltb→lt, nltb→le, URA, fullShare, w64, tyPtr, vint, vptr, fat, Heap, Env, Tables, Atoms, givenOf, tables, Given, Item, ‵, _$_, !, move, keep, rewrite, look, look-raw, store, store-raw, forget, stop, hop, from, load, lit, unit-lit, of-opd, bin, assigns, assigns-last, again, place-is, heard, if-then, skip-then, exit-then, loop-then, fatVal, HasMut, Rule, rule-of, Facing, WalkFor, proves, ends, say, span, env-of, Stands, cell, cell-field, sets, resets, opens-elem, shuts-elem, back-elem, of-struct}
+-- Written by proof_writer/write from proof_writer/descriptions/milestones.py, from the code and its contracts.
+-- The walk of `milestones::remove`.
+use Rattle.references.proofs.Walk.{_≡_, refl, sym, _∙_, full, empty, InvImage·wf, ℕ, _<_, _≤_, _^_, _+_, _-_, _*_, [], _∷_, List, length, getD, set, length-set, Nat·lt-wfRel, ltb→lt, nltb→le, URA, fullShare, w64, tyPtr, vint, vptr, fat, Heap, Env, Tables, Atoms, givenOf, tables, Given, Item, ‵, _$_, !, move, keep, rewrite, look, look-raw, store, store-raw, init, forget, stop, hop, from, load, lit, unit-lit, of-opd, bin, assigns, assigns-last, again, place-is, heard, if-then, skip-then, exit-then, loop-then, fatVal, HasMut, of-struct, Rule, rule-of, Facing, WalkFor, proves, ends, say, span, env-of, Stands, cell, cell-field, sets, resets, opens-elem, shuts-elem, back-elem}
+use Rattle.milestones.proofs.Moves.{Moving, moving-start, moving-turn, moving-end}
+use Rattle.milestones.proofs.Pairing.{first-of, moves-first, moves-room, next-inside, here-inside}
+use Rattle.references.proofs.Sizes.{scaled, less-fits, more-fits, nearer}
+use Rattle.validate.specs.Outcome.{noStart}
 use prog.Wp.{afterTurn}
 use contract.Running.{tablesOf}
 use denote.Struct.Laws as LL
@@ -8,10 +13,6 @@ use Rattle.validate.proofs.OpenStart as OpenStart-T
 use Rattle.validate.proofs.OpenStart.Laws as OpenStart-L
 use Rattle.milestones.proofs.CallRemove as remove-C
 use Rattle.milestones.proofs.remove.Code as code
-use Rattle.validate.specs.Outcome.{noStart}
-use Rattle.references.proofs.Sizes.{scaled, less-fits, more-fits, nearer}
-use Rattle.milestones.proofs.Moves.{Moving, moving-start, moving-turn, moving-end}
-use Rattle.milestones.proofs.Pairing.{first-of, moves-first, moves-room, next-inside, here-inside}
 use Rattle.milestones.proofs.remove.Statement as stated
 use Rattle.milestones.proofs.remove.Key as key
 
@@ -20,48 +21,22 @@ module _ {M : Type 1} (𝓤 : URA M) (H : Heap 𝓤) (A : Atoms 𝓤) (W : Given
   unfolding afterTurn
   walk opens-at opens₀ opens-room opens-n k₀ k₀-is at₀ at₀-is req l0 l1 l2 l3 l4 l5 l6 l7 l8 l9 l10 l11 l12 =
       let ρ : Rule = rule-of remove-C.terms ((opens-at, opens₀), (k₀, (at₀, tt))) in
-      let E : Env 𝓤 H = env-of (code.function .locals) (l0 ∷ l1 ∷ l2 ∷ l3 ∷ l4 ∷ l5 ∷ l6 ∷ l7 ∷ l8 ∷ l9 ∷ l10 ∷ l11 ∷ l12 ∷ []) in
-      let sub-1 : 1 ≤ k₀ = first-of _ _ (req .0) in
-      let fits-1 : (k₀ - 1) < 2 ^ 64 = less-fits _ _ k₀-is in
-      sets ! (bin ! (cell ! 3 refl) (lit ! tt) sub-1) 5 refl (tt, record { fits = fits-1 }) $
+      let E : Env 𝓤 H = env-of (code.function .locals) (l0 ∷ l1 ∷ l2 ∷ l3 ∷ l4 ∷ l5 ∷ l6 ∷ l7 ∷ l8 ∷ l9 ∷ l10 ∷ l11 ∷ l12 ∷ []) in let least-1 : 1 ≤ k₀ = first-of _ _ (req .0) in let fits-1 : (k₀ - 1) < 2 ^ 64 = less-fits _ _ k₀-is in sets ! (bin ! (cell ! 3 refl) (lit ! tt) least-1) 5 refl (tt, record { fits = fits-1 }) $
       sets ! (of-opd ! (cell ! 4 refl)) 6 refl (tt, record { fits = at₀-is }) $
-      let φ-100 : (ℕ × ((List OpenStart) × Unit {0})) → Type 0 = λ y100. ((y100 .0) < 2 ^ 64) × ((length (y100 .1 .0) ≡ length opens₀) × ((Moving opens₀ at₀ (k₀ - 1) (y100 .1 .0) (y100 .0)))) in
-      let μ-0 : (ℕ × ((List OpenStart) × Unit {0})) → ℕ = λ y. (k₀ - 1) - (y .0) in
-      let less-0 : (ℕ × ((List OpenStart) × Unit {0})) → (ℕ × ((List OpenStart) × Unit {0})) → Type 0 = λ a b. μ-0 a < μ-0 b in
-      let I-0 : (ℕ × ((List OpenStart) × Unit {0})) → List (Item 𝓤) = λ y100. Stands 𝓤 H (φ-100 y100) E (empty ∷ full (fatVal opens-at) ∷ full (vint w64 k₀) ∷ full (vint w64 at₀) ∷ full (vint w64 (k₀ - 1)) ∷ full (vint w64 (y100 .0)) ∷ []) (‵ (HasMut OpenStart-T.the-row opens-at (y100 .1 .0)) ∷ []) in
-      say ! (φ-100 (at₀, (opens₀, tt))) (at₀-is, (refl, (moving-start _ _ _ (moves-first _ _ (req .0)) (moves-room _ _ _ (req .0) (req .1))))) $ keep ! (span 0 16 []) $
-      loop-then ! 𝓣 less-0 (InvImage·wf μ-0 (Nat·lt-wfRel .wf)) I-0 (λ y100 leave-0. heard ! (φ-100 y100) (λ j100.
-      let len-ys-100 = j100 .1 .0 in
-      let inv-100 = j100 .1 .1 in
-      sets ! (bin ! (cell ! 6 refl) (cell ! 5 refl) tt) 9 refl (tt, tt) $
-      if-then ! (cell ! 9 refl)
-      (λ h0. let test-0 : (y100 .0) < (k₀ - 1) = ltb→lt (y100 .0) (k₀ - 1) h0 in
-      skip-then ! $
-      let fits-2 : ((y100 .0) + 1) < 2 ^ 64 = more-fits _ _ _ (here-inside _ _ _ test-0 (req .1)) opens-n (opens-room .0) in
-      sets ! (bin ! (cell ! 6 refl) (lit ! tt) (record { fits = fits-2 })) 7 refl (tt, record { fits = fits-2 }) $
-      let fits-3 : (((y100 .0) + 1) * 8) < 2 ^ 64 = scaled _ _ _ (next-inside _ _ _ test-0 (req .1)) opens-n (opens-room .1) in
-      sets ! (bin ! (cell ! 7 refl) (lit ! tt) (record { fits = fits-3 })) 10 refl (tt, record { fits = fits-3 }) $
-      sets ! (bin ! (cell-field ! 2 0 refl refl refl) (cell ! 10 refl) tt) 11 refl (tt, tt) $
-      rewrite ! 11 (λ (x : ℕ). ‵ (fat fullShare tyPtr l10 0 (vptr (opens-at .b) x))) (sym (place-is 8 (opens-at .o) ((y100 .0) + 1))) refl $
-      let in-1 : ((y100 .0) + 1) < length (y100 .1 .0) = rw len-ys-100 (next-inside _ _ _ test-0 (req .1)) in
-      move ! (14 ∷ []) $ opens-elem ! tt (of-struct OpenStart-T.the-type OpenStart-T.Laws.the-laws OpenStart-T.Laws.the-plain) opens-at (y100 .1 .0) ((y100 .0) + 1) (noStart) in-1 (λ open-1.
-      sets ! (of-opd ! (load ! (from ! (hop ! (look ! 13 refl) (stop !))) (look-raw ! 0 refl))) 14 refl (LL.lawful OpenStart-T.the-type OpenStart-L.the-laws 𝓤 H A W .typed (getD (y100 .1 .0) ((y100 .0) + 1) (noStart)) _ open-1 .0) $
-      back-elem ! tt (of-struct OpenStart-T.the-type OpenStart-T.Laws.the-laws OpenStart-T.Laws.the-plain) opens-at (y100 .1 .0) ((y100 .0) + 1) (noStart) in-1 open-1 $
-      sets ! (of-opd ! (cell ! 13 refl)) 9 refl (LL.lawful OpenStart-T.the-type OpenStart-L.the-laws 𝓤 H A W .typed (getD (y100 .1 .0) ((y100 .0) + 1) (noStart)) _ open-1 .0) $
-      let fits-4 : ((y100 .0) * 8) < 2 ^ 64 = scaled _ _ _ (here-inside _ _ _ test-0 (req .1)) opens-n (opens-room .1) in
-      resets ! (bin ! (cell ! 7 refl) (lit ! tt) (record { fits = fits-4 })) 11 refl (tt, record { fits = fits-4 }) $
-      sets ! (bin ! (cell-field ! 3 0 refl refl refl) (cell ! 11 refl) tt) 14 refl (tt, tt) $
-      rewrite ! 14 (λ (x : ℕ). ‵ (fat fullShare tyPtr l12 0 (vptr (opens-at .b) x))) (sym (place-is 8 (opens-at .o) (y100 .0))) refl $
-      let in-2 : (y100 .0) < length (y100 .1 .0) = rw len-ys-100 (here-inside _ _ _ test-0 (req .1)) in
-      opens-elem ! tt (of-struct OpenStart-T.the-type OpenStart-T.Laws.the-laws OpenStart-T.Laws.the-plain) opens-at (y100 .1 .0) (y100 .0) (noStart) in-2 (λ open-2.
-      assigns ! (of-opd ! (cell ! 10 refl)) (from ! (hop ! (look ! 15 refl) (stop !))) (store-raw ! 0 refl (LL.lawful OpenStart-T.the-type OpenStart-L.the-laws 𝓤 H A W .typed (getD (y100 .1 .0) ((y100 .0) + 1) (noStart)) _ open-1 .0)) $
-      shuts-elem ! tt (of-struct OpenStart-T.the-type OpenStart-T.Laws.the-laws OpenStart-T.Laws.the-plain) opens-at (y100 .1 .0) (y100 .0) (getD (y100 .1 .0) ((y100 .0) + 1) (noStart)) in-2 open-1 $
+      let φ-kept : (ℕ × ((List OpenStart) × Unit {0})) → Type 0 = λ x-kept. ((x-kept .0) < 2 ^ 64) × ((length (x-kept .1 .0) ≡ length opens₀) × ((Moving opens₀ at₀ (k₀ - 1) (x-kept .1 .0) (x-kept .0)))) in
+      let μ : (ℕ × ((List OpenStart) × Unit {0})) → ℕ = λ y. (k₀ - 1) - (y .0) in let less : (ℕ × ((List OpenStart) × Unit {0})) → (ℕ × ((List OpenStart) × Unit {0})) → Type 0 = λ a b. μ a < μ b in let I : (ℕ × ((List OpenStart) × Unit {0})) → List (Item 𝓤) = λ x-kept. Stands 𝓤 H (φ-kept x-kept) E (empty ∷ full (fatVal opens-at) ∷ full (vint w64 k₀) ∷ full (vint w64 at₀) ∷ full (vint w64 (k₀ - 1)) ∷ full (vint w64 (x-kept .0)) ∷ []) (‵ (HasMut OpenStart-T.the-row opens-at (x-kept .1 .0)) ∷ []) in say ! (φ-kept (at₀, (opens₀, tt))) (at₀-is, (refl, (moving-start _ _ _ (moves-first _ _ (req .0)) (moves-room _ _ _ (req .0) (req .1))))) $ keep ! (span 0 16 []) $
+      loop-then ! 𝓣 less (InvImage·wf μ (Nat·lt-wfRel .wf)) I (λ x-kept leave. heard ! (φ-kept x-kept) (λ j-kept.
+      sets ! (bin ! (cell ! 6 refl) (cell ! 5 refl) tt) 9 refl (tt, tt) $ if-then 𝓣 ! (cell ! 9 refl)
+      (λ h-while. skip-then ! $
+      let fits-2 : ((x-kept .0) + 1) < 2 ^ 64 = more-fits _ _ _ (here-inside _ _ _ (ltb→lt (x-kept .0) (k₀ - 1) h-while) (req .1)) opens-n (opens-room .0) in sets ! (bin ! (cell ! 6 refl) (lit ! tt) (record { fits = fits-2 })) 7 refl (tt, record { fits = fits-2 }) $
+      let fits-3 : (((x-kept .0) + 1) * 8) < 2 ^ 64 = scaled 8 _ _ _ (next-inside _ _ _ (ltb→lt (x-kept .0) (k₀ - 1) h-while) (req .1)) opens-n (opens-room .1) in sets ! (bin ! (cell ! 7 refl) (lit ! tt) (record { fits = fits-3 })) 10 refl (tt, record { fits = fits-3 }) $ sets ! (bin ! (cell-field ! 2 0 refl refl refl) (cell ! 10 refl) tt) 11 refl (tt, tt) $ rewrite ! 11 (λ (x : ℕ). ‵ (fat fullShare tyPtr l10 0 (vptr (opens-at .b) x))) (sym (place-is 8 (opens-at .o) ((x-kept .0) + 1))) refl $ let in-1 : ((x-kept .0) + 1) < length (x-kept .1 .0) = rw (j-kept .1 .0) (next-inside _ _ _ (ltb→lt (x-kept .0) (k₀ - 1) h-while) (req .1)) in move ! (14 ∷ []) $ opens-elem ! tt (of-struct OpenStart-T.the-type OpenStart-T.Laws.the-laws OpenStart-T.Laws.the-plain) opens-at (x-kept .1 .0) ((x-kept .0) + 1) noStart in-1 (λ open-1. assigns ! (of-opd ! (load ! (from ! (hop ! (look ! 13 refl) (stop !))) (look-raw ! 0 refl))) (from ! (stop !)) (init ! 14 refl (LL.lawful OpenStart-T.the-type OpenStart-L.the-laws 𝓤 H A W .typed (getD (x-kept .1 .0) ((x-kept .0) + 1) noStart) _ open-1 .0)) $ back-elem ! tt (of-struct OpenStart-T.the-type OpenStart-T.Laws.the-laws OpenStart-T.Laws.the-plain) opens-at (x-kept .1 .0) ((x-kept .0) + 1) noStart in-1 open-1 $
+      sets ! (of-opd ! (cell ! 13 refl)) 9 refl (LL.lawful OpenStart-T.the-type OpenStart-L.the-laws 𝓤 H A W .typed (getD (x-kept .1 .0) ((x-kept .0) + 1) noStart) _ open-1 .0) $
+      let fits-4 : ((x-kept .0) * 8) < 2 ^ 64 = scaled 8 _ _ _ (here-inside _ _ _ (ltb→lt (x-kept .0) (k₀ - 1) h-while) (req .1)) opens-n (opens-room .1) in resets ! (bin ! (cell ! 7 refl) (lit ! tt) (record { fits = fits-4 })) 11 refl (tt, record { fits = fits-4 }) $ sets ! (bin ! (cell-field ! 3 0 refl refl refl) (cell ! 11 refl) tt) 14 refl (tt, tt) $ rewrite ! 14 (λ (x : ℕ). ‵ (fat fullShare tyPtr l12 0 (vptr (opens-at .b) x))) (sym (place-is 8 (opens-at .o) (x-kept .0))) refl $ let in-2 : (x-kept .0) < length (x-kept .1 .0) = rw (j-kept .1 .0) (here-inside _ _ _ (ltb→lt (x-kept .0) (k₀ - 1) h-while) (req .1)) in opens-elem ! tt (of-struct OpenStart-T.the-type OpenStart-T.Laws.the-laws OpenStart-T.Laws.the-plain) opens-at (x-kept .1 .0) (x-kept .0) noStart in-2 (λ open-2. assigns ! (of-opd ! (cell ! 10 refl)) (from ! (hop ! (look ! 15 refl) (stop !))) (store-raw ! 0 refl (LL.lawful OpenStart-T.the-type OpenStart-L.the-laws 𝓤 H A W .typed (getD (x-kept .1 .0) ((x-kept .0) + 1) noStart) _ open-1 .0)) $ shuts-elem ! tt (of-struct OpenStart-T.the-type OpenStart-T.Laws.the-laws OpenStart-T.Laws.the-plain) opens-at (x-kept .1 .0) (x-kept .0) (getD (x-kept .1 .0) ((x-kept .0) + 1) noStart) in-2 open-1 $
       assigns-last ! (of-opd ! (cell ! 8 refl)) (from ! (stop !)) (store ! 7 refl (tt, record { fits = fits-2 })) $
-      forget ! 8 refl $ forget ! 9 refl $ forget ! 10 refl $ forget ! 11 refl $ forget ! 12 refl $ forget ! 13 refl $ forget ! 14 refl $ say ! (φ-100 ((y100 .0) + 1, (set (y100 .1 .0) (y100 .0) (getD (y100 .1 .0) ((y100 .0) + 1) (noStart)), tt))) (fits-2, ((length-set (y100 .1 .0) (y100 .0) (getD (y100 .1 .0) ((y100 .0) + 1) (noStart)) ∙ len-ys-100), (moving-turn _ _ _ _ _ inv-100 test-0))) $ keep ! (0 ∷ span 2 14 (1 ∷ [])) $ again ! less-0 I-0 y100 ((y100 .0) + 1, (set (y100 .1 .0) (y100 .0) (getD (y100 .1 .0) ((y100 .0) + 1) (noStart)), tt)) (nearer _ _ test-0))))
-      (λ h0. let test-0 : (k₀ - 1) ≤ (y100 .0) = nltb→le (y100 .0) (k₀ - 1) h0 in
-      exit-then ! $ leave-0 _ $
+      forget ! 8 refl $ forget ! 9 refl $ forget ! 10 refl $ forget ! 11 refl $ forget ! 12 refl $ forget ! 13 refl $ forget ! 14 refl $ say ! (φ-kept ((x-kept .0) + 1, (set (x-kept .1 .0) (x-kept .0) (getD (x-kept .1 .0) ((x-kept .0) + 1) noStart), tt))) (fits-2, ((length-set (x-kept .1 .0) (x-kept .0) (getD (x-kept .1 .0) ((x-kept .0) + 1) noStart) ∙ (j-kept .1 .0)), (moving-turn _ _ _ _ _ (j-kept .1 .1) (ltb→lt (x-kept .0) (k₀ - 1) h-while)))) $ keep ! (0 ∷ span 2 14 (1 ∷ [])) $ again ! less I x-kept ((x-kept .0) + 1, (set (x-kept .1 .0) (x-kept .0) (getD (x-kept .1 .0) ((x-kept .0) + 1) noStart), tt)) (nearer _ _ (ltb→lt (x-kept .0) (k₀ - 1) h-while)))))
+      (λ h-while. exit-then ! $ leave _ $
       sets ! (of-opd ! (unit-lit !)) 1 refl (tt, tt) $
-      keep ! (span 0 15 []) $ ends ! ρ refl tt tt refl ((y100 .1 .0), tt) (len-ys-100, tt) (moving-end _ _ _ _ _ inv-100 test-0) refl))) (at₀, (opens₀, tt))
+      keep ! (span 0 15 []) $ ends ! ρ refl tt tt refl ((x-kept .1 .0), tt) ((j-kept .1 .0), tt) (moving-end _ _ _ _ _ (j-kept .1 .1) (nltb→le (x-kept .0) (k₀ - 1) h-while)) refl))) (at₀, (opens₀, tt))
 
 pub remove-spec : {M : Type 1} → stated.statement M
 unfolding code.routine tablesOf

@@ -1,0 +1,34 @@
+"""closing: the findings of open starts that are left, and the working list of open starts cleared."""
+
+LAWS = ['proofs/Starts', 'proofs/Zeroed', 'references::proofs/Sizes', 'validate::specs/Outcome', 'running::specs/Running']
+DEFAULTS = {'OpenStart': 'noStart'}
+
+COUNTED = 'source₀ tape₀ opens₀ (rec₀ .«open») list₀ (countsOf rec₀)'
+HERE = 'here _ _ _ test-while req'
+
+WALKS = {
+    'unclosed': dict(
+        sums={'k + 1': 'more-fits _ _ _ (told-inside kept test-while) opens-n (opens-room .0)'},
+        inside={'opens[k]': 'told-inside kept test-while'},
+        calls={'tell_open': 'tellable kept test-while'},
+        loop=dict(
+            changes='c k list',
+            keeps=f'Told {COUNTED} $list $c $k',
+            measure='rec₀ .«open» - $k',
+            start=f'told-none {COUNTED} (z-counts .0) says-counts (req .known) (req .room)',
+            again='told-more kept test-while says-tell-open',
+            less='nearer _ _ test-while'),
+        returns='(refl, told-all kept test-while)'),
+
+    'clear_opens': dict(
+        sums={'i + 1': f'more-fits _ _ _ ({HERE}) opens-n (opens-room .0)'},
+        inside={'opens[i]': HERE},
+        loop=dict(
+            changes='i opens',
+            keeps='($i ≤ n₀) × ($opens ≡ cleared noStart $i opens₀)',
+            measure='n₀ - $i',
+            start='(omega arith, cleared-none noStart opens₀)',
+            again=f'(omega (arith, test-while), cleared-more noStart opens₀ _ _ (kept .1) ({HERE}))',
+            less='nearer _ _ test-while'),
+        returns='cleared-all noStart opens₀ _ _ _ (kept .1) (kept .0) test-while'),
+}
