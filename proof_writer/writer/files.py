@@ -1,9 +1,10 @@
 """The files that are written: a callee's contract, the walk of a function, the walks of a cycle."""
 import os
 
+from .common import NEWLINE, Refused, let
 from .source import Names, public_names
 from .terms import (bracketed, capitals, dashed, flat, listed, of_pairs, pairs, pairs_type, part, tuple_of)
-from .walk import NEWLINE, Refused, Walk, let
+from .walk import Walk
 from . import mir
 
 MODEL = '{M : Type 1} (𝓤 : URA M) (H : Heap 𝓤) (A : Atoms 𝓤)'
