@@ -1,9 +1,9 @@
-//! Links the static library that `rt staticlib exports` writes.
+//! Links the static library that `rt staticlib harkoxin` writes.
 
 use std::path::PathBuf;
 use std::{env, process};
 
-const ARCHIVE: &str = "libexports.a";
+const ARCHIVE: &str = "libharkoxin.a";
 
 /// Ends the build with one line that says why.
 fn fail(why: &str) -> ! {
@@ -20,7 +20,7 @@ fn folder() -> PathBuf {
     match folder.canonicalize() {
         Ok(folder) if folder.join(ARCHIVE).is_file() => folder,
         _ => fail(&format!(
-            "{ARCHIVE} isn't in {}: run `rt staticlib exports`, or set HARKOXIN_LIB to its folder",
+            "{ARCHIVE} isn't in {}: run `rt staticlib harkoxin`, or set HARKOXIN_LIB to its folder",
             folder.display()
         )),
     }
@@ -31,5 +31,5 @@ fn main() {
     let folder = folder();
     println!("cargo::rerun-if-changed={}", folder.join(ARCHIVE).display());
     println!("cargo::rustc-link-search=native={}", folder.display());
-    println!("cargo::rustc-link-lib=static=exports");
+    println!("cargo::rustc-link-lib=static=harkoxin");
 }

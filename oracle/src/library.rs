@@ -1,4 +1,4 @@
-//! The functions of the Rattle library: single ones as the static library of the crate `compared` exports them, the whole
+//! The functions of the Rattle library: single ones as the static library of the crate `oracle_exports` has them, the whole
 //! check through the binding. Each takes any slice.
 
 use std::ffi::c_uchar;
@@ -7,7 +7,7 @@ use harkoxin::raw::{self, OpenStart};
 
 use crate::document::Document;
 
-#[link(name = "compared", kind = "static")]
+#[link(name = "oracle_exports", kind = "static")]
 unsafe extern "C" {
     fn compared_utf8_check(s: *const c_uchar, n: usize) -> usize;
     fn compared_code_point(s: *const c_uchar, n: usize, at: usize) -> u32;

@@ -1,4 +1,4 @@
-//! What `crates/limits_trial` prints of trial items 13 to 15, by the published code and the plain refusals.
+//! What `crates/trial_limits` prints of trial items 13 to 15, by the published code and the plain refusals.
 
 use oracle::document::{Document, kind};
 use oracle::judge::{Judged, judge};

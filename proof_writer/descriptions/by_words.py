@@ -1,6 +1,6 @@
 """by_words: the open starts as words, for programs."""
 
-LAWS = ['proofs/Numbers', 'references::proofs/Sizes', 'validate::specs/Outcome']
+LAWS = ['proofs/Numbers', 'reference_laws::proofs/Sizes', 'definition::specs/Outcome']
 DEFAULTS = {'OpenStart': 'noStart'}
 
 HERE = 'here _ _ _ test-while (req .1)'

@@ -1,6 +1,6 @@
 """closing: the findings of open starts that are left, and the working list of open starts cleared."""
 
-LAWS = ['proofs/Starts', 'proofs/Zeroed', 'references::proofs/Sizes', 'validate::specs/Outcome', 'running::specs/Running']
+LAWS = ['proofs/Starts', 'proofs/Zeroed', 'reference_laws::proofs/Sizes', 'definition::specs/Outcome', 'state::specs/Running']
 DEFAULTS = {'OpenStart': 'noStart'}
 
 COUNTED = 'source₀ tape₀ opens₀ (rec₀ .«open») list₀ (countsOf rec₀)'

@@ -27,7 +27,7 @@ class Crate:
         self.contracts = contracts          # the crate that has the contract file of each function: {'crate::f': crate}
         self.mir = mir.functions(sources.root, name)
         self.written = {}
-        self.walk_words = public_names(os.path.join(sources.root, 'crates/references/proofs/Walk.antt'))
+        self.walk_words = public_names(os.path.join(sources.root, 'crates/reference_laws/proofs/Walk.antt'))
         self.header = '-- Written by proof_writer/write from proof_writer/descriptions/%s.py, from the code and its contracts.\n' % name
 
     def default(self, type_):
@@ -287,7 +287,7 @@ class Crate:
 
 def prelude(file, words):
     """The names that the writer writes, from a file of the crate of laws."""
-    return {word: ('Rattle.references.proofs.' + file, word) for word in words}
+    return {word: ('Rattle.reference_laws.proofs.' + file, word) for word in words}
 
 
 def description_default(description, type_):

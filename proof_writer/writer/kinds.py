@@ -1,6 +1,6 @@
 """The types of values in a walk: how the value of a denotation is written, and why it fits its type.
 
-`denotation`: the type of its values in definitions.   `data`: its `Data` (references, proofs/Call.antt).
+`denotation`: the type of its values in definitions.   `data`: its `Data` (reference_laws, proofs/Call.antt).
 `fact(d)`: what is known of a value d, or None.        `is_proof(d, fact)`: from that, the proof that d fits.
 """
 from .terms import bracketed, tuple_of

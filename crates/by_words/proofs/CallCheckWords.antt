@@ -1,9 +1,9 @@
 -- Written by proof_writer/write from proof_writer/descriptions/by_words.py, from the code and its contracts.
 -- The contract of `by_words::check_words`, for its own walk and for the walks that call it: its symbol and its result; what is passed; what is asked of that; what is said of it, of the result r and of the last values z. `known` shows that it is the contract.
-use Rattle.references.proofs.Call.{Terms, stated-as, shr, mut, of-enum, u8, u32, u64, [], _∷_, Known, bound-at, rule-of, cited}
+use Rattle.reference_laws.proofs.Call.{Terms, stated-as, shr, mut, of-enum, u8, u32, u64, [], _∷_, Known, bound-at, rule-of, cited}
 use mathlib.Core.Path.{_≡_}
 use lib.ListN.{length}
-use Rattle.marking.proofs.Answer as Answer-T
+use Rattle.validate.proofs.Answer as Answer-T
 use Rattle.by_words.proofs.check_words as check-words-F
 
 abbrev pub terms : Terms

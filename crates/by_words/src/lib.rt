@@ -1,7 +1,7 @@
 // The check for programs, which hold the open starts as words, a node and the length of a base in turn. Their records are a local
 // list here.
-use marking::Answer;
-use validate::OpenStart;
+use definition::OpenStart;
+use validate::Answer;
 ghost use mathlib.Core.Path.{_≡_};
 ghost use Prim.Native.Nat.{_+_, _*_, _<_, _≤_};
 ghost use lib.ListN.{length};
@@ -68,7 +68,7 @@ fn check_with(
     ensures { λ r. ⌜ length (now (words .exit)) ≡ length (now (words .entry)) ⌝ }
 {
     read_records(words, opens, n);
-    let answer = marking::check(table, source, tape, seen, &mut opens[..n], list);
+    let answer = validate::check(table, source, tape, seen, &mut opens[..n], list);
     write_records(words, opens, n);
     answer
 }

@@ -1,10 +1,10 @@
 // Reads table.txt, source.usfm and nodes.bin of the current folder, checks them and writes the listing.
 use libc::STDOUT_FILENO;
-use marking::Answer;
-use marking::Gate;
-use marking::Report;
 use messages::Asked;
 use messages::Told;
+use validate::Answer;
+use validate::InputCheck;
+use validate::Report;
 ghost use mathlib.Core.Path.{_≡_};
 ghost use Prim.Native.Nat.{_*_, _≤_};
 ghost use lib.ListN.{length};
@@ -164,7 +164,7 @@ fn tell_findings<'a>(
 {
     let mut lines = marks();
     let mut columns = marks();
-    listing::mark(source, &mut lines, &mut columns);
+    listing::lines_and_columns(source, &mut lines, &mut columns);
     let mut text = io::large_buffer();
     let mut out = lines_room();
     let n = held(list, written);
@@ -193,8 +193,14 @@ fn tell_checked<'a>(table: &'a [u8], source: &'a [u8], tape: &[u8], r: Report, l
 {
     tell_counts(r);
     let mut index = [0u64; 512];
-    let Gate::Open(entries) = marking::table_gate(table, &mut index, source, tape, 65535, 65535)
-    else {
+    let InputCheck::Accepted(entries) = validate::check_input(
+        table,
+        &mut index,
+        source,
+        tape,
+        65535,
+        65535,
+    ) else {
         return;
     };
     tell_findings(

@@ -1,11 +1,11 @@
 -- Written by proof_writer/write from proof_writer/descriptions/closing.py, from the code and its contracts.
 -- The contract of `closing::clear_opens`, for its own walk and for the walks that call it: its symbol and its result; what is passed; what is asked of that; what is said of it, of the result r and of the last values z. `known` shows that it is the contract.
-use Rattle.references.proofs.Call.{Terms, stated-as, val, mut, of-number, of-nothing, w64, [], _∷_, Known, bound-at, rule-of, cited}
+use Rattle.reference_laws.proofs.Call.{Terms, stated-as, val, mut, of-number, of-nothing, w64, [], _∷_, Known, bound-at, rule-of, cited}
 use mathlib.Core.Path.{_≡_}
 use Prim.Native.Nat.{_≤_}
 use lib.ListN.{length}
-use Rattle.validate.specs.Outcome.{noStart, cleared}
-use Rattle.validate.proofs.OpenStart as OpenStart-T
+use Rattle.definition.specs.Outcome.{noStart, cleared}
+use Rattle.definition.proofs.OpenStart as OpenStart-T
 use Rattle.closing.proofs.clear_opens as clear-opens-F
 
 abbrev pub terms : Terms

@@ -1,11 +1,11 @@
 -- Written by proof_writer/write from proof_writer/descriptions/closing.py, from the code and its contracts.
--- The contract of `running::counts`, for its own walk and for the walks that call it: its symbol and its result; what is passed; what is asked of that; what is said of it, of the result r and of the last values z. `known` shows that it is the contract.
-use Rattle.references.proofs.Call.{Terms, stated-as, val, of-struct, [], _∷_, Known, bound-at, rule-of, cited}
+-- The contract of `state::counts`, for its own walk and for the walks that call it: its symbol and its result; what is passed; what is asked of that; what is said of it, of the result r and of the last values z. `known` shows that it is the contract.
+use Rattle.reference_laws.proofs.Call.{Terms, stated-as, val, of-struct, [], _∷_, Known, bound-at, rule-of, cited}
 use mathlib.Core.Path.{_≡_}
-use Rattle.running.specs.Running.{countsOf}
+use Rattle.state.specs.Running.{countsOf}
 use Rattle.findings.proofs.Counts as Counts-T
-use Rattle.running.proofs.Record as Record-T
-use Rattle.running.proofs.counts as counts-F
+use Rattle.state.proofs.Record as Record-T
+use Rattle.state.proofs.counts as counts-F
 
 abbrev pub terms : Terms
 terms = stated-as counts-F.Symbol.name (of-struct Counts-T.the-type Counts-T.Laws.the-laws Counts-T.Laws.the-plain)

@@ -1,10 +1,10 @@
 -- Written by proof_writer/write from proof_writer/descriptions/closing.py, from the code and its contracts.
 -- The contract of `closing::tell_open`, for its own walk and for the walks that call it: its symbol and its result; what is passed; what is asked of that; what is said of it, of the result r and of the last values z. `known` shows that it is the contract.
-use Rattle.references.proofs.Call.{Terms, stated-as, val, shr, mut, of-struct, u8, u64, [], _∷_, Known, bound-at, rule-of, cited}
+use Rattle.reference_laws.proofs.Call.{Terms, stated-as, val, shr, mut, of-struct, u8, u64, [], _∷_, Known, bound-at, rule-of, cited}
 use Rattle.findings.specs.Written.{Wrote}
 use Rattle.closing.specs.Ends.{ofOpen, Tellable}
 use Rattle.findings.proofs.Counts as Counts-T
-use Rattle.validate.proofs.OpenStart as OpenStart-T
+use Rattle.definition.proofs.OpenStart as OpenStart-T
 use Rattle.closing.proofs.tell_open as tell-open-F
 
 abbrev pub terms : Terms

@@ -1,14 +1,14 @@
 -- Written by proof_writer/write from proof_writer/descriptions/closing.py, from the code and its contracts.
 -- The contract of `closing::unclosed`, for its own walk and for the walks that call it: its symbol and its result; what is passed; what is asked of that; what is said of it, of the result r and of the last values z. `known` shows that it is the contract.
-use Rattle.references.proofs.Call.{Terms, stated-as, val, shr, mut, of-struct, u8, u64, [], _∷_, Known, bound-at, rule-of, cited}
+use Rattle.reference_laws.proofs.Call.{Terms, stated-as, val, shr, mut, of-struct, u8, u64, [], _∷_, Known, bound-at, rule-of, cited}
 use mathlib.Core.Path.{_≡_}
 use Rattle.findings.specs.Written.{Wrote}
-use Rattle.running.specs.Running.{countsOf, starts}
+use Rattle.state.specs.Running.{countsOf, starts}
 use Rattle.closing.specs.Ends.{Left}
-use Rattle.validate.specs.Document as Document
+use Rattle.definition.specs.Document as Document
 use Rattle.findings.proofs.Counts as Counts-T
-use Rattle.validate.proofs.OpenStart as OpenStart-T
-use Rattle.running.proofs.Record as Record-T
+use Rattle.definition.proofs.OpenStart as OpenStart-T
+use Rattle.state.proofs.Record as Record-T
 use Rattle.closing.proofs.unclosed as unclosed-F
 
 abbrev pub terms : Terms

@@ -3,9 +3,9 @@
 use mathlib.Core.Path.{_≡_, _∙_}
 use mathlib.Core.Bool.{Bool, not}
 use Rattle.text.specs.Pick.{both, either}
-use Rattle.validate.specs.Checks.{Check, when}
-use Rattle.validate.specs.Document.{ofDocument}
-use Rattle.running.specs.declared.Record.{Record}
+use Rattle.definition.specs.Checks.{Check, when}
+use Rattle.definition.specs.Document.{ofDocument}
+use Rattle.state.specs.declared.Record.{Record}
 
 abbrev pub noId : Record → Check
 noId r = when (both (not (r .«has_id»)) (either (r .«has_chapter») (r .«has_verse»))) (ofDocument 4)

@@ -18,8 +18,8 @@ use Rattle.findings.specs.Finding.{Finding}
 use Rattle.findings.specs.declared.Counts.{Counts}
 use Rattle.findings.specs.Written.{Wrote, Room, only}
 use Rattle.findings.proofs.Overlay.{wrote-none}
-use Rattle.validate.specs.Checks.{about, warning}
-use Rattle.validate.specs.Document.{textBefore}
+use Rattle.definition.specs.Checks.{about, warning}
+use Rattle.definition.specs.Document.{textBefore}
 
 -- whether a node is a Text that isn't blank
 abbrev pub solidAt : List ℕ → List ℕ → ℕ → Bool

@@ -11,13 +11,13 @@ use Rattle.findings.specs.Finding.{Finding}
 use Rattle.findings.specs.declared.Counts.{Counts}
 use Rattle.findings.specs.Written.{Wrote, Room, total}
 use Rattle.findings.proofs.Overlay.{wrote-none, wrote-append, counted-total}
-use Rattle.running.specs.Running.{starts, Opens}
-use Rattle.validate.specs.Checks.{error}
-use Rattle.validate.specs.Document.{unclosed}
-use Rattle.validate.specs.Outcome.{noStart}
-use Rattle.validate.specs.declared.OpenStart.{OpenStart}
-use Rattle.validate.proofs.Few.{unclosed-length}
-use Rattle.running.proofs.Opened.{starts-length}
+use Rattle.state.specs.Running.{starts, Opens}
+use Rattle.definition.specs.Checks.{error}
+use Rattle.definition.specs.Document.{unclosed}
+use Rattle.definition.specs.Outcome.{noStart}
+use Rattle.definition.specs.declared.OpenStart.{OpenStart}
+use Rattle.definition.proofs.Few.{unclosed-length}
+use Rattle.state.proofs.Opened.{starts-length}
 use Rattle.closing.specs.Ends.{ofOpen, Tellable}
 
 left-length : (s t : List ℕ) (opens : List OpenStart) (k : ℕ) → length (unclosed (starts s t opens k)) ≡ k

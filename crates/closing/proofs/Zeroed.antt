@@ -7,7 +7,7 @@ use native.Mathlib.Omega.{arith}
 use native.Mathlib.Numerals.{add-one}
 use lib.ListN.{length, getD, set, drop}
 use lib.Seq.{drop-cons, set-at}
-use Rattle.validate.specs.Outcome.{blanks, cleared}
+use Rattle.definition.specs.Outcome.{blanks, cleared}
 
 module _ {A : Type 0} (nothing : A) where
   length-blanks : (n : ℕ) → length (blanks nothing n) ≡ n

@@ -7,11 +7,11 @@ use Rattle.tape.specs.Nodes.{count, nodeAt}
 use Rattle.findings.specs.Finding.{Finding}
 use Rattle.findings.specs.declared.Counts.{Counts}
 use Rattle.findings.specs.Written.{Room}
-use Rattle.validate.specs.Checks.{Check, when, error}
-use Rattle.validate.specs.declared.OpenStart.{OpenStart}
-use Rattle.validate.specs.Document.{ofDocument, unclosed}
-use Rattle.running.specs.Running.{starts, countsOf, Opens}
-use Rattle.running.specs.declared.Record.{Record}
+use Rattle.definition.specs.Checks.{Check, when, error}
+use Rattle.definition.specs.declared.OpenStart.{OpenStart}
+use Rattle.definition.specs.Document.{ofDocument, unclosed}
+use Rattle.state.specs.Running.{starts, countsOf, Opens}
+use Rattle.state.specs.declared.Record.{Record}
 
 -- MissingIdMarker, MissingChapterMarker: the conditions of `closing`, of the code's record
 abbrev pub missingChecks : Record → List Check

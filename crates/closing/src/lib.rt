@@ -1,4 +1,5 @@
 // Before the walk and after it: text before `\id`, the closing findings, and the working lists cleared.
+use definition::OpenStart;
 use findings::Counts;
 use findings::Finding;
 use findings::MILESTONE_MISMATCH;
@@ -6,8 +7,7 @@ use findings::MISSING_CHAPTER_MARKER;
 use findings::MISSING_ID_MARKER;
 use findings::Severity;
 use findings::TEXT_BEFORE_ID;
-use running::Record;
-use validate::OpenStart;
+use state::Record;
 ghost use mathlib.Core.Path.{_≡_};
 ghost use mathlib.Core.Bool.{not};
 ghost use Prim.Native.Nat.{_≤_};
@@ -20,11 +20,11 @@ ghost use Rattle.tape.specs.Forest.{forest};
 ghost use Rattle.cursor.specs.Inner.{Run, Spanned};
 ghost use Rattle.findings.specs.Finding.{findingOf};
 ghost use Rattle.findings.specs.Written.{Wrote, Room};
-ghost use Rattle.validate.specs.Checks.{given};
-ghost use Rattle.validate.specs.Document.{textBefore, ofDocument};
-ghost use Rattle.validate.specs.Document;
-ghost use Rattle.validate.specs.Outcome.{noStart, cleared};
-ghost use Rattle.running.specs.Running.{countsOf, starts};
+ghost use Rattle.definition.specs.Checks.{given};
+ghost use Rattle.definition.specs.Document.{textBefore, ofDocument};
+ghost use Rattle.definition.specs.Document;
+ghost use Rattle.definition.specs.Outcome.{noStart, cleared};
+ghost use Rattle.state.specs.Running.{countsOf, starts};
 ghost use Rattle.closing.specs.Ends.{missingChecks, Left, ofOpen, Tellable};
 
 // A finding of no node.
@@ -58,7 +58,7 @@ pub fn text_before(source: &[u8], tape: &[u8], to: usize, rec: Record, list: &mu
     requires { ⌜ (Run (now source) (now tape) 1 to) × Room (countsOf rec) (textBefore (forest (now source) (now tape) 1 to)) ⌝ }
     ensures { λ r. ⌜ Wrote (textBefore (forest (now (source .entry)) (now (tape .entry)) 1 to)) (now (list .entry)) (countsOf rec) (now (list .exit)) r ⌝ }
 {
-    let c = running::counts(rec);
+    let c = state::counts(rec);
     if to <= 1 {
         return c;
     }
@@ -67,7 +67,7 @@ pub fn text_before(source: &[u8], tape: &[u8], to: usize, rec: Record, list: &mu
         list,
         c,
         there,
-        running::about(tape, 1, Severity::Warning, TEXT_BEFORE_ID, 0, 0, 0),
+        state::about(tape, 1, Severity::Warning, TEXT_BEFORE_ID, 0, 0, 0),
     )
 }
 
@@ -76,7 +76,7 @@ fn tell_open(tape: &[u8], o: OpenStart, list: &mut [u64], c: Counts) -> Counts
     requires { ⌜ Tellable (now tape) o c ⌝ }
     ensures { λ r. ⌜ Wrote (ofOpen (now (tape .entry)) o) (now (list .entry)) c (now (list .exit)) r ⌝ }
 {
-    let f = running::about(
+    let f = state::about(
         tape,
         o.node as usize,
         Severity::Error,
@@ -100,7 +100,7 @@ pub fn unclosed(
     ensures { λ r. ⌜ (now (opens .exit) ≡ now (opens .entry)) × Wrote (Document.unclosed (starts (now (source .entry)) (now (tape .entry)) (now (opens .entry)) (rec .«open»))) (now (list .entry)) (countsOf rec) (now (list .exit)) r ⌝ }
 {
     let n = rec.open;
-    let mut c = running::counts(rec);
+    let mut c = state::counts(rec);
     let mut k: usize = 0;
     while k < n {
         let o = opens[k];

@@ -4,8 +4,8 @@ use Prim.Native.Nat.{ℕ, _+_, _≤_}
 use native.Mathlib.Omega.{arith}
 use mathlib.Core.List.{List, [], _∷_, _++_}
 use lib.ListN.{length, length-append}
-use Rattle.laying.specs.Over.{Put}
-use Rattle.laying.proofs.Over.{put-then}
+use Rattle.buffer.specs.Over.{Put}
+use Rattle.buffer.proofs.Over.{put-then}
 use Rattle.listing.specs.Inner.{lineOf, Near}
 
 pub line-laid : {key value l l₁ l₂ l₃ l₄ : List ℕ} {at a b c r : ℕ} → Put key l at l₁ a → Put (0x3D ∷ []) l₁ a l₂ b → Put value l₂ b l₃ c → Put (10 ∷ []) l₃ c l₄ r → Put (lineOf key value) l at l₄ r

@@ -8,8 +8,8 @@ use mathlib.Core.Path.{_≡_, refl, sym, ap, _∙_}
 use mathlib.Core.List.{List, [], _∷_}
 use lib.ListN.{length, set, getD, length-set}
 use borrow.Author.Tests.{eq-eqb, ne-eqb}
-use Rattle.laying.specs.Over.{over}
-use Rattle.laying.proofs.Over.{over-none, over-set}
+use Rattle.buffer.specs.Over.{over}
+use Rattle.buffer.proofs.Over.{over-none, over-set}
 use Rattle.listing.specs.Lines.{Place, afterByte, placeFrom, placeOf}
 use Rattle.listing.specs.Marks.{eachFrom, linesFrom, columnsFrom}
 
@@ -116,7 +116,7 @@ module _ (f : ℕ → ℕ) where
   marked : (l : List ℕ) (n i : ℕ) → i < n → n ≤ length l → getD (over l 0 (eachFrom f 0 n)) i 0 ≡ f i
   marked l n i h k = getD-over l (eachFrom f 0 n) i (omega arith) (rw (each-length 0 n) h) ∙ rw zero-add at (each-at 0 n i h)
 
--- what stands at a place of the two lists after `mark`
+-- what stands at a place of the two lists after `lines_and_columns`
 module _ (s l : List ℕ) (i : ℕ) (h : i ≤ length s) (k : length s < length l) where
   pub marked-line : getD (over l 0 (linesFrom s 0 (length s + 1))) i 0 ≡ placeOf s i .line
   marked-line = marked (λ k. placeOf s k .line) l (length s + 1) i (omega arith) (omega arith)

@@ -1,7 +1,7 @@
 -- What the functions inside the crate promise, and how far from its start a list may be laid over.
 use Prim.Native.Nat.{ℕ, _+_, _≤_}
 use mathlib.Core.List.{List, [], _∷_, _++_}
-use Rattle.laying.specs.Over.{Put}
+use Rattle.buffer.specs.Over.{Put}
 
 -- a place, and the length of a message, from which no sum leaves 64 bits
 abbrev pub farthest : ℕ

@@ -5,7 +5,7 @@ use mathlib.Core.Bool.{Bool, true, false}
 use mathlib.Core.List.{List, [], _∷_, _++_}
 use lib.Dec.{eqb}
 use Rattle.text.specs.Literal.{ascii}
-use Rattle.laying.specs.Decimal.{decimal}
+use Rattle.buffer.specs.Decimal.{decimal}
 
 -- a key, `=`, a value, byte 10
 abbrev pub line : String → List ℕ → List ℕ

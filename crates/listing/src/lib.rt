@@ -2,14 +2,14 @@
 ghost use Prim.Native.Nat.{_+_, _*_, _≤_, _<_};
 ghost use mathlib.Core.Path.{_≡_};
 ghost use lib.ListN.{length, drop};
-ghost use Rattle.laying.specs.Over.{Put, over};
-ghost use Rattle.laying.specs.Decimal.{decimal};
+ghost use Rattle.buffer.specs.Over.{Put, over};
+ghost use Rattle.buffer.specs.Decimal.{decimal};
 ghost use Rattle.table.specs.Inner.{wordsOf};
 ghost use Rattle.listing.specs.Lines.{tooLargeLines, refusedLines, checkedLines, findingLines, nameAt};
 ghost use Rattle.listing.specs.Marks.{linesFrom, columnsFrom};
 ghost use Rattle.listing.specs.Inner.{lineOf, farthest, Near};
-use laying::put;
-use laying::put_decimal;
+use buffer::put;
+use buffer::put_decimal;
 
 // The names by number, each ended by byte 10.
 const SEVERITY_NAMES: [u8; 19] = *b"error\nwarning\ninfo\n";
@@ -135,7 +135,7 @@ pub fn put_finding(
 }
 
 // Line and column of every place of a source, its end among them, one pass for all of them.
-pub fn mark(source: &[u8], lines: &mut [u32], columns: &mut [u32])
+pub fn lines_and_columns(source: &[u8], lines: &mut [u32], columns: &mut [u32])
     requires { ⌜ (length (now source) ≤ 1048576) × (length (now source) < length (now lines)) × (length (now source) < length (now columns)) ⌝ }
     ensures lines { λ _. ⌜ now (lines .exit) ≡ over (now (lines .entry)) 0 (linesFrom (now (source .entry)) 0 (length (now (source .entry)) + 1)) ⌝ }
     ensures columns { λ _. ⌜ now (columns .exit) ≡ over (now (columns .entry)) 0 (columnsFrom (now (source .entry)) 0 (length (now (source .entry)) + 1)) ⌝ }

@@ -6,9 +6,9 @@ use mathlib.Core.List.{List}
 use native.Mathlib.Omega.{arith}
 use lib.ListN.{length, take, drop}
 use lib.Seq.{take-at}
-use Rattle.laying.specs.Over.{Put}
-use Rattle.laying.proofs.Over.{over-fits, length-over}
-use Rattle.texts.proofs.Room.{put-length}
+use Rattle.buffer.specs.Over.{Put}
+use Rattle.buffer.proofs.Over.{over-fits, length-over}
+use Rattle.message_texts.proofs.Room.{put-length}
 
 module _ (s z x : List ℕ) (k : ℕ) (h : length s ≤ length z) (p : Put s z 0 x k) where
   pub inside : k ≤ length x

@@ -7,8 +7,8 @@ use Rattle.tape.specs.Nodes.{Node}
 use Rattle.findings.specs.Finding.{Finding}
 use Rattle.findings.specs.Written.{only}
 use Rattle.attributes.specs.Attributes.{pickFindings}
-use Rattle.validate.specs.Checks.{Check, given}
-use Rattle.validate.specs.Milestones.{sameBase, pickNodes, without}
+use Rattle.definition.specs.Checks.{Check, given}
+use Rattle.definition.specs.Milestones.{sameBase, pickNodes, without}
 
 abbrev pub AllOf : {A : Type 0} → (A → Type 0) → List A → Type 0
 AllOf P [] = Unit {0}

@@ -26,15 +26,15 @@ use Rattle.numbers.specs.Label.{labelOf, numbered}
 use Rattle.attributes.specs.Attributes.{attributeKinds, findingsAt, attributeFindings, pickFindings, attributesFindings}
 use Rattle.rows.specs.Cells.{Range}
 use Rattle.rows.specs.Row.{cellIn, outOfOrder, byColumns, rowFrom, rowFindings}
-use Rattle.validate.specs.State.{State, initial, outside, Around, Anchor, past}
-use Rattle.validate.specs.Checks.{about, error, warning, given, entryOf, letterByte, afterChapter, afterVerse, pickState, numberForm, chapterChecks, verseChecks, pickChecks, leafTold, bookCode, isBook, upper, fourNames, idName, trName, idChecks, afterId, attachedTo, placeChecks, contentChecks}
-use Rattle.validate.specs.Milestones.{isStart, isEnd, isMilestone, waits, pickNodes, openAfter, milestoneChecks, afterMilestone}
-use Rattle.validate.specs.Walk.{Walked, leafAnchor, openTold, inside, before, after, thenWalk, byEntry, walk}
-use Rattle.validate.specs.Document.{textBefore, unclosed, closing, walked, running}
-use Rattle.validate.specs.Outcome.{Lent, refusal, listOf}
-use Rattle.validate.proofs.Demand3.{checked-accepted}
-use Rattle.texts.specs.Texts.{documentTexts, numberTexts, markerTexts, attributeTexts}
-use Rattle.texts.specs.Filled.{allTexts, codeOf, formOf}
+use Rattle.definition.specs.State.{State, initial, outside, Around, Anchor, past}
+use Rattle.definition.specs.Checks.{about, error, warning, given, entryOf, letterByte, afterChapter, afterVerse, pickState, numberForm, chapterChecks, verseChecks, pickChecks, leafTold, bookCode, isBook, upper, numberMarkers, idName, trName, idChecks, afterId, attachedTo, placeChecks, contentChecks}
+use Rattle.definition.specs.Milestones.{isStart, isEnd, isMilestone, waits, pickNodes, openAfter, milestoneChecks, afterMilestone}
+use Rattle.definition.specs.Walk.{Walked, leafAnchor, openTold, inside, before, after, thenWalk, byEntry, walk}
+use Rattle.definition.specs.Document.{textBefore, unclosed, closing, walked, running}
+use Rattle.definition.specs.Outcome.{Lent, refusal, listOf}
+use Rattle.definition.proofs.Demand3.{checked-accepted}
+use Rattle.message_texts.specs.Texts.{documentTexts, numberTexts, markerTexts, attributeTexts}
+use Rattle.message_texts.specs.Filled.{allTexts, codeOf, formOf}
 use Rattle.messages.specs.Message.{askedOf, shownOf, textBy, messageText}
 use Rattle.messages.proofs.Every.{AllOf, all-append, all-without, WhenHeld, all-only, all-pick, all-given}
 use Rattle.messages.proofs.LowLetters.{next-low, breaks-some}
@@ -227,8 +227,8 @@ module _ (table s t : List ℕ) where
         book true h = tell 5 0 (rw (opens, middle (equal name idName) (not (eqb (length code) 0)) (not (isBook code)) h))
         book false h = tell 5 1 (rw (opens, middle (equal name idName) (not (eqb (length code) 0)) (not (isBook code)) h))
 
-        number : both (oneOf fourNames name) (both (oneOf fourNames written) (not (attachedTo a f (y .start)))) ≡ true → Has (warning y 33 0)
-        number h = tell 33 0 (rw (ne-eqb i 0 (omega arith), middle (oneOf fourNames name) (oneOf fourNames written) (not (attachedTo a f (y .start))) h))
+        number : both (oneOf numberMarkers name) (both (oneOf numberMarkers written) (not (attachedTo a f (y .start)))) ≡ true → Has (warning y 33 0)
+        number h = tell 33 0 (rw (ne-eqb i 0 (omega arith), middle (oneOf numberMarkers name) (oneOf numberMarkers written) (not (attachedTo a f (y .start))) h))
 
     milestone-checks : (st : State) → AllOf (WhenHeld Has) (milestoneChecks e st y)
     milestone-checks st =

@@ -16,7 +16,7 @@ use Rattle.table.specs.Entries.{Entry, Indexed}
 use Rattle.cursor.specs.Names.{namePart, nameOf}
 use Rattle.cursor.specs.Info.{infoAt}
 use Rattle.numbers.specs.Label.{labelOf, isGlued, baseLen, pickList}
-use Rattle.validate.specs.Checks.{fourNames}
+use Rattle.definition.specs.Checks.{numberMarkers}
 use Rattle.messages.specs.Inner.{nameOr, isTables}
 use Rattle.messages.proofs.Shown.{entry-sound}
 
@@ -94,7 +94,7 @@ entry-fits table words n ix t i name is = go (infoAt table t i) refl
         omega (arith, entry-sound table words n ix t i k z .short)
 
 -- none of the four names is empty
-pub four-named : (name : List ℕ) → oneOf fourNames name ≡ true → 1 ≤ length name
-unfolding oneOf fourNames equal
+pub four-named : (name : List ℕ) → oneOf numberMarkers name ≡ true → 1 ≤ length name
+unfolding oneOf numberMarkers equal
 four-named [] h = absurd (false≢true h)
 four-named (b ∷ bs) h = omega arith

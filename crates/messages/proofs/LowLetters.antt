@@ -16,7 +16,7 @@ use Rattle.text.specs.Number.{digits}
 use Rattle.text.proofs.Rows.{within-hi}
 use Rattle.numbers.specs.Verse.{Position, letterOf, withLetter, digitsEnd, partOf, versePart, endStart, verseEnd, next}
 use Rattle.numbers.specs.Verse as verse
-use Rattle.validate.specs.Checks.{letterByte, breaks, endOr, nextBy}
+use Rattle.definition.specs.Checks.{letterByte, breaks, endOr, nextBy}
 
 -- a letter that is read is no higher than `z`
 abbrev UpToZ : Option Position → Type 0

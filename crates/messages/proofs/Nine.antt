@@ -16,13 +16,13 @@ use Rattle.tape.specs.Forest.{Accepted}
 use Rattle.tape.specs.Reading.{Refusal, refuse, orElse, tapeRefusal}
 use Rattle.tape.proofs.OneNumber.{accepted, neither, either-false, only-not}
 use Rattle.numbers.specs.Label.{labelRefusal, pickList}
-use Rattle.validate.specs.Outcome.{Lent, of1, of2, of3, ofTape, of9, of10, refusal}
-use Rattle.marking.specs.Entry.{gateOf, listsRefusal, fromTape, fromTable}
-use Rattle.marking.proofs.Whole.{or-assoc}
-use Rattle.marking.specs.declared.Gate.{Gate}
-use Rattle.marking.specs.declared.Gate.the-variants as gate
-use Rattle.texts.specs.Inner.{LaidAs}
-use Rattle.laying.specs.Over.{over}
+use Rattle.definition.specs.Outcome.{Lent, of1, of2, of3, ofTape, of9, of10, refusal}
+use Rattle.validate.specs.Entry.{checkRefusal, listsRefusal, fromTape, fromTable}
+use Rattle.validate.proofs.Whole.{or-assoc}
+use Rattle.validate.specs.declared.InputCheck.{InputCheck}
+use Rattle.validate.specs.declared.InputCheck.the-variants as input
+use Rattle.message_texts.specs.Inner.{LaidAs}
+use Rattle.buffer.specs.Over.{over}
 use Rattle.messages.specs.Message.{Asked, messageText}
 use Rattle.messages.specs.Inner.{LaidBy}
 use Rattle.messages.specs.Told.{document, firstNine, Told, refused, laid, pickTold, byRoom, pickBytes, bytesBy}
@@ -46,12 +46,12 @@ module _ (table s t : List ℕ) where
       let d = document table s t in
       ap (orElse (of1 d)) (or-assoc (of2 d) (of3 d) (fromTape table s t 65535 65535) ∙ ap (λ (z : Option Refusal). orElse (of2 d) (orElse (of3 d) z)) (long-enough (tapeRefusal s t) refl))
 
-  module _ (g : Gate) (says : gateOf g ≡ fromTable table s t 65535 65535) where
-    pub shut : (a b : ℕ) → g ≡ gate.Shut a b → firstNine table s t ≡ refuse a b
-    shut a b e = sym nine ∙ sym says ∙ ap gateOf e
+  module _ (g : InputCheck) (says : checkRefusal g ≡ fromTable table s t 65535 65535) where
+    pub shut : (a b : ℕ) → g ≡ input.Refused a b → firstNine table s t ≡ refuse a b
+    shut a b e = sym nine ∙ sym says ∙ ap checkRefusal e
 
-    pub passed : (n : ℕ) → g ≡ gate.Open n → firstNine table s t ≡ none
-    passed n e = sym nine ∙ sym says ∙ ap gateOf e
+    pub passed : (n : ℕ) → g ≡ input.Accepted n → firstNine table s t ≡ none
+    passed n e = sym nine ∙ sym says ∙ ap checkRefusal e
 
   -- what numbers 1 to 9 leave
   module _ (nothing : firstNine table s t ≡ none) where

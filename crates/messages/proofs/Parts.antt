@@ -12,8 +12,8 @@ use Rattle.tape.specs.Nodes.{span, nodeAt}
 use Rattle.tape.specs.Forest.{forest, Nested, done, one, inner}
 use Rattle.tape.proofs.Nest.{forest-done, forest-leaf, forest-node}
 use Rattle.cursor.specs.Inner.{Run}
-use Rattle.validate.specs.Checks.{bookCode}
-use Rattle.texts.proofs.Filling.{pick-within}
+use Rattle.definition.specs.Checks.{bookCode}
+use Rattle.message_texts.proofs.Filling.{pick-within}
 use Rattle.messages.specs.Message.{letter}
 use Rattle.messages.proofs.Lengths.{cut-short}
 

@@ -9,10 +9,10 @@ use mathlib.Core.Option.{Option, some}
 use lib.Dec.{eqb}
 use borrow.Author.Tests.{eqb-true}
 use types.Run.{OneOf}
-use Rattle.texts.specs.Texts.{Code, Hole, documentTexts, numberTexts, markerTexts, attributeTexts}
-use Rattle.texts.specs.Texts as texts
-use Rattle.texts.specs.Filled.{allTexts, codeOf, formIn, filledBy, pickCode}
-use Rattle.texts.specs.Inner.{values}
+use Rattle.message_texts.specs.Texts.{Code, Hole, documentTexts, numberTexts, markerTexts, attributeTexts}
+use Rattle.message_texts.specs.Texts as texts
+use Rattle.message_texts.specs.Filled.{allTexts, codeOf, formIn, filledBy, pickCode}
+use Rattle.message_texts.specs.Inner.{values}
 use Rattle.messages.specs.Message.{Asked, shown, shownOf, textBy}
 use Rattle.messages.specs.Inner.{LaidBy, LaidWith}
 

@@ -20,11 +20,11 @@ use Rattle.cursor.specs.Info.{infoAt, hasMarker, onlyFor}
 use Rattle.cursor.specs.Inner.{Spanned}
 use Rattle.cursor.proofs.Around.{spanned}
 use Rattle.numbers.specs.Label.{labelOf, isGlued, numbered, pickList}
-use Rattle.validate.specs.Checks.{bookCode, fourNames}
-use Rattle.validate.specs.Milestones.{isStart, isEnd, baseOf}
-use Rattle.laying.specs.Decimal.{decimal}
-use Rattle.texts.specs.Texts as texts
-use Rattle.texts.specs.Inner.{values}
+use Rattle.definition.specs.Checks.{bookCode, numberMarkers}
+use Rattle.definition.specs.Milestones.{isStart, isEnd, baseOf}
+use Rattle.buffer.specs.Decimal.{decimal}
+use Rattle.message_texts.specs.Texts as texts
+use Rattle.message_texts.specs.Inner.{values}
 use Rattle.messages.specs.Message.{Asked, letter, labelIn, glued, nameIn, codeIn, isNumber, ofChapter, unitOf, hasBase, onlyIfTrue, shown, shownOf, three}
 use Rattle.messages.specs.Inner.{isTables, nameOr}
 
@@ -128,11 +128,11 @@ module _ (table s t : List ℕ) (q : Asked) where
   root-number h = rw (eq-eqb (q .node) 0 h)
 
   module _ (name : List ℕ) (is : name ≡ nameOf (x .text)) (n : q .node ≡ 0 → ⊥) where
-    pub no-number : oneOf fourNames name ≡ false → three (shown table s t q texts.numberName) (shown table s t q texts.owner) (shown table s t q texts.unit) ≡ none
+    pub no-number : oneOf numberMarkers name ≡ false → three (shown table s t q texts.numberName) (shown table s t q texts.owner) (shown table s t q texts.unit) ≡ none
     unfolding shownOf
     no-number h = rw (ne-eqb (q .node) 0 n, ← is, h)
 
-    pub number-shown : oneOf fourNames name ≡ true → three (shown table s t q texts.numberName) (shown table s t q texts.owner) (shown table s t q texts.unit) ≡ some (values name (take 1 name) (unitOf (eqb (getD name 0 0) 0x63)))
+    pub number-shown : oneOf numberMarkers name ≡ true → three (shown table s t q texts.numberName) (shown table s t q texts.owner) (shown table s t q texts.unit) ≡ some (values name (take 1 name) (unitOf (eqb (getD name 0 0) 0x63)))
     unfolding shownOf
     number-shown h = rw (ne-eqb (q .node) 0 n, ← is, h)
 

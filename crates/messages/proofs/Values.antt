@@ -4,10 +4,10 @@ use Prim.Native.Nat.{ℕ}
 use mathlib.Core.Path.{_≡_, refl}
 use mathlib.Core.List.{List}
 use mathlib.Core.Option.{Option, some, none}
-use Rattle.texts.specs.Texts.{Code, Hole, documentTexts, numberTexts, markerTexts, attributeTexts}
-use Rattle.texts.specs.Texts as texts
-use Rattle.texts.specs.Filled.{Values, allTexts, codeOf, textIn, filledBy}
-use Rattle.texts.specs.Inner.{values}
+use Rattle.message_texts.specs.Texts.{Code, Hole, documentTexts, numberTexts, markerTexts, attributeTexts}
+use Rattle.message_texts.specs.Texts as texts
+use Rattle.message_texts.specs.Filled.{Values, allTexts, codeOf, textIn, filledBy}
+use Rattle.message_texts.specs.Inner.{values}
 use Rattle.messages.specs.Message.{Asked, shown, three, textBy}
 use Rattle.messages.specs.Inner.{LaidBy, LaidWith}
 

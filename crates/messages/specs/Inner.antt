@@ -9,8 +9,8 @@ use Rattle.text.specs.Pick.{either, cut}
 use Rattle.tape.specs.Nodes.{count}
 use Rattle.tape.specs.Forest.{Accepted}
 use Rattle.table.specs.Entries.{Entry, Indexed}
-use Rattle.texts.specs.Filled.{allTexts, codeOf}
-use Rattle.texts.specs.Inner.{LaidAs, LaidFrom}
+use Rattle.message_texts.specs.Filled.{allTexts, codeOf}
+use Rattle.message_texts.specs.Inner.{LaidAs, LaidFrom}
 use Rattle.messages.specs.Message as message
 use Rattle.messages.specs.Message.{shown, textBy}
 use Rattle.messages.specs.Told as told

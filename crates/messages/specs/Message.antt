@@ -15,12 +15,12 @@ use Rattle.cursor.specs.Names.{nameOf}
 use Rattle.cursor.specs.Info.{infoAt}
 use Rattle.numbers.specs.Label.{isGlued, labelOf, numbered}
 use Rattle.findings.specs.Finding.{Finding}
-use Rattle.validate.specs.Checks.{bookCode, fourNames}
-use Rattle.validate.specs.Milestones.{isStart, isEnd, baseOf}
-use Rattle.laying.specs.Decimal.{decimal}
-use Rattle.texts.specs.Texts as texts
-use Rattle.texts.specs.Texts.{Hole, Code}
-use Rattle.texts.specs.Filled.{Values, allTexts, codeOf, formOf, filledBy}
+use Rattle.definition.specs.Checks.{bookCode, numberMarkers}
+use Rattle.definition.specs.Milestones.{isStart, isEnd, baseOf}
+use Rattle.buffer.specs.Decimal.{decimal}
+use Rattle.message_texts.specs.Texts as texts
+use Rattle.message_texts.specs.Texts.{Hole, Code}
+use Rattle.message_texts.specs.Filled.{Values, allTexts, codeOf, formOf, filledBy}
 
 -- what a text is asked for: of a finding's words, those that are looked at
 pub record Asked : Type 0 where
@@ -60,7 +60,7 @@ unitOf false = ascii "verse"
 
 -- "for code 33 one of its four names": the name as written, of which `ca` and `cp` are a chapter's; the root has no text
 abbrev pub isNumber : ℕ → Node → Bool
-isNumber i x = both (not (eqb i 0)) (oneOf fourNames (nameOf (x .text)))
+isNumber i x = both (not (eqb i 0)) (oneOf numberMarkers (nameOf (x .text)))
 
 abbrev pub ofChapter : Node → Bool
 ofChapter x = eqb (getD (nameOf (x .text)) 0 0) 0x63

@@ -6,8 +6,8 @@ use mathlib.Core.Option.{Option, some, none}
 use lib.Dec.{ltb}
 use lib.ListN.{length}
 use Rattle.tape.specs.Reading.{Refusal, orElse}
-use Rattle.validate.specs.Outcome.{Lent, of1, of2, of3, ofTape, of9}
-use Rattle.laying.specs.Over.{over}
+use Rattle.definition.specs.Outcome.{Lent, of1, of2, of3, ofTape, of9}
+use Rattle.buffer.specs.Over.{over}
 use Rattle.messages.specs.Message.{Asked, messageText}
 
 -- a document, with nothing else lent

@@ -1,6 +1,6 @@
 // The text of a finding: numbers 1 to 9, 12 and 13, or the Rust's text laid over a lent list from its start.
-use marking::Gate;
 use table::Info;
+use validate::InputCheck;
 ghost use mathlib.Core.Path.{_≡_};
 ghost use mathlib.Core.List.{List, [], _++_};
 ghost use mathlib.Core.Logic.{_⊎_};
@@ -16,14 +16,14 @@ ghost use Rattle.cursor.specs.Names.{nameOf};
 ghost use Rattle.cursor.specs.Info.{infoAt};
 ghost use Rattle.cursor.specs.Inner.{Spanned};
 ghost use Rattle.numbers.specs.Label.{labelOf, numbered, pickList};
-ghost use Rattle.validate.specs.Milestones.{endsIn};
-ghost use Rattle.laying.specs.Decimal.{decimal};
+ghost use Rattle.definition.specs.Milestones.{endsIn};
+ghost use Rattle.buffer.specs.Decimal.{decimal};
 ghost use Rattle.messages.specs.Message.{letter, unitOf, messageText};
 ghost use Rattle.messages.specs.Told as answers;
 ghost use Rattle.messages.specs.Told.{byRoom, bytesBy, bytesAfter};
 ghost use Rattle.messages.specs.Inner.{askedBy, toldOf, Readable, LaidBy, nameOr, isTables};
-ghost use Rattle.texts.specs.Filled.{allTexts};
-ghost use Rattle.texts.specs.Inner.{LaidFrom};
+ghost use Rattle.message_texts.specs.Filled.{allTexts};
+ghost use Rattle.message_texts.specs.Inner.{LaidFrom};
 
 // Of a finding's words, those that a text is asked for with.
 pub struct Asked {
@@ -96,9 +96,9 @@ fn lay_numbers(code: u64, form: u64, first: u64, second: u64, out: &mut [u8]) ->
 {
     let mut x = [0u8; 20];
     let mut y = [0u8; 20];
-    let k = laying::put_decimal(&mut x, 0, first);
-    let m = laying::put_decimal(&mut y, 0, second);
-    texts::lay_text(code, form, &x[..k], &y[..m], b"", out)
+    let k = buffer::put_decimal(&mut x, 0, first);
+    let m = buffer::put_decimal(&mut y, 0, second);
+    message_texts::lay_text(code, form, &x[..k], &y[..m], b"", out)
 }
 
 // A text of a verse position, whose letter is a byte or none, and a label.
@@ -114,13 +114,13 @@ fn lay_position(
     ensures { λ r. ⌜ LaidFrom allTexts code form (decimal first ++ letter second) (now (label .entry)) [] (now (out .entry)) (now (out .exit)) r ⌝ }
 {
     let mut x = [0u8; 21];
-    let k = laying::put_decimal(&mut x, 0, first);
+    let k = buffer::put_decimal(&mut x, 0, first);
     if second == 0 {
-        return texts::lay_text(code, form, &x[..k], label, b"", out);
+        return message_texts::lay_text(code, form, &x[..k], label, b"", out);
     }
     let last = [second as u8];
-    let m = laying::put(&mut x, k, &last);
-    texts::lay_text(code, form, &x[..m], label, b"", out)
+    let m = buffer::put(&mut x, k, &last);
+    message_texts::lay_text(code, form, &x[..m], label, b"", out)
 }
 
 // InvalidVerseSequence.
@@ -163,7 +163,7 @@ fn lay_label(
     if label.len() == 0 {
         return 0;
     }
-    texts::lay_text(q.code, q.form, label, b"", b"", out)
+    message_texts::lay_text(q.code, q.form, label, b"", b"", out)
 }
 
 // A name, the label that is glued to it, and what the name is without it.
@@ -172,7 +172,7 @@ fn lay_parts(code: u64, form: u64, name: &[u8], label: &[u8], out: &mut [u8]) ->
     ensures { λ r. ⌜ LaidFrom allTexts code form (now (name .entry)) (take (length (now (name .entry)) - length (now (label .entry))) (now (name .entry))) (now (label .entry)) (now (out .entry)) (now (out .exit)) r ⌝ }
 {
     let end = name.len() - label.len();
-    texts::lay_text(code, form, name, &name[..end], label, out)
+    message_texts::lay_text(code, form, name, &name[..end], label, out)
 }
 
 // MissingSpaceBeforeNumber.
@@ -223,7 +223,7 @@ fn lay_entry<'a>(
     if name.len() == 0 {
         return 0;
     }
-    texts::lay_text(q.code, q.form, name, b"", b"", out)
+    message_texts::lay_text(q.code, q.form, name, b"", b"", out)
 }
 
 // MilestoneMismatch.
@@ -247,7 +247,7 @@ fn lay_base<'a>(
     if !is_paired(name) {
         return 0;
     }
-    texts::lay_text(q.code, q.form, milestones::base(name), b"", b"", out)
+    message_texts::lay_text(q.code, q.form, milestones::base(name), b"", b"", out)
 }
 
 // Whether a name is a milestone's start or end.
@@ -281,7 +281,7 @@ fn lay_owner<'a>(
     }
     let i = q.first as usize;
     let name = name_shown(table, words, entries, source, tape, i, q.code);
-    texts::lay_text(q.code, q.form, name, b"", b"", out)
+    message_texts::lay_text(q.code, q.form, name, b"", b"", out)
 }
 
 // A name of an alternate or a published number, the letter of its owner's marker and what its owner is.
@@ -290,9 +290,9 @@ fn lay_unit(code: u64, form: u64, name: &[u8], out: &mut [u8]) -> usize
     ensures { λ r. ⌜ LaidFrom allTexts code form (now (name .entry)) (take 1 (now (name .entry))) (unitOf (eqb (getD (now (name .entry)) 0 0) 0x63)) (now (out .entry)) (now (out .exit)) r ⌝ }
 {
     if name[0] == b'c' {
-        return texts::lay_text(code, form, name, &name[..1], b"chapter", out);
+        return message_texts::lay_text(code, form, name, &name[..1], b"chapter", out);
     }
-    texts::lay_text(code, form, name, &name[..1], b"verse", out)
+    message_texts::lay_text(code, form, name, &name[..1], b"verse", out)
 }
 
 // MisplacedNumberMarker.
@@ -313,7 +313,7 @@ fn lay_number<'a>(
     }
     let i = q.node as usize;
     let name = name_shown(table, words, entries, source, tape, i, q.code);
-    if !opens::is_one_of_four(name) {
+    if !marker_checks::is_number_marker(name) {
         return 0;
     }
     lay_unit(q.code, q.form, name, out)
@@ -328,11 +328,11 @@ fn lay_book(source: &[u8], tape: &[u8], q: Asked, out: &mut [u8]) -> usize
     if tape::kind_at(tape, i) != 1 {
         return 0;
     }
-    let code = opens::book_code(source, tape, i + 1, tape::link_at(tape, i) as usize);
+    let code = marker_checks::book_code(source, tape, i + 1, tape::link_at(tape, i) as usize);
     if code.len() == 0 {
         return 0;
     }
-    texts::lay_text(q.code, q.form, code, b"", b"", out)
+    message_texts::lay_text(q.code, q.form, code, b"", b"", out)
 }
 
 // The text that is asked for, its values by its code.
@@ -362,7 +362,7 @@ fn lay<'a>(
         32 => lay_owner(table, words, entries, source, tape, q, out),
         33 => lay_number(table, words, entries, source, tape, q, out),
         34 => lay_glued(table, words, entries, source, tape, q, out),
-        _ => texts::lay_text(q.code, q.form, b"", b"", b"", out),
+        _ => message_texts::lay_text(q.code, q.form, b"", b"", b"", out),
     }
 }
 
@@ -399,8 +399,8 @@ pub fn message<'a>(table: &'a [u8], source: &'a [u8], tape: &[u8], q: Asked, out
     ensures bytes { λ r. ⌜ now (out .exit) ≡ bytesAfter (now (table .entry)) (now (source .entry)) (now (tape .entry)) (askedBy q) (now (out .entry)) ⌝ }
 {
     let mut words = [0u64; 512];
-    match marking::table_gate(table, &mut words, source, tape, 65535, 65535) {
-        Gate::Shut(number, place) => Told::Refused(number, place),
-        Gate::Open(entries) => message_in(table, &words, entries, source, tape, q, out),
+    match validate::check_input(table, &mut words, source, tape, 65535, 65535) {
+        InputCheck::Refused(number, place) => Told::Refused(number, place),
+        InputCheck::Accepted(entries) => message_in(table, &words, entries, source, tape, q, out),
     }
 }

@@ -1,11 +1,11 @@
 -- Written by proof_writer/write from proof_writer/descriptions/milestones.py, from the code and its contracts.
 -- The contract of `milestones::after_pair`, for its own walk and for the walks that call it: its symbol and its result; what is passed; what is asked of that; what is said of it, of the result r and of the last values z. `known` shows that it is the contract.
-use Rattle.references.proofs.Call.{Terms, stated-as, val, shr, mut, of-number, of-struct, of-enum, w64, u8, u64, [], _∷_, Known, bound-at, rule-of, cited}
+use Rattle.reference_laws.proofs.Call.{Terms, stated-as, val, shr, mut, of-number, of-struct, of-enum, w64, u8, u64, [], _∷_, Known, bound-at, rule-of, cited}
 use Prim.Native.Nat.{_<_}
 use Rattle.tape.specs.Nodes.{count}
 use Rattle.milestones.specs.Inner.{Counted, Countable}
 use Rattle.milestones.proofs.Paired as Paired-T
-use Rattle.running.proofs.Record as Record-T
+use Rattle.state.proofs.Record as Record-T
 use Rattle.milestones.proofs.after_pair as after-pair-F
 
 abbrev pub terms : Terms

@@ -1,6 +1,6 @@
 -- Written by proof_writer/write from proof_writer/descriptions/milestones.py, from the code and its contracts.
 -- The contract of `milestones::step_of`, for its own walk and for the walks that call it: its symbol and its result; what is passed; what is asked of that; what is said of it, of the result r and of the last values z. `known` shows that it is the contract.
-use Rattle.references.proofs.Call.{Terms, stated-as, val, shr, of-number, of-struct, of-enum, w64, u8, [], _∷_, Known, bound-at, rule-of, cited}
+use Rattle.reference_laws.proofs.Call.{Terms, stated-as, val, shr, of-number, of-struct, of-enum, w64, u8, [], _∷_, Known, bound-at, rule-of, cited}
 use Prim.Native.Nat.{_<_}
 use Rattle.table.specs.Entries.{entryOfInfo}
 use Rattle.cursor.specs.Inner.{Spanned}

@@ -23,7 +23,7 @@ use Rattle.table.proofs.Category as declared
 use Rattle.table.proofs.Words.{equal-apart, equal-ends}
 use Rattle.cursor.specs.Names.{namePart, nameOf}
 use Rattle.numbers.proofs.Labels.{part-from}
-use Rattle.validate.specs.Milestones.{endsIn, baseOf}
+use Rattle.definition.specs.Milestones.{endsIn, baseOf}
 use Rattle.milestones.specs.Inner.{baseIn, named, Measured}
 
 pub too-short : (name : List ℕ) (letter : ℕ) → length name < 2 → false ≡ endsIn letter name

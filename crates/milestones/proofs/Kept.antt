@@ -9,9 +9,9 @@ use mathlib.Core.List.{List, _∷_}
 use lib.ListN.{length, getD, set, length-set}
 use lib.Seq.{getD-set-same, getD-set-other}
 use Rattle.tape.specs.Nodes.{Node, nodeAt}
-use Rattle.validate.specs.Outcome.{noStart}
-use Rattle.validate.specs.declared.OpenStart.{OpenStart}
-use Rattle.running.specs.Running.{starts, Opens}
+use Rattle.definition.specs.Outcome.{noStart}
+use Rattle.definition.specs.declared.OpenStart.{OpenStart}
+use Rattle.state.specs.Running.{starts, Opens}
 use Rattle.milestones.specs.Inner.{Measured}
 use Rattle.milestones.proofs.Search.{Gone, entry}
 

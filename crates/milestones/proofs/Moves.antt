@@ -6,8 +6,8 @@ use mathlib.Core.Path.{_≡_, refl, sym, ap, subst, _∙_}
 use mathlib.Core.List.{List, _++_}
 use lib.ListN.{length, getD, set, take, drop, length-set, length-drop, List·getD-append}
 use lib.Seq.{paste, paste-suc, paste-zero, length-paste, length-paste-head, drop-paste, getD-drop, getD-take, getD-append-add, length-take-le}
-use Rattle.validate.specs.Outcome.{noStart}
-use Rattle.validate.specs.declared.OpenStart.{OpenStart}
+use Rattle.definition.specs.Outcome.{noStart}
+use Rattle.definition.specs.declared.OpenStart.{OpenStart}
 use Rattle.milestones.specs.Inner.{removed}
 use Rattle.milestones.proofs.Search.{Gone}
 

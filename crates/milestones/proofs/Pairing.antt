@@ -10,11 +10,11 @@ use Rattle.table.specs.Bytes.{equal}
 use Rattle.table.specs.Entries.{Entry}
 use Rattle.tape.specs.Nodes.{nodeAt}
 use Rattle.cursor.specs.Inner.{Spanned}
-use Rattle.validate.specs.Milestones.{baseOf}
-use Rattle.validate.specs.Outcome.{noStart}
-use Rattle.validate.specs.declared.OpenStart.{OpenStart}
-use Rattle.running.specs.Running.{Opens}
-use Rattle.running.specs.declared.Record.{Record}
+use Rattle.definition.specs.Milestones.{baseOf}
+use Rattle.definition.specs.Outcome.{noStart}
+use Rattle.definition.specs.declared.OpenStart.{OpenStart}
+use Rattle.state.specs.Running.{Opens}
+use Rattle.state.specs.declared.Record.{Record}
 use Rattle.milestones.specs.Inner.{Measured, Read, Placed, baseAt, nearestIn, removed, takenBy, opensBy, pairedBy, Counted, Countable}
 use Rattle.milestones.specs.Steps.{Milestoned, Steppable}
 use Rattle.milestones.specs.declared.Step.{Step}

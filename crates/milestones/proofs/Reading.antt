@@ -18,7 +18,7 @@ use Rattle.cursor.specs.Names.{nameOf}
 use Rattle.cursor.specs.Inner.{Named}
 use Rattle.cursor.proofs.Named.{name-cut}
 use Rattle.numbers.proofs.Labels.{part-from}
-use Rattle.validate.specs.Milestones.{endsIn, isStart, isMilestone, baseOf}
+use Rattle.definition.specs.Milestones.{endsIn, isStart, isMilestone, baseOf}
 use Rattle.milestones.specs.Inner.{baseIn, Read}
 use Rattle.milestones.specs.declared.Step.the-variants as step
 use Rattle.milestones.proofs.Endings.{too-short}

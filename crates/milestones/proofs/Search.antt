@@ -9,10 +9,10 @@ use lib.ListN.{getD}
 use Rattle.text.specs.Pick.{either}
 use Rattle.tape.specs.Nodes.{Node, nodeAt}
 use Rattle.table.specs.Bytes.{equal}
-use Rattle.validate.specs.Milestones.{baseOf, sameBase, waits, pickNodes, without}
-use Rattle.running.specs.Running.{starts, Opens}
-use Rattle.validate.specs.Outcome.{noStart}
-use Rattle.validate.specs.declared.OpenStart.{OpenStart}
+use Rattle.definition.specs.Milestones.{baseOf, sameBase, waits, pickNodes, without}
+use Rattle.state.specs.Running.{starts, Opens}
+use Rattle.definition.specs.Outcome.{noStart}
+use Rattle.definition.specs.declared.OpenStart.{OpenStart}
 use Rattle.milestones.specs.Inner.{Measured, pickFound, nearestIn}
 use Rattle.milestones.specs.declared.Found.{Found}
 use Rattle.milestones.specs.declared.Found.the-variants.{At, Nothing}

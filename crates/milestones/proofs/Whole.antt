@@ -13,11 +13,11 @@ use Rattle.cursor.specs.Inner.{Spanned}
 use Rattle.findings.specs.Finding.{Finding}
 use Rattle.findings.specs.declared.Counts.{Counts}
 use Rattle.findings.specs.Written.{counted, overlay, only, Wrote, Room}
-use Rattle.validate.specs.Checks.{given, when, error}
-use Rattle.validate.specs.Milestones.{isStart, isMilestone, baseOf, waits, milestoneChecks, pickNodes, openAfter, without, withOpen, afterMilestone}
-use Rattle.validate.specs.declared.OpenStart.{OpenStart}
-use Rattle.running.specs.Running.{starts, stateOf, countsOf, withCounts, Opens}
-use Rattle.running.specs.declared.Record.{Record}
+use Rattle.definition.specs.Checks.{given, when, error}
+use Rattle.definition.specs.Milestones.{isStart, isMilestone, baseOf, waits, milestoneChecks, pickNodes, openAfter, without, withOpen, afterMilestone}
+use Rattle.definition.specs.declared.OpenStart.{OpenStart}
+use Rattle.state.specs.Running.{starts, stateOf, countsOf, withCounts, Opens}
+use Rattle.state.specs.declared.Record.{Record}
 use Rattle.milestones.specs.Inner.{Measured, Read, nearestIn, removed, takenBy, opensBy, pairedBy, withOpens, ToldAlone, Counted, Countable}
 use Rattle.milestones.specs.Steps.{Stepped, Milestoned}
 use Rattle.milestones.specs.declared.Step.{Step}

@@ -11,12 +11,12 @@ use Rattle.table.specs.Bytes.{equal}
 use Rattle.table.specs.Entries.{Entry}
 use Rattle.cursor.specs.Inner.{Spanned}
 use Rattle.findings.specs.Written.{Wrote, Room}
-use Rattle.validate.specs.Checks.{error}
-use Rattle.validate.specs.Milestones.{endsIn, isStart, isMilestone, baseOf}
-use Rattle.validate.specs.Outcome.{noStart}
-use Rattle.validate.specs.declared.OpenStart.{OpenStart}
-use Rattle.running.specs.Running.{countsOf, withCounts}
-use Rattle.running.specs.declared.Record.{Record}
+use Rattle.definition.specs.Checks.{error}
+use Rattle.definition.specs.Milestones.{endsIn, isStart, isMilestone, baseOf}
+use Rattle.definition.specs.Outcome.{noStart}
+use Rattle.definition.specs.declared.OpenStart.{OpenStart}
+use Rattle.state.specs.Running.{countsOf, withCounts}
+use Rattle.state.specs.declared.Record.{Record}
 use Rattle.milestones.specs.declared.Step.{Step}
 use Rattle.milestones.specs.declared.Step.the-variants as step
 use Rattle.milestones.specs.declared.Paired.{Paired}

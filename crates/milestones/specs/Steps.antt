@@ -7,11 +7,11 @@ use Rattle.tape.specs.Nodes.{nodeAt}
 use Rattle.table.specs.Entries.{Entry}
 use Rattle.findings.specs.Written.{Wrote, Room}
 use Rattle.cursor.specs.Inner.{Spanned}
-use Rattle.validate.specs.Checks.{given}
-use Rattle.validate.specs.Milestones.{milestoneChecks, afterMilestone}
-use Rattle.validate.specs.declared.OpenStart.{OpenStart}
-use Rattle.running.specs.Running.{stateOf, countsOf, withCounts, Opens}
-use Rattle.running.specs.declared.Record.{Record}
+use Rattle.definition.specs.Checks.{given}
+use Rattle.definition.specs.Milestones.{milestoneChecks, afterMilestone}
+use Rattle.definition.specs.declared.OpenStart.{OpenStart}
+use Rattle.state.specs.Running.{stateOf, countsOf, withCounts, Opens}
+use Rattle.state.specs.declared.Record.{Record}
 
 -- the record and the open starts are those after node i with its table entry; the chapters seen may be any
 pub record Stepped (e : Entry) (s t : List ℕ) (i : ℕ) (opens : List OpenStart) (r : Record) (opens′ : List OpenStart) (q : Record) : Type 0 where

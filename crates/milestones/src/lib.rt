@@ -1,8 +1,8 @@
 // Milestones: starts and ends by their names, and the open starts, a lent list of records.
+use definition::OpenStart;
 use findings::Severity;
-use running::Record;
+use state::Record;
 use table::MarkerInfo;
-use validate::OpenStart;
 ghost use mathlib.Core.Path.{_≡_};
 ghost use mathlib.Core.List.{[], _∷_};
 ghost use Prim.Native.Nat.{_+_, _<_, _≤_};
@@ -12,9 +12,9 @@ ghost use Rattle.table.specs.Bytes.{equal};
 ghost use Rattle.table.specs.Entries.{Entry, entryOfInfo};
 ghost use Rattle.cursor.specs.Inner.{Spanned};
 ghost use Rattle.findings.specs.Written.{Room};
-ghost use Rattle.validate.specs.Checks.{given, error};
-ghost use Rattle.validate.specs.Milestones.{endsIn, baseOf, milestoneChecks};
-ghost use Rattle.running.specs.Running.{stateOf, countsOf, Opens};
+ghost use Rattle.definition.specs.Checks.{given, error};
+ghost use Rattle.definition.specs.Milestones.{endsIn, baseOf, milestoneChecks};
+ghost use Rattle.state.specs.Running.{stateOf, countsOf, Opens};
 ghost use Rattle.milestones.specs.Inner.{baseIn, Measured, Read, Placed, baseAt, nearestIn, removed, takenBy, opensBy, pairedBy, withOpens, ToldAlone, Counted, Countable};
 ghost use Rattle.milestones.specs.Steps.{Milestoned, Steppable};
 
@@ -92,7 +92,7 @@ pub fn step_of(m: MarkerInfo, source: &[u8], tape: &[u8], i: usize) -> Step
     requires { ⌜ (Spanned (now source) (now tape) i) × (i < 4294967296) ⌝ }
     ensures { λ r. ⌜ Read (entryOfInfo m) (now (source .entry)) (now (tape .entry)) i r ⌝ }
 {
-    if running::is_of(m, 6) {
+    if state::is_of(m, 6) {
         return step_named(source, tape, i);
     }
     Step::Neither
@@ -143,7 +143,7 @@ fn tell_alone(tape: &[u8], i: usize, rec: Record, list: &mut [u64]) -> Record
     requires { ⌜ (i < count (now tape)) × Room (countsOf rec) (error (nodeAt [] (now tape) i) 16 1 ∷ []) ⌝ }
     ensures { λ r. ⌜ ToldAlone (now (tape .entry)) i (now (list .entry)) rec (now (list .exit)) r ⌝ }
 {
-    let f = running::about(
+    let f = state::about(
         tape,
         i,
         Severity::Error,
@@ -152,7 +152,7 @@ fn tell_alone(tape: &[u8], i: usize, rec: Record, list: &mut [u64]) -> Record
         0,
         0,
     );
-    running::with_counts(rec, findings::push(list, running::counts(rec), f))
+    state::with_counts(rec, findings::push(list, state::counts(rec), f))
 }
 
 // The latest of the first k open starts with the base that stands at a place of the source.

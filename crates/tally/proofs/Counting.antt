@@ -13,9 +13,9 @@ use lib.ListN.{length, getD, set, replicate, length-set, length-replicate, getD-
 use lib.Seq.{getD-set-same, getD-set-other, set-out, ext-getD}
 use borrow.Author.Tests.{eq-eqb, ne-eqb}
 use Rattle.text.specs.Pick.{pickNat}
-use Rattle.laying.specs.Over.{over}
-use Rattle.laying.proofs.Over.{length-over, over-again, set-over, getD-over}
-use Rattle.laying.proofs.Laying.{Laying, laying-first}
+use Rattle.buffer.specs.Over.{over}
+use Rattle.buffer.proofs.Over.{length-over, over-again, set-over, getD-over}
+use Rattle.buffer.proofs.Laying.{Laying, laying-first}
 use Rattle.findings.specs.Finding.{codes}
 use Rattle.tally.specs.Tally.{codeAt, whole, withCode, countsFrom, tallyOf}
 

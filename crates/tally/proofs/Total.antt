@@ -14,8 +14,8 @@ use Rattle.findings.specs.Finding.{Finding, codes, wordsOf}
 use Rattle.findings.specs.Written.{encode}
 use Rattle.findings.proofs.Overlay.{overlay-is, encode-length}
 use Rattle.tape.specs.Forest.{top}
-use Rattle.validate.proofs.Counted.{Graded, graded}
-use Rattle.validate.specs.Outcome.{Lent, refusal, listOf, listAfter}
+use Rattle.definition.proofs.Counted.{Graded, graded}
+use Rattle.definition.specs.Outcome.{Lent, refusal, listOf, listAfter}
 use Rattle.tally.specs.Tally.{whole, badRecord, tallyRefusal, tallyOf, sum}
 use Rattle.tally.proofs.Sums.{tally-sums}
 

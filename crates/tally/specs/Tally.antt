@@ -9,7 +9,7 @@ use Rattle.text.specs.Pick.{either, pickNat}
 use Rattle.tape.specs.Reading.{Refusal, refuse, onlyIf, orElse, firstBad, isNone}
 use Rattle.findings.specs.Finding.{codes}
 use Rattle.findings.specs.Written.{pickWords}
-use Rattle.laying.specs.Over.{over}
+use Rattle.buffer.specs.Over.{over}
 use Rattle.tally.specs.declared.Tallied.{Tallied}
 use Rattle.tally.specs.declared.Tallied.the-variants.{Counted, Refused}
 

@@ -3,7 +3,7 @@ ghost use mathlib.Core.Path.{_≡_};
 ghost use mathlib.Core.Option.{none};
 ghost use Prim.Native.Nat.{_<_};
 ghost use lib.ListN.{replicate};
-ghost use Rattle.laying.specs.Over.{over};
+ghost use Rattle.buffer.specs.Over.{over};
 ghost use Rattle.findings.specs.Finding.{codes};
 ghost use Rattle.tally.specs.Tally.{whole, badRecord, tallyRefusal, tallyOf, countsAfter, answerOf};
 

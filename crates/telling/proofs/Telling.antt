@@ -13,8 +13,8 @@ use lib.ListN.{length, take, drop, length-append, length-drop, drop-of-length-le
 use lib.Seq.{take-all}
 use borrow.Author.Tests.{le-ltb, eq-eqb, ne-eqb, ltb-false}
 use borrow.Rule.Slice.PartMut.{midOf, putMid, put-same, mid-len}
-use Rattle.laying.specs.Over.{over}
-use Rattle.laying.proofs.Over.{over-over, over-none, over-past, length-over}
+use Rattle.buffer.specs.Over.{over}
+use Rattle.buffer.proofs.Over.{over-over, over-none, over-past, length-over}
 use Rattle.messages.specs.Inner.{toldOf}
 use Rattle.messages.specs.declared.Told as declared
 use Rattle.messages.specs.declared.Told.the-variants as answer

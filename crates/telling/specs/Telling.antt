@@ -6,7 +6,7 @@ use mathlib.Core.Option.{Option, some, none}
 use lib.Dec.{eqb, ltb}
 use lib.ListN.{length, getD}
 use Rattle.tape.specs.Reading.{Refusal}
-use Rattle.laying.specs.Over.{over}
+use Rattle.buffer.specs.Over.{over}
 use Rattle.messages.specs.Message.{Asked, messageText}
 use Rattle.messages.specs.Told.{firstNine}
 use Rattle.telling.specs.declared.Texts as declared

@@ -1,13 +1,13 @@
 // The texts of a list's findings, one behind another, by one reading of the document.
-use marking::Gate;
 use messages::Asked;
 use messages::Told;
+use validate::InputCheck;
 ghost use mathlib.Core.Path.{_≡_};
 ghost use Prim.Native.Nat.{_<_, _≤_};
 ghost use lib.ListN.{length};
 ghost use Rattle.tape.specs.Forest.{Accepted};
 ghost use Rattle.table.specs.Entries.{Indexed};
-ghost use Rattle.laying.specs.Over.{over};
+ghost use Rattle.buffer.specs.Over.{over};
 ghost use Rattle.messages.specs.Inner.{askedBy};
 ghost use Rattle.telling.specs.Telling as answers;
 ghost use Rattle.telling.specs.Telling.{askedAt, whole, textAt, textsOf, joined, endsFrom, toldBy, toldOf, bytesAfter, endsAfter};
@@ -83,8 +83,17 @@ pub fn tell<'a>(
     ensures ends { λ r. ⌜ now (ends .exit) ≡ endsAfter (now (table .entry)) (now (source .entry)) (now (tape .entry)) (now (list .entry)) (length (now (out .entry))) (now (ends .entry)) ⌝ }
 {
     let mut words = [0u64; 512];
-    match marking::table_gate(table, &mut words, source, tape, 65535, 65535) {
-        Gate::Shut(number, place) => Texts::Refused(number, place),
-        Gate::Open(entries) => tell_in(table, &words, entries, source, tape, list, ends, out),
+    match validate::check_input(table, &mut words, source, tape, 65535, 65535) {
+        InputCheck::Refused(number, place) => Texts::Refused(number, place),
+        InputCheck::Accepted(entries) => tell_in(
+            table,
+            &words,
+            entries,
+            source,
+            tape,
+            list,
+            ends,
+            out,
+        ),
     }
 }

@@ -1,7 +1,1 @@
-pub mod State
-pub mod Checks
-pub mod Walk
-pub mod Milestones
-pub mod Document
-pub mod Outcome
-pub mod Examples
+pub mod Entry

@@ -1,21 +1,21 @@
 -- Written by proof_writer/write from proof_writer/descriptions/by_words.py, from the code and its contracts.
 -- The walk of `by_words::check_with`.
-use Rattle.references.proofs.Walk.{refl, sym, subst, _∙_, _≤_, _*_, [], _∷_, _++_, length, take, skip, URA, Heap, Tables, Atoms, givenOf, tables, Given, _$_, !, move, keep, stop, hop, fld, from, addr, of-opd, and-then, no-more, agg, whole, sub, look-in, SizeOf, part, part-length, Rule, rule-of, Knows, calls-any, Facing, WalkFor, proves, ends, span, cell, sets, relands-at, reslices, calls-into, lends-part, backs-part}
+use Rattle.reference_laws.proofs.Walk.{refl, sym, subst, _∙_, _≤_, _*_, [], _∷_, _++_, length, take, skip, URA, Heap, Tables, Atoms, givenOf, tables, Given, _$_, !, move, keep, stop, hop, fld, from, addr, of-opd, and-then, no-more, agg, whole, sub, look-in, SizeOf, part, part-length, Rule, rule-of, Knows, calls-any, Facing, WalkFor, proves, ends, span, cell, sets, relands-at, reslices, calls-into, lends-part, backs-part}
 use prog.Wp.{afterTurn}
 use contract.Running.{tablesOf}
 use denote.Enum.Laws as EL
-use Rattle.marking.proofs.Answer as Answer-T
-use Rattle.marking.proofs.Answer.Laws as Answer-L
-use Rattle.validate.proofs.OpenStart as OpenStart-T
+use Rattle.validate.proofs.Answer as Answer-T
+use Rattle.validate.proofs.Answer.Laws as Answer-L
+use Rattle.definition.proofs.OpenStart as OpenStart-T
 use Rattle.by_words.proofs.CallCheckWith as check-with-C
 use Rattle.by_words.proofs.CallReadRecords as read-records-C
-use Rattle.marking.proofs.CallCheck as check-C
+use Rattle.validate.proofs.CallCheck as check-C
 use Rattle.by_words.proofs.CallWriteRecords as write-records-C
 use Rattle.by_words.proofs.check_with.Code as code
 use Rattle.by_words.proofs.check_with.Statement as stated
 use Rattle.by_words.proofs.check_with.Key as key
 use Rattle.by_words.proofs.read_records as read-records-F
-use Rattle.marking.proofs.check as check-F
+use Rattle.validate.proofs.check as check-F
 use Rattle.by_words.proofs.write_records as write-records-F
 
 module _ {M : Type 1} (𝓤 : URA M) (H : Heap 𝓤) (A : Atoms 𝓤) (W : Given 𝓤 H A) (𝓣 : Tables 𝓤 H) (known-read-records : Knows 𝓤 H A (𝓣 .C) read-records-C.terms) (known-check : Knows 𝓤 H A (𝓣 .C) check-C.terms) (known-write-records : Knows 𝓤 H A (𝓣 .C) write-records-C.terms) where
@@ -34,4 +34,4 @@ pub check-with-spec : {M : Type 1} → stated.statement M
 unfolding code.routine tablesOf
 check-with-spec 𝓤 H 𝓜 𝓖 𝓡 y =
     proves 𝓤 H 𝓜 𝓖 𝓡 code.env key.name code.function (code.unfolded 𝓤 H 𝓜 𝓡) check-with-C.terms (y .0 .0) (y .0 .1) (y .0 .3) (y .0 .4) (refl, tt)
-    (walk 𝓤 H (𝓖 .A) (givenOf 𝓤 H 𝓜 𝓖) (tablesOf 𝓤 H 𝓜 (tables 𝓤 H 𝓜 𝓡 code.env)) (read-records-C.known _ 𝓤 H 𝓜 𝓖 𝓡 code.env _ code.calls-by-words·read-records (read-records-F.Met.met 𝓤 H 𝓜 𝓖 𝓡)) (check-C.known _ 𝓤 H 𝓜 𝓖 𝓡 code.env _ code.calls-marking·check (check-F.Met.met 𝓤 H 𝓜 𝓖 𝓡)) (write-records-C.known _ 𝓤 H 𝓜 𝓖 𝓡 code.env _ code.calls-by-words·write-records (write-records-F.Met.met 𝓤 H 𝓜 𝓖 𝓡)))
+    (walk 𝓤 H (𝓖 .A) (givenOf 𝓤 H 𝓜 𝓖) (tablesOf 𝓤 H 𝓜 (tables 𝓤 H 𝓜 𝓡 code.env)) (read-records-C.known _ 𝓤 H 𝓜 𝓖 𝓡 code.env _ code.calls-by-words·read-records (read-records-F.Met.met 𝓤 H 𝓜 𝓖 𝓡)) (check-C.known _ 𝓤 H 𝓜 𝓖 𝓡 code.env _ code.calls-validate·check (check-F.Met.met 𝓤 H 𝓜 𝓖 𝓡)) (write-records-C.known _ 𝓤 H 𝓜 𝓖 𝓡 code.env _ code.calls-by-words·write-records (write-records-F.Met.met 𝓤 H 𝓜 𝓖 𝓡)))

@@ -1,13 +1,13 @@
 -- Written by proof_writer/write from proof_writer/descriptions/by_words.py, from the code and its contracts.
 -- The walk of `by_words::check_words`.
-use Rattle.references.proofs.Walk.{refl, _≤_, _*_, [], _∷_, length, lit<, URA, Heap, Tables, Atoms, givenOf, tables, Given, _$_, !, move, keep, stop, from, lit, addr, of-opd, and-then, no-more, agg, Is, Rule, rule-of, Knows, Facing, WalkFor, proves, ends, span, array, fills-array, cell, cell-field, sets, big-lit, reslices, calls-into, lends-array, backs-array, frees-array}
+use Rattle.reference_laws.proofs.Walk.{refl, _≤_, _*_, [], _∷_, length, lit<, URA, Heap, Tables, Atoms, givenOf, tables, Given, _$_, !, move, keep, stop, from, lit, addr, of-opd, and-then, no-more, agg, Is, Rule, rule-of, Knows, Facing, WalkFor, proves, ends, span, array, fills-array, cell, cell-field, sets, big-lit, reslices, calls-into, lends-array, backs-array, frees-array}
 use Rattle.by_words.proofs.Numbers.{all-inside}
 use prog.Wp.{afterTurn}
 use contract.Running.{tablesOf}
 use denote.Struct.Laws as LL
-use Rattle.validate.specs.declared.OpenStart.{OpenStart}
-use Rattle.validate.proofs.OpenStart as OpenStart-T
-use Rattle.validate.proofs.OpenStart.Laws as OpenStart-L
+use Rattle.definition.specs.declared.OpenStart.{OpenStart}
+use Rattle.definition.proofs.OpenStart as OpenStart-T
+use Rattle.definition.proofs.OpenStart.Laws as OpenStart-L
 use Rattle.by_words.proofs.CallCheckWords as check-words-C
 use Rattle.by_words.proofs.CallRecords as records-C
 use Rattle.by_words.proofs.CallCheckWith as check-with-C

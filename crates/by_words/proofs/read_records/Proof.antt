@@ -1,15 +1,15 @@
 -- Written by proof_writer/write from proof_writer/descriptions/by_words.py, from the code and its contracts.
 -- The walk of `by_words::read_records`.
-use Rattle.references.proofs.Walk.{_≡_, refl, sym, _∙_, full, empty, InvImage·wf, ℕ, _<_, _≤_, _^_, _+_, _-_, _*_, [], _∷_, List, length, set, length-set, Nat·lt-wfRel, lit<, ltb→lt, URA, fullShare, w64, tyPtr, vint, vptr, fat, Heap, Env, Tables, Atoms, givenOf, tables, Given, Item, ‵, _$_, !, move, keep, rewrite, look, store, store-raw, forget, stop, hop, from, lit, unit-lit, of-opd, bin, and-then, no-more, assigns, assigns-last, again, u64, place-is, heard, if-then, skip-then, exit-then, loop-then, fatVal, HasMut, of-struct, Rule, rule-of, Knows, Facing, WalkFor, proves, ends, say, span, env-of, Stands, cell, cell-field, sets, reslices, opens-elem, shuts-elem, calls-into}
+use Rattle.reference_laws.proofs.Walk.{_≡_, refl, sym, _∙_, full, empty, InvImage·wf, ℕ, _<_, _≤_, _^_, _+_, _-_, _*_, [], _∷_, List, length, set, length-set, Nat·lt-wfRel, lit<, ltb→lt, URA, fullShare, w64, tyPtr, vint, vptr, fat, Heap, Env, Tables, Atoms, givenOf, tables, Given, Item, ‵, _$_, !, move, keep, rewrite, look, store, store-raw, forget, stop, hop, from, lit, unit-lit, of-opd, bin, and-then, no-more, assigns, assigns-last, again, u64, place-is, heard, if-then, skip-then, exit-then, loop-then, fatVal, HasMut, of-struct, Rule, rule-of, Knows, Facing, WalkFor, proves, ends, say, span, env-of, Stands, cell, cell-field, sets, reslices, opens-elem, shuts-elem, calls-into}
 use Rattle.by_words.proofs.Numbers.{here, pair-inside}
-use Rattle.references.proofs.Sizes.{scaled, more-fits, nearer}
-use Rattle.validate.specs.Outcome.{noStart}
+use Rattle.reference_laws.proofs.Sizes.{scaled, more-fits, nearer}
+use Rattle.definition.specs.Outcome.{noStart}
 use prog.Wp.{afterTurn}
 use contract.Running.{tablesOf}
 use denote.Struct.Laws as LL
-use Rattle.validate.specs.declared.OpenStart.{OpenStart}
-use Rattle.validate.proofs.OpenStart as OpenStart-T
-use Rattle.validate.proofs.OpenStart.Laws as OpenStart-L
+use Rattle.definition.specs.declared.OpenStart.{OpenStart}
+use Rattle.definition.proofs.OpenStart as OpenStart-T
+use Rattle.definition.proofs.OpenStart.Laws as OpenStart-L
 use Rattle.by_words.proofs.CallReadRecords as read-records-C
 use Rattle.by_words.proofs.CallRecordAt as record-at-C
 use Rattle.by_words.proofs.read_records.Code as code

@@ -1,14 +1,14 @@
 -- Written by proof_writer/write from proof_writer/descriptions/by_words.py, from the code and its contracts.
 -- The walk of `by_words::write_records`.
-use Rattle.references.proofs.Walk.{_≡_, refl, sym, _∙_, full, empty, InvImage·wf, ℕ, _<_, _≤_, _^_, _+_, _-_, _*_, [], _∷_, List, length, getD, Nat·lt-wfRel, lit<, ltb→lt, URA, fullShare, w64, tyPtr, vint, vptr, fat, Heap, Env, Tables, Atoms, givenOf, tables, Given, Item, ‵, _$_, !, move, keep, rewrite, look, look-raw, store, init, forget, stop, hop, from, load, lit, unit-lit, of-opd, bin, and-then, no-more, assigns, assigns-last, again, u64, place-is, heard, if-then, skip-then, exit-then, loop-then, fatVal, HasMut, of-struct, Rule, rule-of, Knows, Facing, WalkFor, proves, ends, say, span, env-of, Stands, cell, cell-field, sets, reslices, opens-elem, back-elem, calls-into}
+use Rattle.reference_laws.proofs.Walk.{_≡_, refl, sym, _∙_, full, empty, InvImage·wf, ℕ, _<_, _≤_, _^_, _+_, _-_, _*_, [], _∷_, List, length, getD, Nat·lt-wfRel, lit<, ltb→lt, URA, fullShare, w64, tyPtr, vint, vptr, fat, Heap, Env, Tables, Atoms, givenOf, tables, Given, Item, ‵, _$_, !, move, keep, rewrite, look, look-raw, store, init, forget, stop, hop, from, load, lit, unit-lit, of-opd, bin, and-then, no-more, assigns, assigns-last, again, u64, place-is, heard, if-then, skip-then, exit-then, loop-then, fatVal, HasMut, of-struct, Rule, rule-of, Knows, Facing, WalkFor, proves, ends, say, span, env-of, Stands, cell, cell-field, sets, reslices, opens-elem, back-elem, calls-into}
 use Rattle.by_words.proofs.Numbers.{here, pair-inside}
-use Rattle.references.proofs.Sizes.{scaled, more-fits, nearer}
-use Rattle.validate.specs.Outcome.{noStart}
+use Rattle.reference_laws.proofs.Sizes.{scaled, more-fits, nearer}
+use Rattle.definition.specs.Outcome.{noStart}
 use prog.Wp.{afterTurn}
 use contract.Running.{tablesOf}
 use denote.Struct.Laws as LL
-use Rattle.validate.proofs.OpenStart as OpenStart-T
-use Rattle.validate.proofs.OpenStart.Laws as OpenStart-L
+use Rattle.definition.proofs.OpenStart as OpenStart-T
+use Rattle.definition.proofs.OpenStart.Laws as OpenStart-L
 use Rattle.by_words.proofs.CallWriteRecords as write-records-C
 use Rattle.by_words.proofs.CallPutRecord as put-record-C
 use Rattle.by_words.proofs.write_records.Code as code

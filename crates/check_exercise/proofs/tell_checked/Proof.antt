@@ -9,11 +9,11 @@ use Rattle.check_exercise.proofs.tell_checked.Tie as tie
 tell-counts-requires : tie.Need-tell-counts-requires
 tell-counts-requires c κs = search needs
 
-slice-aggregate-table-gate : tie.Need-slice-aggregate-table-gate
-slice-aggregate-table-gate c = search needs
+slice-aggregate-check-input : tie.Need-slice-aggregate-check-input
+slice-aggregate-check-input c = search needs
 
-table-gate-requires : tie.Need-table-gate-requires
-table-gate-requires c κs = search needs
+check-input-requires : tie.Need-check-input-requires
+check-input-requires c κs = search needs
 
 enum-known-entries : tie.Need-enum-known-entries
 enum-known-entries c = search needs
@@ -29,7 +29,7 @@ slice-aggregate-tell-findings c = search needs
 
 tell-findings-requires : tie.Need-tell-findings-requires
 tell-findings-requires c κs =
-    let g = c .before .before .before .before .before .table-gate in
+    let g = c .before .before .before .before .before .check-input in
     let s = c .before .before .before .before .before .before .before .before .before .before .before .before in
     let a = s .args in
     let m = c .before .before .entries .given in
@@ -44,8 +44,8 @@ tell-checked-spec =
     tie.close
     (tie.spec
     tell-counts-requires
-    slice-aggregate-table-gate
-    table-gate-requires
+    slice-aggregate-check-input
+    check-input-requires
     enum-known-entries
     enum-told
     returns

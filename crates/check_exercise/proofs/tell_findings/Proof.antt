@@ -21,14 +21,14 @@ marks-requires c κs = search needs
 marks-requires-2 : tie.Need-marks-requires-2 Inv-loop μ-loop
 marks-requires-2 c κs = search needs
 
-slice-aggregate-mark : tie.Need-slice-aggregate-mark Inv-loop μ-loop
-slice-aggregate-mark c = search needs
+slice-aggregate-lines-and-columns : tie.Need-slice-aggregate-lines-and-columns Inv-loop μ-loop
+slice-aggregate-lines-and-columns c = search needs
 
-slice-aggregate-mark-2 : tie.Need-slice-aggregate-mark-2 Inv-loop μ-loop
-slice-aggregate-mark-2 c = search needs
+slice-aggregate-lines-and-columns-2 : tie.Need-slice-aggregate-lines-and-columns-2 Inv-loop μ-loop
+slice-aggregate-lines-and-columns-2 c = search needs
 
-mark-requires : tie.Need-mark-requires Inv-loop μ-loop
-mark-requires c κs = search needs
+lines-and-columns-requires : tie.Need-lines-and-columns-requires Inv-loop μ-loop
+lines-and-columns-requires c κs = search needs
 
 large-buffer-requires : tie.Need-large-buffer-requires Inv-loop μ-loop
 large-buffer-requires c κs = search needs
@@ -101,9 +101,9 @@ tell-findings-spec =
     μ-loop
     marks-requires
     marks-requires-2
-    slice-aggregate-mark
-    slice-aggregate-mark-2
-    mark-requires
+    slice-aggregate-lines-and-columns
+    slice-aggregate-lines-and-columns-2
+    lines-and-columns-requires
     large-buffer-requires
     lines-room-requires
     held-requires

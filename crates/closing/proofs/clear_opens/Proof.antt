@@ -1,15 +1,15 @@
 -- Written by proof_writer/write from proof_writer/descriptions/closing.py, from the code and its contracts.
 -- The walk of `closing::clear_opens`.
-use Rattle.references.proofs.Walk.{_≡_, refl, sym, _∙_, full, empty, InvImage·wf, ℕ, _<_, _≤_, _^_, _+_, _-_, _*_, arith, [], _∷_, List, length, set, length-set, Nat·lt-wfRel, lit<, ltb→lt, nltb→le, URA, fullShare, w64, tyPtr, vint, vptr, fat, Heap, Env, Tables, Atoms, givenOf, tables, Given, Item, ‵, _$_, !, move, keep, rewrite, look, store, store-raw, forget, stop, hop, from, lit, unit-lit, of-opd, bin, and-then, no-more, assigns, assigns-last, again, agg, Is, place-is, heard, if-then, skip-then, exit-then, loop-then, fatVal, HasMut, of-struct, Rule, rule-of, Facing, WalkFor, proves, ends, say, span, env-of, Stands, cell, cell-field, sets, opens-elem, shuts-elem}
-use Rattle.validate.specs.Outcome.{noStart, cleared}
+use Rattle.reference_laws.proofs.Walk.{_≡_, refl, sym, _∙_, full, empty, InvImage·wf, ℕ, _<_, _≤_, _^_, _+_, _-_, _*_, arith, [], _∷_, List, length, set, length-set, Nat·lt-wfRel, lit<, ltb→lt, nltb→le, URA, fullShare, w64, tyPtr, vint, vptr, fat, Heap, Env, Tables, Atoms, givenOf, tables, Given, Item, ‵, _$_, !, move, keep, rewrite, look, store, store-raw, forget, stop, hop, from, lit, unit-lit, of-opd, bin, and-then, no-more, assigns, assigns-last, again, agg, Is, place-is, heard, if-then, skip-then, exit-then, loop-then, fatVal, HasMut, of-struct, Rule, rule-of, Facing, WalkFor, proves, ends, say, span, env-of, Stands, cell, cell-field, sets, opens-elem, shuts-elem}
+use Rattle.definition.specs.Outcome.{noStart, cleared}
 use Rattle.closing.proofs.Zeroed.{cleared-none, cleared-more, cleared-all, here}
-use Rattle.references.proofs.Sizes.{scaled, more-fits, nearer}
+use Rattle.reference_laws.proofs.Sizes.{scaled, more-fits, nearer}
 use prog.Wp.{afterTurn}
 use contract.Running.{tablesOf}
 use denote.Struct.Laws as LL
-use Rattle.validate.specs.declared.OpenStart.{OpenStart}
-use Rattle.validate.proofs.OpenStart as OpenStart-T
-use Rattle.validate.proofs.OpenStart.Laws as OpenStart-L
+use Rattle.definition.specs.declared.OpenStart.{OpenStart}
+use Rattle.definition.proofs.OpenStart as OpenStart-T
+use Rattle.definition.proofs.OpenStart.Laws as OpenStart-L
 use Rattle.closing.proofs.CallClearOpens as clear-opens-C
 use Rattle.closing.proofs.clear_opens.Code as code
 use Rattle.closing.proofs.clear_opens.Statement as stated

@@ -4,7 +4,7 @@ use Prim.Native.Nat.{_-_, _≤_}
 use mathlib.Core.Path.{_≡_, refl, _∙_}
 use native.Mathlib.Omega.{arith}
 use lib.ListN.{length, length-set}
-use Rattle.validate.specs.Outcome.{cleared}
+use Rattle.definition.specs.Outcome.{cleared}
 use Rattle.closing.proofs.Zeroed.{cleared-none, cleared-more, cleared-all}
 use borrow.Author.Needs.{needs}
 use Rattle.closing.proofs.clear_seen.Statement.{statement}

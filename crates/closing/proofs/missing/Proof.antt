@@ -6,8 +6,8 @@ use mathlib.Core.Path.{_≡_, refl}
 use mathlib.Core.List.{List, [], _∷_}
 use Rattle.findings.specs.declared.Counts.{Counts}
 use Rattle.findings.specs.Finding.{findingOf}
-use Rattle.validate.specs.Checks.{Check, given}
-use Rattle.leaves.proofs.Givens.{Due, due-start, due-room, due-wrote, due-end}
+use Rattle.definition.specs.Checks.{Check, given}
+use Rattle.chapter_verse.proofs.Givens.{Due, due-start, due-room, due-wrote, due-end}
 use Rattle.closing.specs.Ends.{missingChecks}
 use Rattle.closing.proofs.Lacking.{noId, noChapter, is-no-id, is-no-chapter}
 use borrow.Author.Needs.{needs}

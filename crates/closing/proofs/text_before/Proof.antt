@@ -2,7 +2,7 @@
 -- Assumes nothing.
 use denote.Ref.{now}
 use Rattle.findings.specs.Finding.{findingOf}
-use Rattle.running.specs.Running.{countsOf}
+use Rattle.state.specs.Running.{countsOf}
 use Rattle.cursor.proofs.Runs.{run-spanned, run-below}
 use Rattle.closing.proofs.Solid.{before-none, before-room, before-wrote}
 use borrow.Author.Needs.{needs}

@@ -1,28 +1,28 @@
 -- Written by proof_writer/write from proof_writer/descriptions/closing.py, from the code and its contracts.
 -- The walk of `closing::unclosed`.
-use Rattle.references.proofs.Walk.{_≡_, refl, sym, _∙_, full, empty, InvImage·wf, ℕ, _<_, _^_, _+_, _-_, _*_, [], _∷_, List, length, getD, Nat·lt-wfRel, lit<, ltb→lt, nltb→le, URA, fullShare, w64, tyPtr, vint, vptr, fat, Heap, Env, Tables, Atoms, givenOf, tables, Given, Item, ‵, _$_, !, move, keep, rewrite, look, look-raw, store, init, forget, stop, hop, from, load, lit, of-opd, bin, and-then, no-more, assigns, assigns-last, again, Is, u8, u64, place-is, heard, if-then, skip-then, exit-then, loop-then, fatVal, HasMut, HasShr, of-struct, Rule, rule-of, Knows, calls-any, Facing, WalkFor, proves, ends, say, span, env-of, Stands, cell, cell-field, sets, relands-at, reslices, opens-elem, back-elem, calls-into}
-use Rattle.validate.specs.Outcome.{noStart}
-use Rattle.running.specs.Running.{countsOf}
+use Rattle.reference_laws.proofs.Walk.{_≡_, refl, sym, _∙_, full, empty, InvImage·wf, ℕ, _<_, _^_, _+_, _-_, _*_, [], _∷_, List, length, getD, Nat·lt-wfRel, lit<, ltb→lt, nltb→le, URA, fullShare, w64, tyPtr, vint, vptr, fat, Heap, Env, Tables, Atoms, givenOf, tables, Given, Item, ‵, _$_, !, move, keep, rewrite, look, look-raw, store, init, forget, stop, hop, from, load, lit, of-opd, bin, and-then, no-more, assigns, assigns-last, again, Is, u8, u64, place-is, heard, if-then, skip-then, exit-then, loop-then, fatVal, HasMut, HasShr, of-struct, Rule, rule-of, Knows, calls-any, Facing, WalkFor, proves, ends, say, span, env-of, Stands, cell, cell-field, sets, relands-at, reslices, opens-elem, back-elem, calls-into}
+use Rattle.definition.specs.Outcome.{noStart}
+use Rattle.state.specs.Running.{countsOf}
 use Rattle.closing.specs.Ends.{Tellable}
 use Rattle.closing.proofs.Starts.{Told, told-none, told-all, told-inside, tellable, told-more}
-use Rattle.references.proofs.Sizes.{scaled, more-fits, nearer}
+use Rattle.reference_laws.proofs.Sizes.{scaled, more-fits, nearer}
 use prog.Wp.{afterTurn}
 use contract.Running.{tablesOf}
 use denote.Struct.Laws as LL
 use Rattle.findings.specs.declared.Counts.{Counts}
 use Rattle.findings.proofs.Counts as Counts-T
 use Rattle.findings.proofs.Counts.Laws as Counts-L
-use Rattle.validate.proofs.OpenStart as OpenStart-T
-use Rattle.validate.proofs.OpenStart.Laws as OpenStart-L
-use Rattle.running.proofs.Record as Record-T
-use Rattle.running.proofs.Record.Laws as Record-L
+use Rattle.definition.proofs.OpenStart as OpenStart-T
+use Rattle.definition.proofs.OpenStart.Laws as OpenStart-L
+use Rattle.state.proofs.Record as Record-T
+use Rattle.state.proofs.Record.Laws as Record-L
 use Rattle.closing.proofs.CallUnclosed as unclosed-C
 use Rattle.closing.proofs.CallCounts as counts-C
 use Rattle.closing.proofs.CallTellOpen as tell-open-C
 use Rattle.closing.proofs.unclosed.Code as code
 use Rattle.closing.proofs.unclosed.Statement as stated
 use Rattle.closing.proofs.unclosed.Key as key
-use Rattle.running.proofs.counts as counts-F
+use Rattle.state.proofs.counts as counts-F
 use Rattle.closing.proofs.tell_open as tell-open-F
 
 module _ {M : Type 1} (𝓤 : URA M) (H : Heap 𝓤) (A : Atoms 𝓤) (W : Given 𝓤 H A) (𝓣 : Tables 𝓤 H) (known-counts : Knows 𝓤 H A (𝓣 .C) counts-C.terms) (known-tell-open : Knows 𝓤 H A (𝓣 .C) tell-open-C.terms) where
@@ -52,4 +52,4 @@ pub unclosed-spec : {M : Type 1} → stated.statement M
 unfolding code.routine tablesOf
 unclosed-spec 𝓤 H 𝓜 𝓖 𝓡 y =
     proves 𝓤 H 𝓜 𝓖 𝓡 code.env key.name code.function (code.unfolded 𝓤 H 𝓜 𝓡) unclosed-C.terms (y .0 .0) (y .0 .1) (y .0 .3) (y .0 .4) (refl, tt)
-    (walk 𝓤 H (𝓖 .A) (givenOf 𝓤 H 𝓜 𝓖) (tablesOf 𝓤 H 𝓜 (tables 𝓤 H 𝓜 𝓡 code.env)) (counts-C.known _ 𝓤 H 𝓜 𝓖 𝓡 code.env _ code.calls-running·counts (counts-F.Met.met 𝓤 H 𝓜 𝓖 𝓡)) (tell-open-C.known _ 𝓤 H 𝓜 𝓖 𝓡 code.env _ code.calls-closing·tell-open (tell-open-F.Met.met 𝓤 H 𝓜 𝓖 𝓡)))
+    (walk 𝓤 H (𝓖 .A) (givenOf 𝓤 H 𝓜 𝓖) (tablesOf 𝓤 H 𝓜 (tables 𝓤 H 𝓜 𝓡 code.env)) (counts-C.known _ 𝓤 H 𝓜 𝓖 𝓡 code.env _ code.calls-state·counts (counts-F.Met.met 𝓤 H 𝓜 𝓖 𝓡)) (tell-open-C.known _ 𝓤 H 𝓜 𝓖 𝓡 code.env _ code.calls-closing·tell-open (tell-open-F.Met.met 𝓤 H 𝓜 𝓖 𝓡)))

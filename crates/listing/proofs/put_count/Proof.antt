@@ -5,8 +5,8 @@ use Prim.Native.Nat.{_≤_}
 use lib.ListN.{length}
 use denote.Ref.{now}
 use native.Mathlib.Omega.{arith}
-use Rattle.laying.specs.Decimal.{decimal}
-use Rattle.laying.proofs.Decimal.{decimal-length}
+use Rattle.buffer.specs.Decimal.{decimal}
+use Rattle.buffer.proofs.Decimal.{decimal-length}
 use Rattle.listing.proofs.Lines.{line-laid, line-near}
 use Rattle.listing.proofs.put_count.Statement.{statement}
 use Rattle.listing.proofs.put_count.Tie as tie

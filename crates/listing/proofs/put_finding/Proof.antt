@@ -3,7 +3,7 @@
 use borrow.Author.Needs.{needs}
 use Rattle.text.specs.Literal.{ascii}
 use Rattle.table.specs.Inner.{wordsOf}
-use Rattle.laying.proofs.Over.{put-then}
+use Rattle.buffer.proofs.Over.{put-then}
 use Rattle.listing.specs.Lines.{findingLines, severityNames, codeNames}
 use Rattle.listing.proofs.put_finding.Statement.{statement}
 use Rattle.listing.proofs.put_finding.Tie as tie

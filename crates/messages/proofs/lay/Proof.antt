@@ -2,7 +2,7 @@
 -- Assumes nothing.
 use denote.Ref.{now}
 use mathlib.Core.Logic.{inl, inr}
-use Rattle.texts.specs.Texts as texts
+use Rattle.message_texts.specs.Texts as texts
 use Rattle.messages.specs.Inner.{askedBy}
 use Rattle.messages.proofs.Values.{laid-with, holes-9, holes-10, holes-27}
 use Rattle.messages.proofs.Plain.{laid-plain}

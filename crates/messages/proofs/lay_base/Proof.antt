@@ -12,9 +12,9 @@ use Rattle.tape.specs.Nodes.{nodeAt}
 use Rattle.cursor.specs.Names.{nameOf}
 use Rattle.cursor.specs.Info.{infoAt}
 use Rattle.cursor.proofs.Around.{spanned}
-use Rattle.validate.specs.Milestones.{endsIn}
+use Rattle.definition.specs.Milestones.{endsIn}
 use Rattle.milestones.specs.Inner.{baseIn}
-use Rattle.texts.specs.Texts as texts
+use Rattle.message_texts.specs.Texts as texts
 use Rattle.messages.specs.Inner.{askedBy, nameOr}
 use Rattle.messages.proofs.Values.{holes-16, laid-with, laid-lacks}
 use Rattle.messages.proofs.Shown.{root-base, no-base, base-shown}

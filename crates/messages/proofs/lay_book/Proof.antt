@@ -11,7 +11,7 @@ use borrow.Author.Tests.{eq-eqb, ne-eqb}
 use Rattle.tape.specs.Nodes.{kindAt, isOpen}
 use Rattle.cursor.specs.Inner.{Run}
 use Rattle.cursor.proofs.Runs.{run-inside}
-use Rattle.texts.specs.Texts as texts
+use Rattle.message_texts.specs.Texts as texts
 use Rattle.messages.specs.Inner.{askedBy}
 use Rattle.messages.proofs.Values.{holes-5, laid-with, laid-lacks}
 use Rattle.messages.proofs.Shown.{no-open, no-code, code-shown, open-later}

@@ -12,7 +12,7 @@ use Rattle.table.specs.Entries.{Entry}
 use Rattle.cursor.specs.Names.{nameOf}
 use Rattle.cursor.specs.Info.{infoAt}
 use Rattle.numbers.specs.Label.{labelOf, isGlued, numbered}
-use Rattle.texts.specs.Texts as texts
+use Rattle.message_texts.specs.Texts as texts
 use Rattle.messages.specs.Inner.{askedBy, nameOr}
 use Rattle.messages.proofs.Values.{holes-34, laid-with, laid-lacks}
 use Rattle.messages.proofs.Shown.{numbered-spanned, not-numbered, not-glued, glued-shown}

@@ -6,7 +6,7 @@ use denote.Ref.{now}
 use Rattle.numbers.specs.Label.{numbered}
 use Rattle.tape.specs.Nodes.{kindAt}
 use Rattle.cursor.specs.Info.{infoAt}
-use Rattle.texts.specs.Texts as texts
+use Rattle.message_texts.specs.Texts as texts
 use Rattle.messages.specs.Inner.{askedBy}
 use Rattle.messages.proofs.Values.{holes-15, laid-with, laid-lacks}
 use Rattle.messages.proofs.Shown.{label-none, label-shown}

@@ -11,7 +11,7 @@ use Rattle.tape.specs.Nodes.{nodeAt}
 use Rattle.cursor.specs.Names.{nameOf}
 use Rattle.cursor.specs.Info.{infoAt}
 use Rattle.cursor.proofs.Around.{spanned}
-use Rattle.texts.specs.Texts as texts
+use Rattle.message_texts.specs.Texts as texts
 use Rattle.messages.specs.Message.{unitOf}
 use Rattle.messages.specs.Inner.{askedBy, nameOr}
 use Rattle.messages.proofs.Values.{holes-33, laid-with, laid-lacks}
@@ -36,8 +36,8 @@ name-shown-requires c κs =
     let h : 1 ≤ a .q .node = omega (arith, c .if1 .left) in
     (s .pre .0 .indexed, spanned (now (a .source)) (now (a .tape)) (a .q .node) (s .pre .0 .accepted) h (s .pre .0 .inside))
 
-is-one-of-four-requires : tie.Need-is-one-of-four-requires
-is-one-of-four-requires c κs = search needs
+is-number-marker-requires : tie.Need-is-number-marker-requires
+is-number-marker-requires c κs = search needs
 
 returns-2 : tie.Need-returns-2
 returns-2 c =
@@ -46,7 +46,7 @@ returns-2 c =
     let n = c .before .before .name-shown in
     let is = by-source (a .q .code) (nameOr (now (a .table)) (infoAt (now (a .table)) (now (a .tape)) (a .q .node))) (nameOf (nodeAt (now (a .source)) (now (a .tape)) (a .q .node) .text)) (now (n .result)) (n .ensures) 33 refl (s .pre .1) in
     laid-lacks (now (a .table)) (now (a .source)) (now (a .tape)) (askedBy (a .q)) texts.numberName texts.owner texts.unit (holes-33 (a .q .code) (s .pre .1))
-    (no-number (now (a .table)) (now (a .source)) (now (a .tape)) (askedBy (a .q)) (now (n .result)) is (c .before .before .before .if1 .left) (sym (c .before .is-one-of-four .ensures) ∙ not-true _ (c .if2 .taken)))
+    (no-number (now (a .table)) (now (a .source)) (now (a .tape)) (askedBy (a .q)) (now (n .result)) is (c .before .before .before .if1 .left) (sym (c .before .is-number-marker .ensures) ∙ not-true _ (c .if2 .taken)))
     (now (a .out))
 
 lay-unit-requires : tie.Need-lay-unit-requires
@@ -55,7 +55,7 @@ lay-unit-requires c κs =
     let a = s .args in
     let n = c .before .before .before .name-shown in
     let is = by-source (a .q .code) (nameOr (now (a .table)) (infoAt (now (a .table)) (now (a .tape)) (a .q .node))) (nameOf (nodeAt (now (a .source)) (now (a .tape)) (a .q .node) .text)) (now (n .result)) (n .ensures) 33 refl (s .pre .1) in
-    (four-named (now (n .result)) (sym (c .before .before .is-one-of-four .ensures) ∙ not-false _ (c .before .if2 .left)), name-fits (now (a .source)) (now (a .tape)) (a .q .node) (s .pre .0 .short) (now (n .result)) is)
+    (four-named (now (n .result)) (sym (c .before .before .is-number-marker .ensures) ∙ not-false _ (c .before .if2 .left)), name-fits (now (a .source)) (now (a .tape)) (a .q .node) (s .pre .0 .short) (now (n .result)) is)
 
 same-length : tie.Need-same-length
 same-length c = search needs
@@ -68,7 +68,7 @@ returns-3 c =
     let is = by-source (a .q .code) (nameOr (now (a .table)) (infoAt (now (a .table)) (now (a .tape)) (a .q .node))) (nameOf (nodeAt (now (a .source)) (now (a .tape)) (a .q .node) .text)) (now (n .result)) (n .ensures) 33 refl (s .pre .1) in
     laid-with (now (a .table)) (now (a .source)) (now (a .tape)) (askedBy (a .q)) texts.numberName texts.owner texts.unit (holes-33 (a .q .code) (s .pre .1))
     (now (n .result)) (take 1 (now (n .result))) (unitOf (eqb (getD (now (n .result)) 0 0) 0x63))
-    (number-shown (now (a .table)) (now (a .source)) (now (a .tape)) (askedBy (a .q)) (now (n .result)) is (c .before .before .before .before .before .before .before .if1 .left) (sym (c .before .before .before .before .before .is-one-of-four .ensures) ∙ not-false _ (c .before .before .before .before .if2 .left)))
+    (number-shown (now (a .table)) (now (a .source)) (now (a .tape)) (askedBy (a .q)) (now (n .result)) is (c .before .before .before .before .before .before .before .if1 .left) (sym (c .before .before .before .before .before .is-number-marker .ensures) ∙ not-false _ (c .before .before .before .before .if2 .left)))
     (now (a .out)) _ _ (c .before .before .lay-unit .ensures)
 
 pub lay-number-spec : {M : Type 1} → statement M
@@ -77,7 +77,7 @@ lay-number-spec =
     (tie.spec
     returns
     name-shown-requires
-    is-one-of-four-requires
+    is-number-marker-requires
     returns-2
     lay-unit-requires
     same-length

@@ -6,8 +6,8 @@ use native.Mathlib.Omega.{arith}
 use lib.ListN.{length, take}
 use lib.Seq.{length-take-le}
 use borrow.Author.Needs.{needs}
-use Rattle.laying.specs.Decimal.{decimal}
-use Rattle.laying.proofs.Decimal.{decimal-length}
+use Rattle.buffer.specs.Decimal.{decimal}
+use Rattle.buffer.proofs.Decimal.{decimal-length}
 use Rattle.messages.proofs.Digits.{inside, taken}
 use Rattle.messages.proofs.lay_numbers.Statement.{statement}
 use Rattle.messages.proofs.lay_numbers.Tie as tie

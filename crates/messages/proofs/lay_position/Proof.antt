@@ -7,9 +7,9 @@ use native.Mathlib.Omega.{arith}
 use lib.ListN.{length, take, length-append}
 use lib.Seq.{length-take-le}
 use borrow.Author.Needs.{needs}
-use Rattle.laying.specs.Decimal.{decimal}
-use Rattle.laying.proofs.Decimal.{decimal-length}
-use Rattle.laying.proofs.Over.{put-then}
+use Rattle.buffer.specs.Decimal.{decimal}
+use Rattle.buffer.proofs.Decimal.{decimal-length}
+use Rattle.buffer.proofs.Over.{put-then}
 use Rattle.messages.proofs.Digits.{inside, taken}
 use Rattle.messages.proofs.Parts.{letter-none, letter-one}
 use Rattle.messages.proofs.lay_position.Statement.{statement}

@@ -6,8 +6,8 @@ use borrow.Author.Needs.{needs}
 use Rattle.tape.specs.Nodes.{kindAt}
 use Rattle.cursor.specs.Info.{infoAt}
 use Rattle.numbers.specs.Label.{numbered}
-use Rattle.laying.specs.Decimal.{decimal}
-use Rattle.texts.specs.Texts as texts
+use Rattle.buffer.specs.Decimal.{decimal}
+use Rattle.message_texts.specs.Texts as texts
 use Rattle.messages.specs.Message.{letter}
 use Rattle.messages.specs.Inner.{askedBy}
 use Rattle.messages.proofs.Values.{holes-11, laid-with, laid-lacks}

@@ -1,18 +1,18 @@
 -- Written by proof_writer/write from proof_writer/descriptions/milestones.py, from the code and its contracts.
 -- The walk of `milestones::milestone`.
-use Rattle.references.proofs.Walk.{refl, _<_, [], _∷_, length, URA, Heap, Tables, Atoms, givenOf, tables, Given, _$_, !, move, keep, and-then, no-more, Rule, rule-of, Knows, Facing, WalkFor, proves, ends, span, cell, cell-field, reslices, calls-into}
+use Rattle.reference_laws.proofs.Walk.{refl, _<_, [], _∷_, length, URA, Heap, Tables, Atoms, givenOf, tables, Given, _$_, !, move, keep, and-then, no-more, Rule, rule-of, Knows, Facing, WalkFor, proves, ends, span, cell, cell-field, reslices, calls-into}
 use Rattle.tape.specs.Nodes.{count}
 use Rattle.table.specs.Entries.{entryOfInfo}
 use Rattle.cursor.specs.Inner.{Spanned}
-use Rattle.running.specs.Running.{Opens}
+use Rattle.state.specs.Running.{Opens}
 use Rattle.milestones.specs.Inner.{Placed, Countable}
 use Rattle.milestones.proofs.Whole.{countable, milestoned}
 use Rattle.milestones.proofs.Pairing.{read-placed}
 use prog.Wp.{afterTurn}
 use contract.Running.{tablesOf}
 use denote.Struct.Laws as LL
-use Rattle.running.proofs.Record as Record-T
-use Rattle.running.proofs.Record.Laws as Record-L
+use Rattle.state.proofs.Record as Record-T
+use Rattle.state.proofs.Record.Laws as Record-L
 use Rattle.milestones.proofs.CallMilestone as milestone-C
 use Rattle.milestones.proofs.CallStepOf as step-of-C
 use Rattle.milestones.proofs.CallPair as pair-C

@@ -1,11 +1,11 @@
 -- Written by proof_writer/write from proof_writer/descriptions/milestones.py, from the code and its contracts.
 -- The walk of `milestones::nearest`.
-use Rattle.references.proofs.Walk.{_≡_, refl, sym, _∙_, full, empty, InvImage·wf, ℕ, _<_, _≤_, _^_, _+_, _-_, _*_, arith, [], _∷_, List, length, getD, Nat·lt-wfRel, ltb→lt, nltb→le, URA, fullShare, w64, tyPtr, vint, vptr, fat, Heap, Env, Tables, Atoms, givenOf, tables, Given, Item, ‵, _$_, !, move, keep, rewrite, look, look-raw, init, forget, stop, hop, from, load, lit, of-opd, bin, and-then, no-more, assigns, branches, skips, again, agg, Is, u8, place-is, heard, if-then, skip-then, exit-then, loop-then, is-true, is-false, fatVal, HasMut, HasShr, of-struct, Rule, rule-of, Knows, Facing, WalkFor, proves, ends, say, span, env-of, Stands, cell, cell-field, sets, resets, opens-elem, back-elem, calls-into}
+use Rattle.reference_laws.proofs.Walk.{_≡_, refl, sym, _∙_, full, empty, InvImage·wf, ℕ, _<_, _≤_, _^_, _+_, _-_, _*_, arith, [], _∷_, List, length, getD, Nat·lt-wfRel, ltb→lt, nltb→le, URA, fullShare, w64, tyPtr, vint, vptr, fat, Heap, Env, Tables, Atoms, givenOf, tables, Given, Item, ‵, _$_, !, move, keep, rewrite, look, look-raw, init, forget, stop, hop, from, load, lit, of-opd, bin, and-then, no-more, assigns, branches, skips, again, agg, Is, u8, place-is, heard, if-then, skip-then, exit-then, loop-then, is-true, is-false, fatVal, HasMut, HasShr, of-struct, Rule, rule-of, Knows, Facing, WalkFor, proves, ends, say, span, env-of, Stands, cell, cell-field, sets, resets, opens-elem, back-elem, calls-into}
 use Rattle.milestones.specs.Inner.{Measured, baseAt, nearestIn}
 use Rattle.milestones.proofs.Search.{nowhere, hit, miss}
 use Rattle.milestones.proofs.Pairing.{inside, entry-fits}
-use Rattle.references.proofs.Sizes.{scaled, less-fits}
-use Rattle.validate.specs.Outcome.{noStart}
+use Rattle.reference_laws.proofs.Sizes.{scaled, less-fits}
+use Rattle.definition.specs.Outcome.{noStart}
 use prog.Wp.{afterTurn}
 use contract.Running.{tablesOf}
 use denote.Struct.Laws as LL
@@ -13,8 +13,8 @@ use denote.Enum.Laws as EL
 use Rattle.milestones.proofs.Found as Found-T
 use Rattle.milestones.proofs.Found.Laws as Found-L
 use Rattle.milestones.specs.declared.Found.the-variants as Found-V
-use Rattle.validate.proofs.OpenStart as OpenStart-T
-use Rattle.validate.proofs.OpenStart.Laws as OpenStart-L
+use Rattle.definition.proofs.OpenStart as OpenStart-T
+use Rattle.definition.proofs.OpenStart.Laws as OpenStart-L
 use Rattle.milestones.proofs.CallNearest as nearest-C
 use Rattle.milestones.proofs.CallHasBase as has-base-C
 use Rattle.milestones.proofs.nearest.Code as code

@@ -1,9 +1,9 @@
 -- Written by proof_writer/write from proof_writer/descriptions/milestones.py, from the code and its contracts.
 -- The walk of `milestones::pair`.
-use Rattle.references.proofs.Walk.{_≡_, refl, _∙_, _⊎_, inl, inr, ℕ, _<_, _≤_, _^_, _+_, _-_, [], _∷_, length, URA, Heap, Tables, Atoms, givenOf, tables, Given, _$_, !, move, keep, lit, of-opd, bin, and-then, no-more, agg, Is, of-enum, Rule, rule-of, Knows, Facing, WalkFor, proves, ends, span, cell, cell-variant, cell-tag, sets, reslices, arm-of, calls-into}
-use Rattle.running.specs.Running.{Opens}
+use Rattle.reference_laws.proofs.Walk.{_≡_, refl, _∙_, _⊎_, inl, inr, ℕ, _<_, _≤_, _^_, _+_, _-_, [], _∷_, length, URA, Heap, Tables, Atoms, givenOf, tables, Given, _$_, !, move, keep, lit, of-opd, bin, and-then, no-more, agg, Is, of-enum, Rule, rule-of, Knows, Facing, WalkFor, proves, ends, span, cell, cell-variant, cell-tag, sets, reslices, arm-of, calls-into}
+use Rattle.state.specs.Running.{Opens}
 use Rattle.milestones.proofs.Pairing.{first-of, pair-neither, pair-start, placed, pair-end, pair-alone, end-inside, known-room}
-use Rattle.references.proofs.Sizes.{less-fits, more-fits}
+use Rattle.reference_laws.proofs.Sizes.{less-fits, more-fits}
 use prog.Wp.{afterTurn}
 use contract.Running.{tablesOf}
 use denote.Struct.Laws as LL
@@ -12,9 +12,9 @@ use Rattle.milestones.specs.declared.Found.{Found}
 use Rattle.milestones.proofs.Found as Found-T
 use Rattle.milestones.proofs.Found.Laws as Found-L
 use Rattle.milestones.specs.declared.Found.the-variants as Found-V
-use Rattle.validate.specs.declared.OpenStart.{OpenStart}
-use Rattle.validate.proofs.OpenStart as OpenStart-T
-use Rattle.validate.proofs.OpenStart.Laws as OpenStart-L
+use Rattle.definition.specs.declared.OpenStart.{OpenStart}
+use Rattle.definition.proofs.OpenStart as OpenStart-T
+use Rattle.definition.proofs.OpenStart.Laws as OpenStart-L
 use Rattle.milestones.proofs.Paired as Paired-T
 use Rattle.milestones.proofs.Paired.Laws as Paired-L
 use Rattle.milestones.specs.declared.Paired.the-variants as Paired-V

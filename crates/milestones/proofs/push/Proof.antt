@@ -1,13 +1,13 @@
 -- Written by proof_writer/write from proof_writer/descriptions/milestones.py, from the code and its contracts.
 -- The walk of `milestones::push`.
-use Rattle.references.proofs.Walk.{refl, sym, _∙_, ℕ, _<_, _^_, _*_, [], _∷_, length, set, length-set, URA, fullShare, tyPtr, vptr, fat, Heap, Tables, Atoms, givenOf, tables, Given, ‵, _$_, !, move, keep, rewrite, look, store-raw, stop, hop, from, lit, unit-lit, of-opd, bin, assigns, place-is, of-struct, Rule, rule-of, Facing, WalkFor, proves, ends, span, cell, cell-field, sets, opens-elem, shuts-elem}
-use Rattle.references.proofs.Sizes.{scaled}
-use Rattle.validate.specs.Outcome.{noStart}
+use Rattle.reference_laws.proofs.Walk.{refl, sym, _∙_, ℕ, _<_, _^_, _*_, [], _∷_, length, set, length-set, URA, fullShare, tyPtr, vptr, fat, Heap, Tables, Atoms, givenOf, tables, Given, ‵, _$_, !, move, keep, rewrite, look, store-raw, stop, hop, from, lit, unit-lit, of-opd, bin, assigns, place-is, of-struct, Rule, rule-of, Facing, WalkFor, proves, ends, span, cell, cell-field, sets, opens-elem, shuts-elem}
+use Rattle.reference_laws.proofs.Sizes.{scaled}
+use Rattle.definition.specs.Outcome.{noStart}
 use prog.Wp.{afterTurn}
 use contract.Running.{tablesOf}
 use denote.Struct.Laws as LL
-use Rattle.validate.proofs.OpenStart as OpenStart-T
-use Rattle.validate.proofs.OpenStart.Laws as OpenStart-L
+use Rattle.definition.proofs.OpenStart as OpenStart-T
+use Rattle.definition.proofs.OpenStart.Laws as OpenStart-L
 use Rattle.milestones.proofs.CallPush as push-C
 use Rattle.milestones.proofs.push.Code as code
 use Rattle.milestones.proofs.push.Statement as stated

@@ -1,16 +1,16 @@
 -- Written by proof_writer/write from proof_writer/descriptions/milestones.py, from the code and its contracts.
 -- The walk of `milestones::remove`.
-use Rattle.references.proofs.Walk.{_≡_, refl, sym, _∙_, full, empty, InvImage·wf, ℕ, _<_, _≤_, _^_, _+_, _-_, _*_, [], _∷_, List, length, getD, set, length-set, Nat·lt-wfRel, ltb→lt, nltb→le, URA, fullShare, w64, tyPtr, vint, vptr, fat, Heap, Env, Tables, Atoms, givenOf, tables, Given, Item, ‵, _$_, !, move, keep, rewrite, look, look-raw, store, store-raw, init, forget, stop, hop, from, load, lit, unit-lit, of-opd, bin, assigns, assigns-last, again, place-is, heard, if-then, skip-then, exit-then, loop-then, fatVal, HasMut, of-struct, Rule, rule-of, Facing, WalkFor, proves, ends, say, span, env-of, Stands, cell, cell-field, sets, resets, opens-elem, shuts-elem, back-elem}
+use Rattle.reference_laws.proofs.Walk.{_≡_, refl, sym, _∙_, full, empty, InvImage·wf, ℕ, _<_, _≤_, _^_, _+_, _-_, _*_, [], _∷_, List, length, getD, set, length-set, Nat·lt-wfRel, ltb→lt, nltb→le, URA, fullShare, w64, tyPtr, vint, vptr, fat, Heap, Env, Tables, Atoms, givenOf, tables, Given, Item, ‵, _$_, !, move, keep, rewrite, look, look-raw, store, store-raw, init, forget, stop, hop, from, load, lit, unit-lit, of-opd, bin, assigns, assigns-last, again, place-is, heard, if-then, skip-then, exit-then, loop-then, fatVal, HasMut, of-struct, Rule, rule-of, Facing, WalkFor, proves, ends, say, span, env-of, Stands, cell, cell-field, sets, resets, opens-elem, shuts-elem, back-elem}
 use Rattle.milestones.proofs.Moves.{Moving, moving-start, moving-turn, moving-end}
 use Rattle.milestones.proofs.Pairing.{first-of, moves-first, moves-room, next-inside, here-inside}
-use Rattle.references.proofs.Sizes.{scaled, less-fits, more-fits, nearer}
-use Rattle.validate.specs.Outcome.{noStart}
+use Rattle.reference_laws.proofs.Sizes.{scaled, less-fits, more-fits, nearer}
+use Rattle.definition.specs.Outcome.{noStart}
 use prog.Wp.{afterTurn}
 use contract.Running.{tablesOf}
 use denote.Struct.Laws as LL
-use Rattle.validate.specs.declared.OpenStart.{OpenStart}
-use Rattle.validate.proofs.OpenStart as OpenStart-T
-use Rattle.validate.proofs.OpenStart.Laws as OpenStart-L
+use Rattle.definition.specs.declared.OpenStart.{OpenStart}
+use Rattle.definition.proofs.OpenStart as OpenStart-T
+use Rattle.definition.proofs.OpenStart.Laws as OpenStart-L
 use Rattle.milestones.proofs.CallRemove as remove-C
 use Rattle.milestones.proofs.remove.Code as code
 use Rattle.milestones.proofs.remove.Statement as stated

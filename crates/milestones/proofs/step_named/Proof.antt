@@ -7,7 +7,7 @@ use native.Mathlib.Omega.{arith}
 use Prim.Native.Nat.{ℕ, _+_, _-_, _≤_}
 use mathlib.Core.Bool.{true}
 use lib.ListN.{length}
-use Rattle.validate.specs.Milestones.{endsIn}
+use Rattle.definition.specs.Milestones.{endsIn}
 use Rattle.milestones.proofs.Reading.{name, base-long, a-start, an-end, neither}
 use Rattle.milestones.proofs.step_named.Statement.{statement}
 use Rattle.milestones.proofs.step_named.Tie as tie

@@ -5,7 +5,7 @@ use Prim.Native.Nat.{_-_}
 use borrow.Author.Tests.{ltb-true, ltb-false}
 use native.Mathlib.Omega.{arith}
 use lib.ListN.{replicate}
-use Rattle.laying.proofs.Laying.{Laying, laying-start, laying-full, laying-end}
+use Rattle.buffer.proofs.Laying.{Laying, laying-start, laying-full, laying-end}
 use Rattle.findings.specs.Finding.{codes}
 use Rattle.tally.proofs.Counting.{clear-on}
 use Rattle.tally.proofs.clear.Statement.{statement}

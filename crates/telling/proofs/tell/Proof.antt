@@ -6,11 +6,11 @@ use borrow.Author.Needs.{needs}
 use Rattle.telling.proofs.tell.Statement.{statement}
 use Rattle.telling.proofs.tell.Tie as tie
 
-slice-aggregate-table-gate : tie.Need-slice-aggregate-table-gate
-slice-aggregate-table-gate c = search needs
+slice-aggregate-check-input : tie.Need-slice-aggregate-check-input
+slice-aggregate-check-input c = search needs
 
-table-gate-requires : tie.Need-table-gate-requires
-table-gate-requires c κs = search needs
+check-input-requires : tie.Need-check-input-requires
+check-input-requires c κs = search needs
 
 enum-known-number : tie.Need-enum-known-number
 enum-known-number c = search needs
@@ -23,7 +23,7 @@ slice-aggregate-tell-in c = search needs
 
 tell-in-requires : tie.Need-tell-in-requires
 tell-in-requires c κs =
-    let g = c .before .before .before .before .before .before .before .table-gate in
+    let g = c .before .before .before .before .before .before .before .check-input in
     let a = c .before .before .before .before .before .before .before .before .before .before .before .before .before .before .before .args in
     let m = c .before .before .before .before .entries .given in
     let z = passed (now (a .table)) (now (a .source)) (now (a .tape)) (g .result) (g .ensures .0) (m .0 .0) (m .1) in
@@ -31,7 +31,7 @@ tell-in-requires c κs =
 
 returns : tie.Need-returns
 returns c =
-    let g = c .before .before .before .before .table-gate in
+    let g = c .before .before .before .before .check-input in
     let a = c .before .before .before .before .before .before .before .before .before .before .before .before .args in
     let z = shut (now (a .table)) (now (a .source)) (now (a .tape)) (g .result) (g .ensures .0) _ _ (c .before .number .given .1) in
     (rw z, (rw z, rw z))
@@ -45,7 +45,7 @@ same-length-2 c = search needs
 returns-2 : tie.Need-returns-2
 returns-2 c =
     let d = c .before .before .before .before .before in
-    let g = d .before .before .before .before .before .before .before .table-gate in
+    let g = d .before .before .before .before .before .before .before .check-input in
     let a = d .before .before .before .before .before .before .before .before .before .before .before .before .before .before .before .args in
     let m = d .before .before .before .before .entries .given in
     let z = passed (now (a .table)) (now (a .source)) (now (a .tape)) (g .result) (g .ensures .0) (m .0 .0) (m .1) in
@@ -55,8 +55,8 @@ pub tell-spec : {M : Type 1} → statement M
 tell-spec =
     tie.close
     (tie.spec
-    slice-aggregate-table-gate
-    table-gate-requires
+    slice-aggregate-check-input
+    check-input-requires
     enum-known-number
     enum-known-entries
     slice-aggregate-tell-in

@@ -3,7 +3,7 @@
 use Prim.Native.Nat.{_-_}
 use native.Mathlib.Omega.{arith}
 use mathlib.Core.Logic.{⊎-elim}
-use Rattle.laying.proofs.Over.{over-set}
+use Rattle.buffer.proofs.Over.{over-set}
 use Rattle.telling.specs.Telling.{textAt}
 use Rattle.telling.proofs.Telling.{Telling, telling-start, telling-more, telling-all, telling-stopped, within, end-past}
 use borrow.Author.Needs.{needs}

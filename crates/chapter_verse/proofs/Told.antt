@@ -1,0 +1,87 @@
+-- The checks of a Chapter and of a Verse by name, and their conditions as the code finds them.
+-- Assumes nothing.
+use Prim.Native.Nat.{ℕ, _-_}
+use mathlib.Core.Path.{_≡_, ap, _∙_}
+use mathlib.Core.Bool.{Bool, not}
+use mathlib.Core.List.{List}
+use mathlib.Core.Option.{Option}
+use lib.Dec.{eqb, ltb}
+use lib.ListN.{length, getD, take, drop}
+use Rattle.text.specs.Pick.{both}
+use Rattle.tape.specs.Nodes.{Node}
+use Rattle.table.specs.Entries.{Entry}
+use Rattle.cursor.specs.Names.{nameOf}
+use Rattle.numbers.specs.declared.LabelSpan.{LabelSpan}
+use Rattle.numbers.specs.Label.{isGlued, labelOf}
+use Rattle.numbers.specs.Inner.{Labelled}
+use Rattle.numbers.specs.Verse.{versePart}
+use Rattle.attachment.specs.Attached.{among}
+use Rattle.definition.specs.State.{State, Around}
+use Rattle.definition.specs.Checks.{Check, when, about, error, warning, isEmpty, breaks, letterByte}
+use Rattle.chapter_verse.specs.Inner.{LabelRead}
+
+abbrev pub label : Option Entry → Node → List ℕ
+label e x = labelOf e (x .text)
+
+-- a label that is longer than one digit and begins with 0
+abbrev pub led : List ℕ → Bool
+led s = both (ltb 1 (length s)) (eqb (getD s 0 0) 0x30)
+
+abbrev pub spaced : Option Entry → Node → Check
+spaced e x = when (isGlued e (nameOf (x .text))) (warning x 34 0)
+
+abbrev pub zeros : ℕ → Option Entry → Node → Check
+zeros form e x = when (led (label e x)) (error x 15 form)
+
+abbrev pub bareChapter : Option Entry → Node → Check
+bareChapter e x = when (isEmpty (label e x)) (error x 18 0)
+
+abbrev pub twice : State → Node → Check
+twice st x = when (among (x .link) (st .seen)) (about x 1 10 0 (x .link) 0)
+
+abbrev pub leaps : State → Node → Check
+leaps st x = when (not (eqb (x .link) (st .chapter))) (about x 1 9 0 (st .chapter) (x .link))
+
+abbrev pub stray : Around → State → Node → Check
+stray o st x = when (both (not (o .body)) (not (st .outsideWarned))) (warning x 12 0)
+
+abbrev pub crossing : Around → Node → Check
+crossing o x = when (o .char) (error x 20 0)
+
+abbrev pub bareVerse : Option Entry → Node → Check
+bareVerse e x = when (isEmpty (label e x)) (error x 19 0)
+
+abbrev pub amiss : Option Entry → State → Node → Check
+amiss e st x = when (breaks (versePart (label e x)) (st .verse)) (about x 1 11 0 (st .verse .number) (letterByte (st .verse .letter)))
+
+-- the label by its places in the node's text
+pub label-read : (e : Option Entry) (x : Node) (text : List ℕ) (at : LabelSpan) → text ≡ x .text → Labelled e text at → LabelRead e x (take (at .end - at .start) (drop (at .start) text)) (at .glued)
+label-read e x text at is-text h = record { is-label = h .is-label ∙ ap (labelOf e) is-text; is-glued = h .is-glued ∙ ap (λ (s : List ℕ). isGlued e (nameOf s)) is-text }
+
+-- the label as the code has it
+module _ (e : Option Entry) (x : Node) (l : List ℕ) (is-label : l ≡ label e x) where
+  pub is-led : (b : Bool) → b ≡ led l → b ≡ led (label e x)
+  is-led b h = h ∙ ap led is-label
+
+  pub is-bare : eqb (length l) 0 ≡ isEmpty (label e x)
+  is-bare = ap isEmpty is-label
+
+  pub is-amiss : (st : State) (b : Bool) → b ≡ breaks (versePart l) (st .verse) → b ≡ amiss e st x .holds
+  is-amiss st b h = h ∙ ap (λ (s : List ℕ). breaks (versePart s) (st .verse)) is-label
+
+-- the chapter's number as the code has it
+module _ (st : State) (x : Node) (n : ℕ) (is : n ≡ x .link) where
+  pub is-twice : (b : Bool) → b ≡ among n (st .seen) → b ≡ twice st x .holds
+  is-twice b h = h ∙ ap (λ (m : ℕ). among m (st .seen)) is
+
+  pub says-twice : about x 1 10 0 n 0 ≡ twice st x .finding
+  says-twice = ap (λ (m : ℕ). about x 1 10 0 m 0) is
+
+  pub is-leap : not (eqb n (st .chapter)) ≡ leaps st x .holds
+  is-leap = ap (λ (m : ℕ). not (eqb m (st .chapter))) is
+
+  pub says-leap : about x 1 9 0 (st .chapter) n ≡ leaps st x .finding
+  says-leap = ap (λ (m : ℕ). about x 1 9 0 (st .chapter) m) is
+
+pub says-amiss : (e : Option Entry) (st : State) (x : Node) (n : ℕ) → n ≡ letterByte (st .verse .letter) → about x 1 11 0 (st .verse .number) n ≡ amiss e st x .finding
+says-amiss e st x n h = ap (λ (m : ℕ). about x 1 11 0 (st .verse .number) m) h

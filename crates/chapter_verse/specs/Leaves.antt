@@ -1,0 +1,22 @@
+-- What the visit of a leaf promises.
+use Prim.Native.Nat.{ℕ, _+_, _<_, _≤_}
+use mathlib.Core.Path.{_≡_}
+use mathlib.Core.List.{List, []}
+use Rattle.tape.specs.Nodes.{nodeAt}
+use Rattle.findings.specs.Written.{Wrote}
+use Rattle.definition.specs.State.{State}
+use Rattle.definition.specs.State as state
+use Rattle.definition.specs.Checks.{leafTold}
+use Rattle.definition.specs.declared.OpenStart.{OpenStart}
+use Rattle.state.specs.Running.{stateOf, countsOf, Sane}
+use Rattle.state.specs.declared.Record.{Record}
+
+-- the findings of node i are written and counted, and the record is the one after it; the open starts may be any
+pub record LeafVisited (table s t : List ℕ) (o : state.Around) (i : ℕ) (seen l : List ℕ) (r : Record) (seen′ l′ : List ℕ) (q : Record) : Type 0 where
+  pub wrote : Wrote (leafTold table o (stateOf s t seen [] r) (nodeAt s t i) .findings) l (countsOf r) l′ (countsOf q)
+  pub state : (opens : List OpenStart) → stateOf s t seen′ opens q ≡ leafTold table o (stateOf s t seen opens r) (nodeAt s t i) .state
+  pub sane : Sane q
+  pub seen-few : q .seen ≤ r .seen + 1
+  pub verses-few : q .verses ≤ r .verses + 1
+  pub opens : q .«open» ≡ r .«open»
+  pub anchor : q .anchor ≡ r .anchor

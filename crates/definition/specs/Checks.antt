@@ -1,0 +1,270 @@
+-- The checks of one node, in the Rust's order: "Checks and findings stand in the Rust's order."
+use Prim.Native.Nat.{ℕ, _+_, _-_}
+use mathlib.Core.Bool.{Bool, true, false, not}
+use mathlib.Core.List.{List, [], _∷_, _++_}
+use mathlib.Core.Option.{Option, some, none}
+use lib.Dec.{eqb, ltb}
+use lib.ListN.{length, getD, take, drop}
+use Rattle.text.specs.Pick.{both, either, pickNat, within, cut}
+use Rattle.text.specs.Words.{firstWord, blankText}
+use Rattle.tape.specs.Nodes.{Node}
+use Rattle.tape.specs.Forest.{Forest, end, leaf, node, followed}
+use Rattle.table.specs.Bytes.{equal, oneOf}
+use Rattle.table.specs.Entries.{Entry, entries, nth}
+use Rattle.table.specs.Names.{frontMatter, noteOnly}
+use Rattle.table.specs.Books.{bookOf}
+use Rattle.cursor.specs.Names.{nameOf}
+use Rattle.cursor.specs.Info.{hasMarker, onlyFor}
+use Rattle.findings.specs.Finding.{Finding}
+use Rattle.findings.specs.Written.{only}
+use Rattle.numbers.specs.Label.{isGlued, pickList, labelOf, numbered}
+use Rattle.numbers.specs.Verse.{Position, versePart, verseEnd, next, pickBool, inSequence}
+use Rattle.attachment.specs.Attached.{among, isAttached}
+use Rattle.definition.specs.State.{State, firstVerse, Around, Anchor, Told}
+
+-- a finding with the span of a node: severity, code, form, two numbers
+abbrev pub about : Node → ℕ → ℕ → ℕ → ℕ → ℕ → Finding
+about x severity code form first second =
+    record {
+      severity = severity;
+      code = code;
+      start = x .start;
+      len = x .len;
+      node = x .number;
+      form = form;
+      first = first;
+      second = second;
+    }
+
+abbrev pub error : Node → ℕ → ℕ → Finding
+error x code form = about x 0 code form 0 0
+
+abbrev pub warning : Node → ℕ → ℕ → Finding
+warning x code form = about x 1 code form 0 0
+
+abbrev pub known : Option ℕ → Bool
+known none = false
+known (some n) = true
+
+-- the table entry of a node that bears a marker
+abbrev pub entryOf : List ℕ → Node → Option Entry
+entryOf table x = onlyFor (hasMarker (x .kind)) (nth (entries table) (x .marker))
+
+-- a finding under its condition, and the findings whose conditions hold, in order
+pub record Check : Type 0 where
+  pub holds : Bool
+  pub finding : Finding
+
+abbrev pub when : Bool → Finding → Check
+when b f = record { holds = b; finding = f }
+
+unfoldable pub given : List Check → List Finding
+given [] = []
+given (c ∷ cs) = only (c .holds) (c .finding) ++ given cs
+
+abbrev pub isEmpty : List ℕ → Bool
+isEmpty s = eqb (length s) 0
+
+-- MissingSpaceBeforeNumber, LeadingZeros ("0 chapter, 1 verse")
+abbrev pub numberForm : ℕ → Option Entry → Node → List Check
+numberForm form e x =
+    when (isGlued e (nameOf (x .text))) (warning x 34 0)
+    ∷ when (both (ltb 1 (length (labelOf e (x .text)))) (eqb (getD (labelOf e (x .text)) 0 0) 0x30)) (error x 15 form)
+    ∷ []
+
+-- MissingChapterNumber, DuplicateChapter, InvalidChapterSequence; a chapter's number is its link
+abbrev pub chapterChecks : Option Entry → State → Node → List Check
+chapterChecks e st x =
+    when (isEmpty (labelOf e (x .text))) (error x 18 0)
+    ∷ when (among (x .link) (st .seen)) (about x 1 10 0 (x .link) 0)
+    ∷ when (not (eqb (x .link) (st .chapter))) (about x 1 9 0 (st .chapter) (x .link))
+    ∷ numberForm 0 e x
+
+unfoldable pub afterChapter : State → Node → State
+afterChapter st x =
+    record {
+      hasId = st .hasId;
+      hasChapter = true;
+      hasVerse = st .hasVerse;
+      frontMatter = st .frontMatter;
+      outsideWarned = st .outsideWarned;
+      chapter = x .link + 1;
+      verse = firstVerse;
+      seen = x .link ∷ st .seen;
+      openStarts = st .openStarts;
+      verses = st .verses;
+    }
+
+abbrev pub letterByte : Option ℕ → ℕ
+letterByte none = 0
+letterByte (some b) = b
+
+-- a start that is read and breaks the sequence
+abbrev pub breaks : Option Position → Position → Bool
+breaks none expected = false
+breaks (some p) expected = not (inSequence expected p)
+
+-- "The end is read after the first `-`, else the start serves."
+abbrev pub endOr : Option Position → Position → Position
+endOr none start = start
+endOr (some e) start = e
+
+-- a label that isn't read leaves the expected verse
+abbrev pub nextBy : Option Position → List ℕ → Position → Position
+nextBy none label expected = expected
+nextBy (some p) label expected = next (endOr (verseEnd label) p)
+
+-- VerseOutsideParagraph once, CharCrossesVerseBoundary, MissingVerseNumber, InvalidVerseSequence ("expected number, letter byte or 0")
+abbrev pub verseChecks : Option Entry → Around → State → Node → List Check
+verseChecks e o st x =
+    when (both (not (o .body)) (not (st .outsideWarned))) (warning x 12 0)
+    ∷ when (o .char) (error x 20 0)
+    ∷ when (isEmpty (labelOf e (x .text))) (error x 19 0)
+    ∷ when (breaks (versePart (labelOf e (x .text))) (st .verse)) (about x 1 11 0 (st .verse .number) (letterByte (st .verse .letter)))
+    ∷ numberForm 1 e x
+
+unfoldable pub afterVerse : Option Entry → Around → State → Node → State
+afterVerse e o st x =
+    record {
+      hasId = st .hasId;
+      hasChapter = st .hasChapter;
+      hasVerse = true;
+      frontMatter = st .frontMatter;
+      outsideWarned = either (st .outsideWarned) (not (o .body));
+      chapter = st .chapter;
+      verse = nextBy (versePart (labelOf e (x .text))) (labelOf e (x .text)) (st .verse);
+      seen = st .seen;
+      openStarts = st .openStarts;
+      verses = st .verses + 1;
+    }
+
+abbrev pub pickChecks : Bool → List Check → List Check → List Check
+pickChecks true a b = a
+pickChecks false a b = b
+
+abbrev pub pickState : Bool → State → State → State
+pickState true a b = a
+pickState false a b = b
+
+-- a Chapter, a Verse, or any other leaf, of which nothing is said
+unfoldable pub leafTold : List ℕ → Around → State → Node → Told
+leafTold table o st x =
+    record {
+      findings = given (pickChecks (eqb (x .kind) 3) (chapterChecks (entryOf table x) st x) (pickChecks (eqb (x .kind) 4) (verseChecks (entryOf table x) o st x) []));
+      state = pickState (eqb (x .kind) 3) (afterChapter st x) (pickState (eqb (x .kind) 4) (afterVerse (entryOf table x) o st x) st);
+    }
+
+-- "The book code = first whitespace token of the `\id` line's text", its first Text; empty where there is none
+unfoldable pub bookCode : Forest → List ℕ
+bookCode end = []
+bookCode (leaf x r) = pickList (eqb (x .kind) 5) (cut (firstWord (x .text)) (x .text)) (bookCode r)
+bookCode (node x c r) = bookCode r
+
+abbrev pub isBook : List ℕ → Bool
+isBook code = known (bookOf code)
+
+unfoldable pub upper : List ℕ → List ℕ
+upper [] = []
+upper (b ∷ s) = pickNat (within 0x61 0x7A b) (b - 32) b ∷ upper s
+
+-- `id`: DuplicateId, InvalidBookCode ("0 should be uppercase, 1 not valid")
+abbrev pub idChecks : Bool → State → List ℕ → Node → List Check
+idChecks named st code x =
+    when (both named (st .hasId)) (error x 6 0)
+    ∷ when (both named (both (not (isEmpty code)) (not (isBook code)))) (warning x 5 (pickNat (isBook (upper code)) 0 1))
+    ∷ []
+
+-- without a book code the front-matter flag stays as it was
+abbrev pub frontBy : List ℕ → Bool → Bool
+frontBy code before = pickBool (isEmpty code) before (oneOf frontMatter code)
+
+unfoldable pub afterId : Bool → State → Forest → State
+afterId named st c =
+    record {
+      hasId = either named (st .hasId);
+      hasChapter = st .hasChapter;
+      hasVerse = st .hasVerse;
+      frontMatter = pickBool named (frontBy (bookCode c) (st .frontMatter)) (st .frontMatter);
+      outsideWarned = st .outsideWarned;
+      chapter = st .chapter;
+      verse = st .verse;
+      seen = st .seen;
+      openStarts = st .openStarts;
+      verses = st .verses;
+    }
+
+-- content of a `\b`: a Text that isn't blank or a marker, before any Verse or Chapter
+unfoldable pub inlineContent : Forest → Bool
+inlineContent end = false
+inlineContent (leaf x r) = pickBool (numbered (x .kind)) false (pickBool (both (eqb (x .kind) 5) (not (blankText (x .text)))) true (inlineContent r))
+inlineContent (node x c r) = true
+
+-- a Text that isn't blank
+unfoldable pub hasText : Forest → Bool
+hasText end = false
+hasText (leaf x r) = either (both (eqb (x .kind) 5) (not (blankText (x .text)))) (hasText r)
+hasText (node x c r) = hasText r
+
+unfoldable pub hasAttribute : Forest → Bool
+hasAttribute end = false
+hasAttribute (leaf x r) = either (eqb (x .kind) 6) (hasAttribute r)
+hasAttribute (node x c r) = hasAttribute r
+
+unfoldable pub hasMarkers : Forest → Bool
+hasMarkers end = false
+hasMarkers (leaf x r) = hasMarkers r
+hasMarkers (node x c r) = true
+
+-- ca, cp, va, vp
+unfoldable pub numberMarkers : List (List ℕ)
+numberMarkers =
+    (0x63 ∷ 0x61 ∷ [])
+    ∷ (0x63 ∷ 0x70 ∷ [])
+    ∷ (0x76 ∷ 0x61 ∷ [])
+    ∷ (0x76 ∷ 0x70 ∷ [])
+    ∷ []
+
+-- of the siblings that follow the anchor, those passed since and those from here on
+abbrev pub attachedTo : Option Anchor → Forest → ℕ → Bool
+attachedTo none f at = false
+attachedTo (some a) f at = isAttached (a .kind) (followed (a .passed) f) at
+
+-- `id`, `b`, `fig`, `w`, `rb`, `tr`
+abbrev pub idName : List ℕ
+idName = 0x69 ∷ 0x64 ∷ []
+
+abbrev pub bName : List ℕ
+bName = 0x62 ∷ []
+
+abbrev pub figName : List ℕ
+figName = 0x66 ∷ 0x69 ∷ 0x67 ∷ []
+
+abbrev pub wName : List ℕ
+wName = 0x77 ∷ []
+
+abbrev pub rbName : List ℕ
+rbName = 0x72 ∷ 0x62 ∷ []
+
+abbrev pub trName : List ℕ
+trName = 0x74 ∷ 0x72 ∷ []
+
+-- a paragraph that can hold verse text
+abbrev pub isBody : Entry → Bool
+isBody e = both (eqb (e .category) 3) (eqb (e .role) 2)
+
+-- NoteSubmarkerOutsideNote, NonEmptyBlankLine, BodyParagraphBeforeChapter, MisplacedNumberMarker: of a marker with its table name, the record after `id`, the anchor, its children and the siblings from it on
+abbrev pub placeChecks : List ℕ → Entry → Around → Option Anchor → State → Node → Forest → Forest → List Check
+placeChecks name e o a st x c f =
+    when (both (eqb (e .category) 4) (both (not (o .note)) (oneOf noteOnly name))) (error x 13 0)
+    ∷ when (both (equal name bName) (inlineContent c)) (error x 14 0)
+    ∷ when (both (isBody e) (both (not (st .hasChapter)) (not (st .frontMatter)))) (error x 24 0)
+    ∷ when (both (oneOf numberMarkers name) (both (oneOf numberMarkers (nameOf (x .text))) (not (attachedTo a f (x .start))))) (warning x 33 0)
+    ∷ []
+
+-- EmptyFigure, EmptyWordMarker, MissingRequiredAttribute
+abbrev pub contentChecks : List ℕ → Node → Forest → List Check
+contentChecks name x c =
+    when (both (equal name figName) (not (hasText c))) (error x 21 0)
+    ∷ when (both (equal name wName) (not (either (hasText c) (either (hasAttribute c) (hasMarkers c))))) (error x 25 0)
+    ∷ when (both (equal name rbName) (not (hasAttribute c))) (error x 23 0)
+    ∷ []

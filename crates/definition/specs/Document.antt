@@ -1,0 +1,69 @@
+-- A whole document: TextBeforeId, the walk of the root's children, the closing findings.
+use Prim.Native.Nat.{ℕ}
+use mathlib.Core.Bool.{Bool, true, false, not}
+use mathlib.Core.List.{List, [], _∷_, _++_}
+use mathlib.Core.Option.{Option, some, none}
+use lib.Dec.{eqb}
+use Rattle.text.specs.Pick.{both, either}
+use Rattle.text.specs.Words.{blankText}
+use Rattle.tape.specs.Nodes.{Node}
+use Rattle.tape.specs.Forest.{Forest, end, leaf, node}
+use Rattle.findings.specs.Finding.{Finding}
+use Rattle.findings.specs.Written.{only}
+use Rattle.attributes.specs.Attributes.{pickFindings}
+use mathlib.Core.Path.{_≡_}
+use Rattle.definition.specs.State.{State, initial, outside}
+use Rattle.definition.specs.Checks.{error, warning, when, given}
+use Rattle.definition.specs.Walk.{Walked, walk}
+
+-- TextBeforeId: the first child of the root is a Text that isn't blank
+unfoldable pub textBefore : Forest → List Finding
+textBefore end = []
+textBefore (leaf x r) = only (both (eqb (x .kind) 5) (not (blankText (x .text)))) (warning x 7 0)
+textBefore (node x c r) = []
+
+-- "its finding is a MilestoneMismatch of form 0 with its node"; the open starts are held the latest first, and given "in opening order"
+unfoldable pub unclosed : List Node → List Finding
+unclosed [] = []
+unclosed (x ∷ xs) = unclosed xs ++ error x 16 0 ∷ []
+
+-- of no node: "0 for the document"
+abbrev pub ofDocument : ℕ → Finding
+ofDocument code = record { severity = 0; code = code; start = 0; len = 0; node = 0; form = 0; first = 0; second = 0 }
+
+-- "Unclosed starts in opening order, then MissingIdMarker, then MissingChapterMarker: these are the closing findings."
+unfoldable pub closing : State → List Finding
+closing st =
+    unclosed (st .openStarts)
+    ++ given
+    (when (both (not (st .hasId)) (either (st .hasChapter) (st .hasVerse))) (ofDocument 4)
+    ∷ when (both (either (st .hasId) (st .hasVerse)) (both (not (st .hasChapter)) (not (st .frontMatter)))) (ofDocument 8)
+    ∷ [])
+
+-- the walk of the root's children
+abbrev pub walked : List ℕ → Forest → Walked
+walked table f = walk table outside none f initial
+
+-- the findings before the closing ones
+abbrev pub running : List ℕ → Forest → List Finding
+running table f = textBefore f ++ walked table f .findings
+
+abbrev pub findings : List ℕ → Forest → List Finding
+findings table f = running table f ++ closing (walked table f .state)
+
+abbrev pub versesVisited : List ℕ → Forest → ℕ
+versesVisited table f = walked table f .state .verses
+
+-- the findings of unclosed starts
+abbrev pub unclosedOf : List ℕ → Forest → List Finding
+unclosedOf table f = unclosed (walked table f .state .openStarts)
+
+-- the findings of a list that pass a test, in order
+unfoldable pub those : (Finding → Bool) → List Finding → List Finding
+those p [] = []
+those p (f ∷ fs) = pickFindings (p f) (f ∷ those p fs) (those p fs)
+
+-- one list of findings is a beginning of another
+pub record Beginning (fs gs : List Finding) : Type 0 where
+  pub more : List Finding
+  pub is : gs ≡ fs ++ more

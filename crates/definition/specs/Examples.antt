@@ -1,0 +1,334 @@
+-- Worked examples: documents, and the findings that document 01 gives them.
+use Prim.Native.Nat.{ℕ, _+_, _/_, _%_}
+use mathlib.Core.List.{List, [], _∷_, _++_}
+use Rattle.text.specs.Literal.{ascii}
+use Rattle.tape.specs.Forest.{top}
+use Rattle.findings.specs.Finding.{Finding}
+use Rattle.definition.specs.Document.{findings}
+
+-- a node by its fields: "kind, marker, start, len, link; flags 0"
+pub record Row : Type 0 where
+  pub kind : ℕ
+  pub marker : ℕ
+  pub start : ℕ
+  pub len : ℕ
+  pub link : ℕ
+
+abbrev pub at : ℕ → ℕ → ℕ → ℕ → ℕ → Row
+at kind marker start len link = record { kind = kind; marker = marker; start = start; len = len; link = link }
+
+-- four bytes, the lowest first
+abbrev pub four : ℕ → List ℕ
+four n = n % 256 ∷ n / 256 % 256 ∷ n / 65536 % 256 ∷ n / 16777216 ∷ []
+
+unfoldable pub tapeOf : List Row → List ℕ
+tapeOf [] = []
+tapeOf (r ∷ rs) = (r .kind ∷ 0 ∷ r .marker % 256 ∷ r .marker / 256 ∷ []) ++ four (r .start) ++ four (r .len) ++ four (r .link) ++ tapeOf rs
+
+abbrev pub found : ℕ → ℕ → ℕ → ℕ → ℕ → ℕ → ℕ → ℕ → Finding
+found severity code start len number form first second =
+    record {
+      severity = severity;
+      code = code;
+      start = start;
+      len = len;
+      node = number;
+      form = form;
+      first = first;
+      second = second;
+    }
+
+pub record Example : Type 0 where
+  pub source : List ℕ
+  pub nodes : List Row
+  pub wanted : List Finding
+
+abbrev pub example : List ℕ → List Row → List Finding → Example
+example source nodes wanted = record { source = source; nodes = nodes; wanted = wanted }
+
+-- the table of all examples
+unfoldable pub table : List ℕ
+table =
+    ascii "name=id\ncategory=identification\nrole=excluded\n"
+    ++ ascii "name=c\ncategory=chapter\nrole=content\n"
+    ++ ascii "name=v\ncategory=verse\nrole=content\n"
+    ++ ascii "name=p\ncategory=paragraph\nrole=boundary\n"
+    ++ ascii "name=add\ncategory=character\nrole=content\n"
+    ++ ascii "name=fr\ncategory=character\nrole=content\n"
+    ++ ascii "name=f\ncategory=note\nrole=content\n"
+    ++ ascii "name=b\ncategory=paragraph\nrole=boundary\n"
+    ++ ascii "name=fig\ncategory=character\nrole=content\n"
+    ++ ascii "name=w\ncategory=character\nrole=content\n"
+    ++ ascii "name=tr\ncategory=paragraph\nrole=boundary\n"
+    ++ ascii "name=tc\ncategory=character\nrole=content\n"
+    ++ ascii "name=ca\ncategory=character\nrole=content\n"
+    ++ ascii "name=qt-s\ncategory=milestone\nrole=content\n"
+    ++ ascii "name=qt-e\ncategory=milestone\nrole=content\n"
+
+-- the listing's document
+unfoldable pub example1 : Example
+example1 =
+    example (ascii "\\id GEN\n\\c 1\n\\p\n\\v 2 Word")
+    (at 0 0 0 25 9
+    ∷ at 1 0 0 3 3
+    ∷ at 5 0 3 5 0
+    ∷ at 7 0 8 0 0
+    ∷ at 3 1 8 5 1
+    ∷ at 1 3 13 2 8
+    ∷ at 4 2 16 5 2
+    ∷ at 5 0 21 4 0
+    ∷ at 7 3 25 0 0
+    ∷ [])
+    (found 1 11 16 5 6 0 1 0
+    ∷ [])
+
+-- in order: nothing is found
+unfoldable pub example2 : Example
+example2 =
+    example (ascii "\\id GEN\n\\c 1\n\\p\\v 1 Word")
+    (at 0 0 0 24 9
+    ∷ at 1 0 0 3 3
+    ∷ at 5 0 3 5 0
+    ∷ at 7 0 8 0 0
+    ∷ at 3 1 8 5 1
+    ∷ at 1 3 13 2 8
+    ∷ at 4 2 15 5 1
+    ∷ at 5 0 20 4 0
+    ∷ at 7 3 24 0 0
+    ∷ [])
+    ([])
+
+-- a blank first Text of `\id` means no code
+unfoldable pub example3 : Example
+example3 =
+    example (ascii "\\id \nXYZ\n\\c 1\n")
+    (at 0 0 0 14 6
+    ∷ at 1 0 0 3 4
+    ∷ at 5 0 3 2 0
+    ∷ at 5 0 5 4 0
+    ∷ at 7 0 9 0 0
+    ∷ at 3 1 9 5 1
+    ∷ [])
+    ([])
+
+-- a code in small letters; a second `\id`, whose code is none
+unfoldable pub example4 : Example
+example4 =
+    example (ascii "\\id gen\n\\id XYZ\n\\c 1\n")
+    (at 0 0 0 21 8
+    ∷ at 1 0 0 3 3
+    ∷ at 5 0 3 5 0
+    ∷ at 7 0 8 0 0
+    ∷ at 1 0 8 3 6
+    ∷ at 5 0 11 5 0
+    ∷ at 7 0 16 0 0
+    ∷ at 3 1 16 5 1
+    ∷ [])
+    (found 1 5 0 3 1 0 0 0
+    ∷ found 0 6 8 3 4 0 0 0
+    ∷ found 1 5 8 3 4 1 0 0
+    ∷ [])
+
+-- the anchor is kept past a paragraph: by its start offset the second `\ca` is the attached one
+unfoldable pub example5 : Example
+example5 =
+    example (ascii "\\id GEN\n\\c 1\n\\ca 2\\ca*\\p 2\\ca*")
+    (at 0 0 0 30 13
+    ∷ at 1 0 0 3 3
+    ∷ at 5 0 3 5 0
+    ∷ at 7 0 8 0 0
+    ∷ at 3 1 8 5 1
+    ∷ at 1 12 13 3 7
+    ∷ at 5 0 16 2 0
+    ∷ at 2 12 18 4 0
+    ∷ at 1 3 22 2 9
+    ∷ at 7 3 24 0 0
+    ∷ at 1 12 13 3 12
+    ∷ at 5 0 24 2 0
+    ∷ at 2 12 26 4 0
+    ∷ [])
+    ([])
+
+-- a `\ca` after text is misplaced
+unfoldable pub example6 : Example
+example6 =
+    example (ascii "\\id GEN\n\\c 1\nx\\ca 2\\ca*")
+    (at 0 0 0 23 9
+    ∷ at 1 0 0 3 3
+    ∷ at 5 0 3 5 0
+    ∷ at 7 0 8 0 0
+    ∷ at 3 1 8 5 1
+    ∷ at 5 0 13 1 0
+    ∷ at 1 12 14 3 8
+    ∷ at 5 0 17 2 0
+    ∷ at 2 12 19 4 0
+    ∷ [])
+    (found 1 33 14 3 6 0 0 0
+    ∷ [])
+
+-- a chapter's sequence goes by its link, and not by its label
+unfoldable pub example7 : Example
+example7 =
+    example (ascii "\\id GEN\n\\c 2\n")
+    (at 0 0 0 13 5
+    ∷ at 1 0 0 3 3
+    ∷ at 5 0 3 5 0
+    ∷ at 7 0 8 0 0
+    ∷ at 3 1 8 5 1
+    ∷ [])
+    ([])
+
+-- a chapter below a marker without an entry is not seen
+unfoldable pub example8 : Example
+example8 =
+    example (ascii "\\id GEN\n\\zz\\c 1\n\\zz*\\c 1\n")
+    (at 0 0 0 25 8
+    ∷ at 1 0 0 3 3
+    ∷ at 5 0 3 5 0
+    ∷ at 7 0 8 0 0
+    ∷ at 1 99 8 3 6
+    ∷ at 3 1 11 5 1
+    ∷ at 2 99 16 4 0
+    ∷ at 3 1 20 5 1
+    ∷ [])
+    ([])
+
+-- an end takes the nearest start that is free, a further end finds none, and a last start stays unclosed
+unfoldable pub example9 : Example
+example9 =
+    example (ascii "\\id GEN\n\\c 1\n\\qt-s\\*\\qt-s\\*\\qt-e\\*\\p\\qt-e\\*\\qt-e\\*\\qt-s\\*")
+    (at 0 0 0 57 19
+    ∷ at 1 0 0 3 3
+    ∷ at 5 0 3 5 0
+    ∷ at 7 0 8 0 0
+    ∷ at 3 1 8 5 1
+    ∷ at 1 13 13 5 6
+    ∷ at 2 13 18 2 0
+    ∷ at 1 13 20 5 8
+    ∷ at 2 13 25 2 0
+    ∷ at 1 14 27 5 10
+    ∷ at 2 14 32 2 0
+    ∷ at 1 3 34 2 18
+    ∷ at 1 14 36 5 13
+    ∷ at 2 14 41 2 0
+    ∷ at 1 14 43 5 15
+    ∷ at 2 14 48 2 0
+    ∷ at 1 13 50 5 17
+    ∷ at 2 13 55 2 0
+    ∷ at 7 3 57 0 0
+    ∷ [])
+    (found 0 16 43 5 14 1 0 0
+    ∷ found 0 16 50 5 16 0 0 0
+    ∷ [])
+
+-- a verse outside a paragraph is warned of once; 9a may follow 9, and 9 may not follow 9a
+unfoldable pub example10 : Example
+example10 =
+    example (ascii "\\id GEN\n\\c 1\n\\v 1-9 \\v 9a \\v 9 ")
+    (at 0 0 0 31 8
+    ∷ at 1 0 0 3 3
+    ∷ at 5 0 3 5 0
+    ∷ at 7 0 8 0 0
+    ∷ at 3 1 8 5 1
+    ∷ at 4 2 13 7 19
+    ∷ at 4 2 20 6 9
+    ∷ at 4 2 26 5 9
+    ∷ [])
+    (found 1 12 13 7 5 0 0 0
+    ∷ found 1 11 26 5 7 0 9 98
+    ∷ [])
+
+-- attributes: an empty value, a value without quotes and a key without a value
+unfoldable pub example11 : Example
+example11 =
+    example (ascii "\\id GEN\n\\c 1\n\\p\\w x|lemma=\"\" a=b c\\w*")
+    (at 0 0 0 37 11
+    ∷ at 1 0 0 3 3
+    ∷ at 5 0 3 5 0
+    ∷ at 7 0 8 0 0
+    ∷ at 3 1 8 5 1
+    ∷ at 1 3 13 2 10
+    ∷ at 1 9 15 2 9
+    ∷ at 5 0 17 2 0
+    ∷ at 6 0 19 15 0
+    ∷ at 2 9 34 3 0
+    ∷ at 7 3 37 0 0
+    ∷ [])
+    (found 2 17 19 15 8 2 0 0
+    ∷ found 0 22 19 15 8 0 0 0
+    ∷ found 0 17 19 15 8 1 0 0
+    ∷ [])
+
+-- a cell out of order, in a row
+unfoldable pub example12 : Example
+example12 =
+    example (ascii "\\id GEN\n\\c 1\n\\tr\\tc1-2\\tc4")
+    (at 0 0 0 26 11
+    ∷ at 1 0 0 3 3
+    ∷ at 5 0 3 5 0
+    ∷ at 7 0 8 0 0
+    ∷ at 3 1 8 5 1
+    ∷ at 1 10 13 3 10
+    ∷ at 1 11 16 6 7
+    ∷ at 7 11 22 0 0
+    ∷ at 1 11 22 4 9
+    ∷ at 7 11 26 0 0
+    ∷ at 7 10 26 0 0
+    ∷ [])
+    (found 0 27 22 4 8 0 3 4
+    ∷ [])
+
+-- text before `\id`, a body paragraph before any chapter, and no chapter at all
+unfoldable pub example13 : Example
+example13 =
+    example (ascii "x\\id GEN\n\\p")
+    (at 0 0 0 11 7
+    ∷ at 5 0 0 1 0
+    ∷ at 1 0 1 3 4
+    ∷ at 5 0 4 5 0
+    ∷ at 7 0 9 0 0
+    ∷ at 1 3 9 2 6
+    ∷ at 7 3 11 0 0
+    ∷ [])
+    (found 1 7 0 1 1 0 0 0
+    ∷ found 0 24 9 2 5 0 0 0
+    ∷ found 0 8 0 0 0 0 0 0
+    ∷ [])
+
+-- a chapter without `\id`; a label with a leading zero, glued to its marker
+unfoldable pub example14 : Example
+example14 =
+    example (ascii "\\c01\n")
+    (at 0 0 0 5 2
+    ∷ at 3 1 0 5 1
+    ∷ [])
+    (found 1 34 0 5 1 0 0 0
+    ∷ found 0 15 0 5 1 0 0 0
+    ∷ found 0 4 0 0 0 0 0 0
+    ∷ [])
+
+unfoldable pub examples : List Example
+examples =
+    example1
+    ∷ example2
+    ∷ example3
+    ∷ example4
+    ∷ example5
+    ∷ example6
+    ∷ example7
+    ∷ example8
+    ∷ example9
+    ∷ example10
+    ∷ example11
+    ∷ example12
+    ∷ example13
+    ∷ example14
+    ∷ []
+
+unfoldable pub given : List Example → List (List Finding)
+given [] = []
+given (e ∷ es) = findings table (top (e .source) (tapeOf (e .nodes))) ∷ given es
+
+unfoldable pub wantedOf : List Example → List (List Finding)
+wantedOf [] = []
+wantedOf (e ∷ es) = e .wanted ∷ wantedOf es

@@ -1,0 +1,7 @@
+pub mod State
+pub mod Checks
+pub mod Walk
+pub mod Milestones
+pub mod Document
+pub mod Outcome
+pub mod Examples

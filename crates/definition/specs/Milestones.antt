@@ -1,0 +1,134 @@
+-- Document 01, module 9: milestones. "A milestone start or end and its base are read from its marker as in the Rust; it is visited unless module 8 passes it over."
+use Prim.Native.Nat.{ℕ, _+_, _-_, _≤_}
+use mathlib.Core.Bool.{Bool, true, false, not}
+use mathlib.Core.List.{List, [], _∷_, _++_}
+use mathlib.Core.Option.{Option, some, none}
+use lib.Dec.{eqb, leb}
+use lib.ListN.{length, getD, take, drop}
+use Rattle.text.specs.Pick.{both, either}
+use Rattle.tape.specs.Nodes.{Node}
+use Rattle.tape.specs.Forest.{Forest, end, leaf, node}
+use Rattle.table.specs.Bytes.{equal}
+use Rattle.table.specs.Entries.{Entry}
+use Rattle.cursor.specs.Names.{nameOf}
+use Rattle.definition.specs.State.{State}
+use Rattle.definition.specs.Checks.{error, entryOf, Check, when}
+
+-- the name ends in a hyphen and the letter
+abbrev pub endsIn : ℕ → List ℕ → Bool
+endsIn letter name = equal (drop (length name - 2) name) (0x2D ∷ letter ∷ [])
+
+-- `-s` and `-e`
+abbrev pub isStart : Node → Bool
+isStart x = endsIn 0x73 (nameOf (x .text))
+
+abbrev pub isEnd : Node → Bool
+isEnd x = endsIn 0x65 (nameOf (x .text))
+
+-- "`qt-s`→`qt`, `zaln-e`→`zaln`"
+abbrev pub baseOf : Node → List ℕ
+baseOf x = take (length (nameOf (x .text)) - 2) (nameOf (x .text))
+
+abbrev pub sameBase : Node → Node → Bool
+sameBase x y = equal (baseOf x) (baseOf y)
+
+abbrev pub isMilestone : Entry → Node → Bool
+isMilestone e x = both (eqb (e .category) 6) (either (isStart x) (isEnd x))
+
+abbrev pub withOpen : State → List Node → State
+withOpen st starts =
+    record {
+      hasId = st .hasId;
+      hasChapter = st .hasChapter;
+      hasVerse = st .hasVerse;
+      frontMatter = st .frontMatter;
+      outsideWarned = st .outsideWarned;
+      chapter = st .chapter;
+      verse = st .verse;
+      seen = st .seen;
+      openStarts = starts;
+      verses = st .verses;
+    }
+
+-- an open start of the base of x
+unfoldable pub waits : Node → List Node → Bool
+waits x [] = false
+waits x (y ∷ ys) = either (sameBase y x) (waits x ys)
+
+abbrev pub pickNodes : Bool → List Node → List Node → List Node
+pickNodes true a b = a
+pickNodes false a b = b
+
+-- the open starts without the latest of the base of x
+unfoldable pub without : Node → List Node → List Node
+without x [] = []
+without x (y ∷ ys) = pickNodes (sameBase y x) ys (y ∷ without x ys)
+
+abbrev pub openAfter : Bool → Node → List Node → List Node
+openAfter begins x xs = pickNodes begins (x ∷ xs) (without x xs)
+
+-- MilestoneMismatch: "1 end"
+abbrev pub milestoneChecks : Entry → State → Node → List Check
+milestoneChecks e st x = when (both (isMilestone e x) (both (not (isStart x)) (not (waits x (st .openStarts))))) (error x 16 1) ∷ []
+
+unfoldable pub afterMilestone : Entry → State → Node → State
+afterMilestone e st x = withOpen st (pickNodes (isMilestone e x) (openAfter (isStart x) x (st .openStarts)) (st .openStarts))
+
+-- The order of visits: the milestones of a run that are visited, in order.
+
+abbrev pub visitOf : Option Entry → Node → List Node → List Node → List Node
+visitOf none x below after = after
+visitOf (some e) x below after = pickNodes (isMilestone e x) (x ∷ []) [] ++ below ++ after
+
+unfoldable pub visits : List ℕ → Forest → List Node
+visits table end = []
+visits table (leaf x r) = visits table r
+visits table (node x c r) = visitOf (entryOf table x) x (visits table c) (visits table r)
+
+-- "A visited end takes the nearest earlier visited start of the same base that no end took before". A milestone that was visited, and the end that took it, if one did
+pub record Mark : Type 0 where
+  pub milestone : Node
+  pub taker : Option Node
+
+abbrev pub free : Option Node → Bool
+free none = true
+free (some e) = false
+
+abbrev pub untaken : Mark → Bool
+untaken m = both (isStart (m .milestone)) (free (m .taker))
+
+abbrev pub pickMarks : Bool → List Mark → List Mark → List Mark
+pickMarks true a b = a
+pickMarks false a b = b
+
+-- among the milestones before it, the latest first, an end takes the nearest start of its base that is free
+unfoldable pub taking : Node → List Mark → List Mark
+taking x [] = []
+taking x (m ∷ ms) =
+    pickMarks (both (untaken m) (sameBase (m .milestone) x)) (record { milestone = m .milestone; taker = some x } ∷ ms) (m ∷ taking x ms)
+
+-- one visit more
+abbrev pub met : Node → List Mark → List Mark
+met x ms = record { milestone = x; taker = none } ∷ pickMarks (isStart x) ms (taking x ms)
+
+-- the marks after all visits, the latest first
+unfoldable pub marksFrom : List Mark → List Node → List Mark
+marksFrom ms [] = ms
+marksFrom ms (x ∷ xs) = marksFrom (met x ms) xs
+
+abbrev pub marks : List Node → List Mark
+marks xs = marksFrom [] xs
+
+-- the starts that no end took, the latest first
+unfoldable pub freeStarts : List Mark → List Node
+freeStarts [] = []
+freeStarts (m ∷ ms) = pickNodes (untaken m) (m .milestone ∷ freeStarts ms) (freeStarts ms)
+
+-- the milestone with the number is taken by an end whose number is at least `from`
+abbrev pub takerFrom : ℕ → Option Node → Bool
+takerFrom from none = false
+takerFrom from (some e) = leb from (e .number)
+
+unfoldable pub takenFrom : ℕ → ℕ → List Mark → Bool
+takenFrom from number [] = false
+takenFrom from number (m ∷ ms) = either (both (eqb (m .milestone .number) number) (takerFrom from (m .taker))) (takenFrom from number ms)

@@ -1,0 +1,79 @@
+-- Document 01, module 8: the walk over a run of siblings, structural over the forest.
+use Prim.Native.Nat.{ℕ}
+use mathlib.Core.Bool.{Bool, true, false}
+use mathlib.Core.List.{List, [], _∷_, _++_}
+use mathlib.Core.Option.{Option, some, none}
+use lib.Dec.{eqb}
+use Rattle.text.specs.Pick.{either, cut}
+use Rattle.tape.specs.Nodes.{Node}
+use Rattle.tape.specs.Forest.{Forest, end, leaf, node}
+use Rattle.table.specs.Bytes.{equal}
+use Rattle.table.specs.Entries.{Entry}
+use Rattle.cursor.specs.Names.{nameOf}
+use Rattle.findings.specs.Finding.{Finding}
+use Rattle.attributes.specs.Attributes.{pickFindings, attributesFindings}
+use Rattle.rows.specs.Row.{rowFindings}
+use Rattle.numbers.specs.Label.{numbered}
+use Rattle.definition.specs.State.{State, Around, Anchor, past, Told}
+use Rattle.definition.specs.Checks.{given, entryOf, leafTold, idName, trName, bookCode, idChecks, afterId, isBody, placeChecks, contentChecks}
+use Rattle.definition.specs.Milestones.{milestoneChecks, afterMilestone}
+
+-- the findings of a run, its last anchor, and the record after it
+pub record Walked : Type 0 where
+  pub findings : List Finding
+  pub anchor : Option Anchor
+  pub state : State
+
+abbrev pub pickAnchor : Bool → Option Anchor → Option Anchor → Option Anchor
+pickAnchor true a b = a
+pickAnchor false a b = b
+
+-- a Chapter or Verse is the new anchor; other leaves are passed
+abbrev pub leafAnchor : Option Anchor → Node → Option Anchor
+leafAnchor a x = pickAnchor (numbered (x .kind)) (some (record { kind = x .kind; passed = end })) (past a (leaf x end))
+
+-- by its table name, and the record after `id`; the row of a `tr` and the attributes stand before the milestone
+abbrev pub openBy : List ℕ → State → Around → Option Anchor → State → Entry → Node → Forest → Forest → Told
+openBy name st₁ o a st e x c f =
+    record {
+      findings =
+          given (idChecks (equal name idName) st (bookCode c) x ++ placeChecks name e o a st₁ x c f ++ contentChecks name x c)
+          ++ pickFindings (equal name trName) (rowFindings c) []
+          ++ attributesFindings (x .number) (nameOf (x .text)) c
+          ++ given (milestoneChecks e st₁ x);
+      state = afterMilestone e st₁ x;
+    }
+
+-- all that is said of a marker before its children are walked: `f` are the siblings from it on
+unfoldable pub openTold : List ℕ → Around → Option Anchor → State → Entry → Node → Forest → Forest → Told
+openTold table o a st e x c f = openBy (cut (e .name) table) (afterId (equal (cut (e .name) table) idName) st c) o a st e x c f
+
+-- what lies around the children of a marker
+abbrev pub inside : Around → Entry → Around
+inside o e =
+    record {
+      body = either (o .body) (isBody e);
+      note = either (o .note) (eqb (e .category) 5);
+      char = either (o .char) (eqb (e .category) 4);
+    }
+
+abbrev pub before : List Finding → Walked → Walked
+before fs w = record { findings = fs ++ w .findings; anchor = w .anchor; state = w .state }
+
+abbrev pub after : Told → (State → Walked) → Walked
+after t rest = before (t .findings) (rest (t .state))
+
+abbrev pub thenWalk : Walked → (State → Walked) → Walked
+thenWalk w rest = before (w .findings) (rest (w .state))
+
+-- "A MarkerOpen whose marker number has no table entry is passed over with all below it."
+abbrev pub byEntry : Option Entry → Walked → (Entry → Walked) → Walked
+byEntry none passedOver visited = passedOver
+byEntry (some e) passedOver visited = visited e
+
+unfoldable pub walk : List ℕ → Around → Option Anchor → Forest → State → Walked
+walk table o a end st = record { findings = []; anchor = a; state = st }
+walk table o a (leaf x r) st = after (leafTold table o st x) (walk table o (leafAnchor a x) r)
+walk table o a (node x c r) st =
+    byEntry (entryOf table x) (walk table o (past a (node x c end)) r st)
+    (λ e. after (openTold table o a st e x c (node x c r)) (λ st₁. thenWalk (walk table (inside o e) none c st₁) (walk table o (past a (node x c end)) r)))

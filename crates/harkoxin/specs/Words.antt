@@ -1,0 +1,43 @@
+-- Answers as words: the verdict, a refusal's number and place, then counts.
+use Prim.Native.Nat.{ℕ}
+use mathlib.Core.Bool.{Bool, true, false}
+use mathlib.Core.List.{List, [], _∷_}
+use mathlib.Core.Option.{Option, some, none}
+use Rattle.tape.specs.Reading.{Refusal}
+use Rattle.definition.specs.Outcome.{Answer, Checked, refused, checked}
+use Rattle.messages.specs.Told as message
+use Rattle.telling.specs.Telling as texts
+
+abbrev pub reportWords : ℕ → ℕ → ℕ → ℕ → ℕ → ℕ → ℕ → List ℕ
+reportWords verdict total written verses errors warnings infos =
+    verdict ∷ 0 ∷ 0 ∷ total ∷ written ∷ verses ∷ errors ∷ warnings ∷ infos ∷ []
+
+abbrev pub refusalWords : ℕ → ℕ → List ℕ
+refusalWords number place = 2 ∷ number ∷ place ∷ 0 ∷ 0 ∷ 0 ∷ 0 ∷ 0 ∷ 0 ∷ []
+
+abbrev pub verdictOf : Bool → ℕ
+verdictOf true = 1
+verdictOf false = 0
+
+-- the verdict (0 checked, 1 cut, 2 refused), a refusal's number and place, and a checked document's counts
+abbrev pub answerWords : Answer → List ℕ
+answerWords (refused r) = refusalWords (r .number) (r .place)
+answerWords (checked c) =
+    reportWords (verdictOf (c .cut)) (c .total) (c .written) (c .verses) (c .errors) (c .warnings) (c .infos)
+
+-- the verdict (0 told, 2 refused), a refusal's number and place, and the text's length
+abbrev pub messageWords : message.Told → List ℕ
+messageWords (message.refused r) = 2 ∷ r .number ∷ r .place ∷ 0 ∷ []
+messageWords (message.laid n) = 0 ∷ 0 ∷ 0 ∷ n ∷ []
+
+-- the verdict (0 all told, 1 stopped, 2 refused), number and place of a refusal or of what turns the next text back, the records
+-- whose texts are laid and the bytes that they take
+abbrev pub textsWords : texts.Told → List ℕ
+textsWords (texts.refused r) = 2 ∷ r .number ∷ r .place ∷ 0 ∷ 0 ∷ []
+textsWords (texts.all records bytes) = 0 ∷ 0 ∷ 0 ∷ records ∷ bytes ∷ []
+textsWords (texts.stopped records bytes r) = 1 ∷ r .number ∷ r .place ∷ records ∷ bytes ∷ []
+
+-- the verdict (0 counted, 2 refused), a refusal's number and place
+abbrev pub tallyWords : Option Refusal → List ℕ
+tallyWords none = 0 ∷ 0 ∷ 0 ∷ []
+tallyWords (some r) = 2 ∷ r .number ∷ r .place ∷ []

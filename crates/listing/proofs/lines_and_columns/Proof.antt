@@ -1,0 +1,105 @@
+-- `listing::lines_and_columns` meets its contract. The invariant: the places passed are told, and `line` and `column` are those of the next.
+-- Assumes nothing.
+use borrow.Author.Needs.{needs}
+use Prim.Native.Nat.{_-_}
+use mathlib.Core.Logic.{⊎-elim}
+use lib.ListN.{length, length-set}
+use Rattle.listing.proofs.Marks.{Marking, marking-start, marking-break, marking-byte, lines-marked, columns-marked}
+use Rattle.listing.proofs.lines_and_columns.Statement.{statement}
+use Rattle.listing.proofs.lines_and_columns.Tie as tie
+
+abbrev Inv-loop : tie.InvT-loop
+Inv-loop source lines₀ columns₀ line₀ column₀ i₀ lines columns line column i = Marking source lines₀ columns₀ lines columns line column i
+
+abbrev μ-loop : tie.MeasureT-loop
+μ-loop source lines₀ columns₀ line₀ column₀ i₀ lines columns line column i = length source - i
+
+loop-holds : tie.Need-loop-holds Inv-loop μ-loop
+loop-holds c = marking-start _ _ _
+
+mul-lines : tie.Need-mul-lines Inv-loop μ-loop
+mul-lines c = search needs
+
+slice-write-lines : tie.Need-slice-write-lines Inv-loop μ-loop
+slice-write-lines c = search needs
+
+mul-columns : tie.Need-mul-columns Inv-loop μ-loop
+mul-columns c = search needs
+
+slice-write-columns : tie.Need-slice-write-columns Inv-loop μ-loop
+slice-write-columns c = search needs
+
+shared-slice-read-if1 : tie.Need-shared-slice-read-if1 Inv-loop μ-loop
+shared-slice-read-if1 c = search needs
+
+add-line : tie.Need-add-line Inv-loop μ-loop
+add-line c = search needs
+
+add-column : tie.Need-add-column Inv-loop μ-loop
+add-column c = search needs
+
+add-i : tie.Need-add-i Inv-loop μ-loop
+add-i c = search needs
+
+loop-less : tie.Need-loop-less Inv-loop μ-loop
+loop-less c = search needs
+
+loop-again : tie.Need-loop-again Inv-loop μ-loop
+loop-again c =
+    let l = c .before .before .before .loop in
+    let p = c .before .before .before .before .pre in
+    let h = c .before .before .loop-test .taken in
+    ⊎-elim
+    (λ w. rw (w .1, w .2) (marking-break _ _ _ _ _ _ _ _ (l .inv) (p .1) (p .2) h (w .0 .taken)))
+    (λ w. rw (w .1, w .2) (marking-byte _ _ _ _ _ _ _ _ (l .inv) (p .1) (p .2) h (w .0 .left)))
+    (c .if1 .came)
+
+mul-lines-2 : tie.Need-mul-lines-2 Inv-loop μ-loop
+mul-lines-2 c = search needs
+
+slice-write-lines-2 : tie.Need-slice-write-lines-2 Inv-loop μ-loop
+slice-write-lines-2 c = search needs
+
+mul-columns-2 : tie.Need-mul-columns-2 Inv-loop μ-loop
+mul-columns-2 c = search needs
+
+slice-write-columns-2 : tie.Need-slice-write-columns-2 Inv-loop μ-loop
+slice-write-columns-2 c = search needs
+
+same-length : tie.Need-same-length Inv-loop μ-loop
+same-length c = simp length-set (c .before .loop .inv .lines .same)
+
+same-length-2 : tie.Need-same-length-2 Inv-loop μ-loop
+same-length-2 c = simp length-set (c .before .loop .inv .columns .same)
+
+returns : tie.Need-returns Inv-loop μ-loop
+returns c =
+    let l = c .before .loop in
+    let p = c .before .before .pre in
+    let h = c .loop-test .left in
+    (lines-marked _ _ _ _ _ _ _ _ (l .inv) (p .1) (p .2) h, columns-marked _ _ _ _ _ _ _ _ (l .inv) (p .1) (p .2) h)
+
+pub lines-and-columns-spec : {M : Type 1} → statement M
+lines-and-columns-spec =
+    tie.close
+    (tie.spec
+    Inv-loop
+    μ-loop
+    loop-holds
+    mul-lines
+    slice-write-lines
+    mul-columns
+    slice-write-columns
+    shared-slice-read-if1
+    add-line
+    add-column
+    add-i
+    loop-less
+    loop-again
+    mul-lines-2
+    slice-write-lines-2
+    mul-columns-2
+    slice-write-columns-2
+    same-length
+    same-length-2
+    returns)

@@ -1,0 +1,133 @@
+-- What is read off a run of siblings, a node at a time.
+-- Assumes nothing.
+use Prim.Native.Nat.{ℕ, _+_, _<_, _≤_}
+use mathlib.Core.Path.{_≡_, refl, sym, ap, _∙_}
+use mathlib.Core.Bool.{Bool, true, false, not}
+use mathlib.Core.List.{List, []}
+use native.Mathlib.Omega.{arith}
+use lib.Dec.{eqb}
+use borrow.Author.Tests.{eq-eqb, ne-eqb, eqb-true}
+use Rattle.text.specs.Pick.{both, cut}
+use Rattle.text.specs.Words.{firstWord, blankText}
+use Rattle.text.proofs.Rows.{both-left}
+use Rattle.tape.specs.Nodes.{nodeAt, kindAt, linkAt, span, isOpen}
+use Rattle.tape.specs.Forest.{Forest, end, leaf, node, forest}
+use Rattle.tape.proofs.Nest.{forest-done}
+use Rattle.cursor.specs.Inner.{Run}
+use Rattle.cursor.specs.Steps.{pastNode}
+use Rattle.cursor.proofs.Runs.{run-next, run-children, forest-at-leaf, forest-at-open}
+use Rattle.attachment.specs.Attached.{plain}
+use Rattle.definition.specs.Checks.{bookCode, inlineContent, hasText, hasAttribute, hasMarkers}
+use Rattle.marker_checks.specs.Inner.{isText}
+use Rattle.marker_checks.proofs.Flags.{both-true}
+
+-- what is left of a run reads as the whole does
+pub record Along {A : Type 0} (read : Forest → A) (s t : List ℕ) (from to i : ℕ) : Type 0 where
+  pub run : Run s t i to
+  pub same : read (forest s t i to) ≡ read (forest s t from to)
+
+module _ {A : Type 0} (read : Forest → A) (s t : List ℕ) (from to i : ℕ) (g : Along read s t from to i) where
+  pub along-next : i < to → read (forest s t i to) ≡ read (forest s t (pastNode t i) to) → (j : ℕ) → j ≡ pastNode t i → Along read s t from to j
+  along-next more e j p = rw p (record { run = run-next s t i to (g .run) more; same = sym e ∙ g .same })
+
+  pub along-end : to ≤ i → read end ≡ read (forest s t from to)
+  along-end h = ap read (sym (forest-done s t i to h)) ∙ g .same
+
+-- at a node of the run
+module _ (s t : List ℕ) (i to : ℕ) (run : Run s t i to) (more : i < to) where
+  as-leaf : {A : Type 0} (read : Forest → A) → (kindAt t i ≡ 1 → ⊥) → read (forest s t i to) ≡ read (leaf (nodeAt s t i) (forest s t (pastNode t i) to))
+  as-leaf read n = ap read (forest-at-leaf s t i to run more (ne-eqb (kindAt t i) 1 n))
+
+  -- a leaf and a marker alike pass on to what follows
+  passes : {A : Type 0} (read : Forest → A) → ((c : Forest) → read (node (nodeAt s t i) c (forest s t (pastNode t i) to)) ≡ read (forest s t (pastNode t i) to)) → read (leaf (nodeAt s t i) (forest s t (pastNode t i) to)) ≡ read (forest s t (pastNode t i) to) → read (forest s t i to) ≡ read (forest s t (pastNode t i) to)
+  passes {A} read a b = go (isOpen (kindAt t i)) refl
+    where
+      go : (v : Bool) → isOpen (kindAt t i) ≡ v → read (forest s t i to) ≡ read (forest s t (pastNode t i) to)
+      go true h = ap read (forest-at-open s t i to run more h) ∙ a _
+      go false h = ap read (forest-at-leaf s t i to run more h) ∙ b
+
+  text-kind : isText false (nodeAt s t i) ≡ true → kindAt t i ≡ 5
+  text-kind h = eqb-true (kindAt t i) 5 (both-left _ _ h)
+
+  pub code-here : (y : Bool) → both (eqb (kindAt t i) 5) y ≡ true → (x : List ℕ) → x ≡ cut (span t i) s → cut (firstWord x) x ≡ bookCode (forest s t i to)
+  unfolding bookCode
+  code-here y h x q = let e = eqb-true (kindAt t i) 5 (both-left _ _ h) in sym (as-leaf bookCode (λ z. omega arith) ∙ rw (eq-eqb (kindAt t i) 5 e, ← q))
+
+  pub code-past : isText true (nodeAt s t i) ≡ false → bookCode (forest s t i to) ≡ bookCode (forest s t (pastNode t i) to)
+  unfolding bookCode
+  code-past h = let e : eqb (kindAt t i) 5 ≡ false = both-true (eqb (kindAt t i) 5) ∙ h in passes bookCode (λ c. refl) (rw e)
+
+  pub text-here : isText false (nodeAt s t i) ≡ true → true ≡ hasText (forest s t i to)
+  unfolding hasText
+  text-here h = let k = text-kind h in sym (as-leaf hasText (λ z. omega arith) ∙ rw h)
+
+  pub text-past : isText false (nodeAt s t i) ≡ false → hasText (forest s t i to) ≡ hasText (forest s t (pastNode t i) to)
+  unfolding hasText
+  text-past h = passes hasText (λ c. refl) (rw h)
+
+  pub attribute-here : kindAt t i ≡ 6 → true ≡ hasAttribute (forest s t i to)
+  unfolding hasAttribute
+  attribute-here e = sym (as-leaf hasAttribute (λ z. omega arith) ∙ rw (eq-eqb (kindAt t i) 6 e))
+
+  pub attribute-past : (kindAt t i ≡ 6 → ⊥) → hasAttribute (forest s t i to) ≡ hasAttribute (forest s t (pastNode t i) to)
+  unfolding hasAttribute
+  attribute-past n = passes hasAttribute (λ c. refl) (rw (ne-eqb (kindAt t i) 6 n))
+
+  -- a marker, a chapter, a verse, a text with content, and any other
+  pub line-marker : kindAt t i ≡ 1 → true ≡ inlineContent (forest s t i to)
+  unfolding inlineContent
+  line-marker e = sym (ap inlineContent (forest-at-open s t i to run more (eq-eqb (kindAt t i) 1 e)))
+
+  pub line-chapter : kindAt t i ≡ 3 → false ≡ inlineContent (forest s t i to)
+  unfolding inlineContent
+  line-chapter e = sym (as-leaf inlineContent (λ z. omega arith) ∙ rw (eq-eqb (kindAt t i) 3 e))
+
+  pub line-verse : kindAt t i ≡ 4 → false ≡ inlineContent (forest s t i to)
+  unfolding inlineContent
+  line-verse e = sym (as-leaf inlineContent (λ z. omega arith) ∙ rw (ne-eqb (kindAt t i) 3 (omega arith), eq-eqb (kindAt t i) 4 e))
+
+  pub line-text : isText false (nodeAt s t i) ≡ true → true ≡ inlineContent (forest s t i to)
+  unfolding inlineContent
+  line-text h = let k = text-kind h in sym (as-leaf inlineContent (λ z. omega arith) ∙ rw (ne-eqb (kindAt t i) 3 (omega arith), ne-eqb (kindAt t i) 4 (omega arith), h))
+
+  pub line-past : (kindAt t i ≡ 1 → ⊥) → (kindAt t i ≡ 3 → ⊥) → (kindAt t i ≡ 4 → ⊥) → isText false (nodeAt s t i) ≡ false → inlineContent (forest s t i to) ≡ inlineContent (forest s t (pastNode t i) to)
+  unfolding inlineContent
+  line-past a b d h = as-leaf inlineContent a ∙ rw (ne-eqb (kindAt t i) 3 b, ne-eqb (kindAt t i) 4 d, h)
+
+pub code-none : [] ≡ bookCode end
+unfolding bookCode
+code-none = refl
+
+pub text-none : false ≡ hasText end
+unfolding hasText
+text-none = refl
+
+pub attribute-none : false ≡ hasAttribute end
+unfolding hasAttribute
+attribute-none = refl
+
+pub line-none : false ≡ inlineContent end
+unfolding inlineContent
+line-none = refl
+
+-- a run has a marker exactly if it isn't plain
+pub markers-plain : (f : Forest) → not (plain f) ≡ hasMarkers f
+unfolding plain hasMarkers
+markers-plain end = refl
+markers-plain (leaf x r) = markers-plain r
+markers-plain (node x c r) = refl
+
+-- a text, by the tests that the code takes
+module _ (s t : List ℕ) (i k : ℕ) (blank : Bool) (is-kind : k ≡ kindAt t i) where
+  pub text-other : (k ≡ 5 → ⊥) → false ≡ isText blank (nodeAt s t i)
+  text-other n = rw (← is-kind, ne-eqb k 5 n)
+
+  pub text-any : k ≡ 5 → blank ≡ true → true ≡ isText blank (nodeAt s t i)
+  text-any e h = rw (← is-kind, eq-eqb k 5 e, h)
+
+  pub text-filled : k ≡ 5 → blank ≡ false → (x : List ℕ) (r : Bool) → x ≡ cut (span t i) s → r ≡ blankText x → not r ≡ isText blank (nodeAt s t i)
+  text-filled e h x r p q = rw (← is-kind, eq-eqb k 5 e, h, ← p) (ap not q)
+
+-- the run of the children, as the code reads where it ends
+pub children : (s t : List ℕ) (i to : ℕ) → Run s t i to → i < to → isOpen (kindAt t i) ≡ true → (link : ℕ) → link ≡ linkAt t i → Run s t (i + 1) link
+children s t i to run more h link e = rw e (run-children s t i to run more h)

@@ -1,0 +1,52 @@
+-- Book codes have three bytes, and so has a code in upper case that is a book.
+-- Assumes nothing.
+use Prim.Native.Nat.{ℕ, _-_}
+use mathlib.Core.Path.{_≡_, refl, sym, _∙_}
+use mathlib.Core.Bool.{Bool, true, false}
+use mathlib.Core.List.{List, [], _∷_}
+use mathlib.Core.Option.{Option, some, none}
+use native.Mathlib.Omega.{arith}
+use lib.Dec.{eqb}
+use lib.ListN.{length, getD}
+use borrow.Author.Tests.{ne-eqb}
+use Rattle.text.specs.Pick.{pickNat, within}
+use Rattle.table.specs.Bytes.{oneOf}
+use Rattle.table.specs.Books.{codes, bookOf}
+use Rattle.table.specs.Inner as table
+use Rattle.table.proofs.Words.{one-of, every, one-passes}
+use Rattle.definition.specs.Checks.{known, isBook, upper}
+
+same-known : (o : Option ℕ) → known o ≡ table.known o
+same-known none = refl
+same-known (some n) = refl
+
+book-one : (s : List ℕ) → isBook s ≡ oneOf codes s
+unfolding bookOf
+book-one s = same-known (bookOf s) ∙ sym (one-of codes s 0)
+
+pub no-book : (s : List ℕ) → (length s ≡ 3 → ⊥) → false ≡ isBook s
+unfolding every codes
+no-book s h = go (oneOf codes s) refl ∙ sym (book-one s)
+  where
+    go : (t : Bool) → oneOf codes s ≡ t → false ≡ oneOf codes s
+    go true e = sym (ne-eqb (length s) 3 h) ∙ one-passes (λ (w : List ℕ). eqb (length w) 3) codes s refl e ∙ sym e
+    go false e = sym e
+
+pub length-upper : (s : List ℕ) → length (upper s) ≡ length s
+unfolding upper
+length-upper [] = refl
+length-upper (b ∷ s) = let e = length-upper s in omega arith
+
+pub no-upper-book : (s : List ℕ) → (length s ≡ 3 → ⊥) → false ≡ isBook (upper s)
+no-upper-book s h = no-book (upper s) (λ e. h (sym (length-upper s) ∙ e))
+
+abbrev pub upperByte : ℕ → ℕ
+upperByte b = pickNat (within 0x61 0x7A b) (b - 32) b
+
+pub upper-three : (s : List ℕ) (a b c : ℕ) → length s ≡ 3 → a ≡ upperByte (getD s 0 0) → b ≡ upperByte (getD s 1 0) → c ≡ upperByte (getD s 2 0) → isBook (a ∷ b ∷ c ∷ []) ≡ isBook (upper s)
+unfolding upper
+upper-three (x ∷ y ∷ z ∷ []) a b c h p q r = rw (p, q, r)
+upper-three [] a b c h p q r = absurd (omega arith)
+upper-three (x ∷ []) a b c h p q r = absurd (omega arith)
+upper-three (x ∷ y ∷ []) a b c h p q r = absurd (omega arith)
+upper-three (x ∷ y ∷ z ∷ w ∷ s) a b c h p q r = absurd (omega arith)

@@ -1,0 +1,128 @@
+-- Flags by the tests that the code takes.
+-- Assumes nothing.
+use Prim.Native.Nat.{ℕ}
+use mathlib.Core.Path.{_≡_, refl, sym, ap, _∙_}
+use mathlib.Core.Bool.{Bool, true, false, not}
+use mathlib.Core.List.{List, [], _∷_}
+use mathlib.Core.Option.{Option, some, none}
+use borrow.Author.Tests.{eq-eqb, ne-eqb}
+use lib.Dec.{eqb}
+use lib.ListN.{length}
+use Rattle.text.specs.Pick.{both, either, pickNat}
+use Rattle.text.proofs.Rows.{both-false}
+use Rattle.tape.specs.Nodes.{Node}
+use Rattle.tape.specs.Forest.{Forest}
+use Rattle.table.specs.Bytes.{equal, oneOf}
+use Rattle.table.specs.Names.{frontMatter}
+use Rattle.attachment.specs.Attached.{among}
+use Rattle.findings.specs.declared.Counts.{Counts}
+use Rattle.findings.specs.Written.{Wrote}
+use Rattle.findings.proofs.Overlay.{wrote-none}
+use Rattle.definition.specs.State.{State, Anchor}
+use Rattle.definition.specs.Checks.{given, idChecks, numberMarkers, frontBy, attachedTo}
+use Rattle.state.specs.Running.{startsFor}
+use Rattle.state.specs.declared.Record.{Record}
+use Rattle.marker_checks.specs.Inner.{withId}
+
+pub both-true : (v : Bool) → v ≡ both v true
+both-true true = refl
+both-true false = refl
+
+pub not-true : (b : Bool) → not b ≡ true → b ≡ false
+not-true true h = sym h
+not-true false h = refl
+
+pub not-false : (b : Bool) → not b ≡ false → b ≡ true
+not-false true h = refl
+not-false false h = sym h
+
+-- the code's flag a is the test x
+module _ (a x : Bool) (is : a ≡ x) where
+  pub both-holds : (r y : Bool) → a ≡ true → r ≡ y → r ≡ both x y
+  both-holds r y h e = rw (sym is ∙ h) e
+
+  pub both-fails : (y : Bool) → a ≡ false → false ≡ both x y
+  both-fails y h = rw (sym is ∙ h)
+
+  pub either-holds : (y : Bool) → a ≡ true → true ≡ either x y
+  either-holds y h = rw (sym is ∙ h)
+
+  pub either-fails : (r y : Bool) → a ≡ false → r ≡ y → r ≡ either x y
+  either-fails r y h e = rw (sym is ∙ h) e
+
+  pub nat-holds : (n m : ℕ) → a ≡ true → n ≡ pickNat x n m
+  nat-holds n m h = rw (sym is ∙ h)
+
+  pub nat-fails : (n m : ℕ) → a ≡ false → m ≡ pickNat x n m
+  nat-fails n m h = rw (sym is ∙ h)
+
+-- a book code that may be empty
+module _ (n : ℕ) where
+  pub code-empty : (y : Bool) → n ≡ 0 → false ≡ both (not (eqb n 0)) y
+  code-empty y h = rw (eq-eqb n 0 h)
+
+  pub code-there : (r y : Bool) → (n ≡ 0 → ⊥) → r ≡ y → not r ≡ both (not (eqb n 0)) (not y)
+  code-there r y h e = rw (ne-eqb n 0 h) (ap not e)
+
+module _ (s : List ℕ) (before : Bool) where
+  pub front-stays : length s ≡ 0 → before ≡ frontBy s before
+  front-stays h = rw (eq-eqb (length s) 0 h)
+
+  pub front-told : (r : Bool) → (length s ≡ 0 → ⊥) → r ≡ oneOf frontMatter s → r ≡ frontBy s before
+  front-told r h e = rw (ne-eqb (length s) 0 h) e
+
+either-false : (a : Bool) → a ≡ either a false
+either-false true = refl
+either-false false = refl
+
+abbrev pub pair : ℕ → ℕ → List ℕ
+pair a b = a ∷ b ∷ []
+
+pub four : (s : List ℕ) → either (equal (pair 0x63 0x61) s) (either (equal (pair 0x63 0x70) s) (either (equal (pair 0x76 0x61) s) (equal (pair 0x76 0x70) s))) ≡ oneOf numberMarkers s
+unfolding oneOf numberMarkers
+four s = ap (λ (v : Bool). either (equal (pair 0x63 0x61) s) (either (equal (pair 0x63 0x70) s) (either (equal (pair 0x76 0x61) s) v))) (either-false (equal (pair 0x76 0x70) s))
+
+-- no paragraph comes early where a chapter or front matter stands before it
+module _ (body chapter front : Bool) where
+  pub after-chapter : chapter ≡ true → false ≡ both body (both (not chapter) (not front))
+  after-chapter h = rw h (sym (both-false body))
+
+  pub in-front : chapter ≡ false → front ≡ true → false ≡ both body (both (not chapter) (not front))
+  in-front h k = rw (h, k) (sym (both-false body))
+
+  pub early : (r : Bool) → chapter ≡ false → front ≡ false → r ≡ body → r ≡ both body (both (not chapter) (not front))
+  early r h k e = rw (h, k) (e ∙ both-true body)
+
+-- the numbers attached to an anchor
+pub attached-is : (a : Option Anchor) (f : Forest) (at : ℕ) → among at (startsFor a f) ≡ attachedTo a f at
+unfolding among
+attached-is none f at = refl
+attached-is (some a) f at = refl
+
+-- the record after a marker
+pub with-none : (named : Bool) (code : List ℕ) (r : Record) → named ≡ false → r ≡ withId named code r
+with-none named code r h = rw h refl
+
+pub with-code : (named : Bool) (code x : List ℕ) (r : Record) (front : Bool) → named ≡ true → x ≡ code → front ≡ frontBy x (r .«front_matter») →
+    record {
+      «has_id» = true;
+      «has_chapter» = r .«has_chapter»;
+      «has_verse» = r .«has_verse»;
+      «front_matter» = front;
+      «outside_warned» = r .«outside_warned»;
+      chapter = r .chapter;
+      verse = r .verse;
+      seen = r .seen;
+      «open» = r .«open»;
+      verses = r .verses;
+      anchor = r .anchor;
+      errors = r .errors;
+      warnings = r .warnings;
+      infos = r .infos;
+    } ≡ withId named code r
+with-code named code x r front h e f = rw (h, ← e, f) refl
+
+-- nothing is said of a marker that is no `id`
+pub id-none : (named : Bool) (st : State) (code : List ℕ) (x : Node) (l : List ℕ) (c : Counts) → named ≡ false → Wrote (given (idChecks named st code x)) l c l c
+unfolding given
+id-none named st code x l c h = rw h (wrote-none l c)

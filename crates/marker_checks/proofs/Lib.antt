@@ -1,0 +1,5 @@
+pub mod Flags
+pub mod Children
+pub mod Codes
+pub mod Whole
+pub mod Skip

@@ -1,0 +1,135 @@
+-- A canSkipMarker marker: nothing is said of it.
+-- Assumes nothing.
+use Prim.Native.Nat.{ℕ, _+_, _<_}
+use native.Mathlib.Omega.{arith}
+use mathlib.Core.Path.{_≡_, refl, sym, ap, _∙_}
+use mathlib.Core.Bool.{Bool, true, false, not, false≢true}
+use mathlib.Core.List.{List, [], _++_}
+use mathlib.Core.Option.{Option}
+use lib.Dec.{eqb}
+use borrow.Author.Tests.{eq-eqb, ne-eqb, eqb-true}
+use Rattle.text.specs.Pick.{both, either, cut}
+use Rattle.text.proofs.Rows.{both-left, both-right, both-false}
+use Rattle.tape.specs.Nodes.{Node, nodeAt, kindAt, isOpen}
+use Rattle.tape.specs.Forest.{Forest, end, leaf, node, forest}
+use Rattle.tape.proofs.OneNumber.{either-false}
+use Rattle.table.specs.Bytes.{equal, oneOf}
+use Rattle.table.specs.Entries.{Entry}
+use Rattle.cursor.specs.Inner.{Run}
+use Rattle.cursor.specs.Steps.{pastNode}
+use Rattle.cursor.proofs.Runs.{forest-at-leaf, forest-at-open}
+use Rattle.findings.specs.Finding.{Finding}
+use Rattle.findings.proofs.Overlay.{wrote-none}
+use Rattle.attributes.specs.Attributes.{attributesFindings}
+use Rattle.numbers.specs.Verse.{pickBool}
+use Rattle.definition.specs.State.{State, Anchor}
+use Rattle.definition.specs.State as state
+use Rattle.table.specs.Names.{noteOnly}
+use Rattle.cursor.specs.Names.{nameOf}
+use Rattle.definition.specs.Checks.{given, afterId, isBody, numberMarkers, bName, figName, idName, rbName, trName, wName}
+use Rattle.state.specs.Running.{stateOf, countsOf}
+use Rattle.state.specs.declared.Record.{Record}
+use Rattle.marker_checks.specs.Own.{ownFindings, ownAt, isId, childrenAt, Marked}
+use Rattle.marker_checks.specs.Skip.{onlyTexts, askedFor, placed, canSkipMarker, canSkipMarkerAt}
+use Rattle.marker_checks.proofs.Flags.{not-true}
+
+-- a run of Texts, a node at a time
+module _ (s t : List ℕ) (i to : ℕ) (run : Run s t i to) (more : i < to) where
+  pub texts-other : (kindAt t i ≡ 5 → ⊥) → false ≡ onlyTexts (forest s t i to)
+  unfolding onlyTexts
+  texts-other n = go (isOpen (kindAt t i)) refl
+    where
+      go : (v : Bool) → isOpen (kindAt t i) ≡ v → false ≡ onlyTexts (forest s t i to)
+      go true h = sym (ap onlyTexts (forest-at-open s t i to run more h))
+      go false h = sym (ap onlyTexts (forest-at-leaf s t i to run more h) ∙ rw (ne-eqb (kindAt t i) 5 n))
+
+  pub texts-past : kindAt t i ≡ 5 → onlyTexts (forest s t i to) ≡ onlyTexts (forest s t (pastNode t i) to)
+  unfolding onlyTexts
+  texts-past e = ap onlyTexts (forest-at-leaf s t i to run more (ne-eqb (kindAt t i) 1 (λ z. omega arith))) ∙ rw (eq-eqb (kindAt t i) 5 e)
+
+pub texts-none : true ≡ onlyTexts end
+unfolding onlyTexts
+texts-none = refl
+
+-- Texts have no attributes among them
+texts-attributes : (owner : ℕ) (marker : List ℕ) (f : Forest) → onlyTexts f ≡ true → attributesFindings owner marker f ≡ []
+unfolding onlyTexts attributesFindings
+texts-attributes owner marker end h = refl
+texts-attributes owner marker (leaf x r) h =
+    let k = eqb-true (x .kind) 5 (both-left (eqb (x .kind) 5) (onlyTexts r) h) in
+    rw (ne-eqb (x .kind) 6 (λ z. omega arith)) (texts-attributes owner marker r (both-right (eqb (x .kind) 5) (onlyTexts r) h))
+texts-attributes owner marker (node x c r) h = absurd (false≢true h)
+
+-- a paragraph behind a chapter, or a character marker in a note
+data Placed (e : Entry) (o : state.Around) (chapter : Bool) : Type 0 where
+  paragraph : e .category ≡ 3 → chapter ≡ true → Placed e o chapter
+  character : e .category ≡ 4 → o .note ≡ true → Placed e o chapter
+
+is-placed : (e : Entry) (o : state.Around) (chapter : Bool) → placed e o chapter ≡ true → Placed e o chapter
+is-placed e o chapter = go (eqb (e .category) 3) refl
+  where
+    go : (v : Bool) → eqb (e .category) 3 ≡ v → pickBool v chapter (both (eqb (e .category) 4) (o .note)) ≡ true → Placed e o chapter
+    go true k h = paragraph (eqb-true (e .category) 3 k) h
+    go false k h = character (eqb-true (e .category) 4 (both-left (eqb (e .category) 4) (o .note) h)) (both-right (eqb (e .category) 4) (o .note) h)
+
+module _ {e : Entry} {o : state.Around} {chapter : Bool} where
+  inside : Placed e o chapter → (y : Bool) → both (eqb (e .category) 4) (both (not (o .note)) y) ≡ false
+  inside (paragraph k h) y = rw (ne-eqb (e .category) 4 (λ z. omega arith))
+  inside (character k h) y = rw (h, both-false (eqb (e .category) 4))
+
+  late : Placed e o chapter → (y : Bool) → both (isBody e) (both (not chapter) y) ≡ false
+  late (paragraph k h) y = rw (h, both-false (isBody e))
+  late (character k h) y = rw (ne-eqb (e .category) 3 (λ z. omega arith))
+
+  other : Placed e o chapter → eqb (e .category) 6 ≡ false
+  other (paragraph k h) = ne-eqb (e .category) 6 (λ z. omega arith)
+  other (character k h) = ne-eqb (e .category) 6 (λ z. omega arith)
+
+none-of : (a b d e f g k : Bool) → either (either a b) (either (either d e) (either (either f g) k)) ≡ false → (a ≡ false) × (b ≡ false) × (d ≡ false) × (e ≡ false) × (f ≡ false) × (g ≡ false) × (k ≡ false)
+none-of a b d e f g k h =
+    let p = either-false (either a b) _ h in
+    let q = either-false (either d e) _ (p .1) in
+    let r = either-false (either f g) k (q .1) in
+    let x = either-false a b (p .0) in
+    let y = either-false d e (q .0) in
+    let z = either-false f g (r .0) in
+    (x .0, x .1, y .0, y .1, z .0, z .1, r .1)
+
+-- the three parts of the test
+module _ (name : List ℕ) (e : Entry) (o : state.Around) (chapter : Bool) (c : Forest) (h : canSkipMarker name e o chapter c ≡ true) where
+  place : Placed e o chapter
+  place = is-placed e o chapter (both-left (placed e o chapter) _ h)
+
+  pub skipped-texts : onlyTexts c ≡ true
+  skipped-texts = both-left (onlyTexts c) _ (both-right (placed e o chapter) _ h)
+
+  names : (equal name bName ≡ false) × (equal name wName ≡ false) × (equal name idName ≡ false) × (equal name rbName ≡ false) × (equal name trName ≡ false) × (equal name figName ≡ false) × (oneOf numberMarkers name ≡ false)
+  names = none-of _ _ _ _ _ _ _ (not-true (askedFor name) (both-right (onlyTexts c) _ (both-right (placed e o chapter) _ h)))
+
+  pub skipped-category : eqb (e .category) 6 ≡ false
+  skipped-category = other place
+
+  -- nothing is said of it
+  skipped-silent : (st st₁ : State) (a : Option Anchor) (x : Node) (f : Forest) → st₁ .hasChapter ≡ chapter → ownFindings name st₁ o a st e x c f ≡ []
+  unfolding given
+  skipped-silent st st₁ a x f k =
+      rw (names .0, names .1, names .2, names .3, names .4, names .5, names .6, k, inside place (oneOf noteOnly name), late place (not (st₁ .frontMatter)), texts-attributes (x .number) (nameOf (x .text)) c skipped-texts)
+
+-- and a marker that is no `id` leaves the record as it is
+module _ (table s t : List ℕ) (o : state.Around) (a : Option Anchor) (e : Entry) (i to : ℕ) (r : Record) (h : canSkipMarkerAt table s t o e i (r .«has_chapter») ≡ true) where
+  unnamed : isId table e ≡ false
+  unnamed = names (cut (e .name) table) e o (r .«has_chapter») (childrenAt s t i) h .2
+
+  silent : ownAt table s t o a e i to r ≡ []
+  unfolding afterId
+  silent = skipped-silent (cut (e .name) table) e o (r .«has_chapter») (childrenAt s t i) h (stateOf s t [] [] r) (afterId (isId table e) (stateOf s t [] [] r) (childrenAt s t i)) a (nodeAt s t i) (forest s t i to) refl
+
+  pub skipped-marked : (l : List ℕ) → Marked table s t o a e i to l r l r
+  unfolding afterId
+  skipped-marked l =
+      record {
+        wrote = rw silent (wrote-none l (countsOf r));
+        state = λ seen opens. rw unnamed refl;
+        same = record { seen = refl; opens = refl; verses = refl; anchor = refl };
+        verse = refl;
+      }

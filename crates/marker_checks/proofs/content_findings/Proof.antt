@@ -1,0 +1,94 @@
+-- `marker_checks::content_findings` meets its contract.
+-- Assumes nothing.
+use borrow.Author.Needs.{needs}
+use denote.Ref.{now}
+use mathlib.Core.Path.{refl}
+use Prim.Native.Nat.{ℕ}
+use mathlib.Core.List.{List}
+use lib.ListN.{drop}
+use Rattle.findings.specs.declared.Counts.{Counts}
+use Rattle.findings.proofs.Overlay.{Left, left-start}
+use Rattle.definition.proofs.Givens.{given-room, given-wrote, given-end}
+use Rattle.definition.specs.Checks.{Check, given}
+use Rattle.marker_checks.proofs.Whole.{contentPart}
+use Rattle.marker_checks.proofs.content_findings.Statement.{statement}
+use Rattle.marker_checks.proofs.content_findings.Tie as tie
+
+abbrev checks : tie.Start → List Check
+checks c = let a = c .args in contentPart (now (a .source)) (now (a .tape)) (a .i) (now (a .name)) (a .link)
+
+abbrev Due : tie.Start → ℕ → List ℕ → Counts → Type 0
+Due c k l d = Left (given (checks c)) (now (c .args .list)) (c .args .c) (given (drop k (checks c))) l d
+
+all : (c : tie.Start) → let a = c .args in Due c 0 (now (a .list)) (a .c)
+all c = left-start (given (checks c)) (now (c .args .list)) (c .args .c)
+
+left-1 : (c : tie.After-push-for-node) → Due (c .before .before .before .before .before .before .before .before .before) 1 (c .push-for-node .last .1 .1 .1 .1 .1 .1 .0) (c .push-for-node .result)
+left-1 c =
+    let x = c .before .before .before .before .empty-figure in
+    given-wrote _ _ _ _ (all (c .before .before .before .before .before .before .before .before .before)) (x .result) _ (x .ensures) refl _ _ (c .push-for-node .ensures)
+
+left-2 : (c : tie.After-push-for-node2) → Due (c .before .before .before .before .before .before .before .before .before .before .before .before .before) 2 (c .push-for-node2 .last .1 .1 .1 .1 .1 .1 .0) (c .push-for-node2 .result)
+left-2 c =
+    let x = c .before .before .before .before .before .before .before .empty-word in
+    given-wrote _ _ _ _ (left-1 (c .before .before .before .before)) (x .result) _ (x .ensures) refl _ _ (c .push-for-node2 .ensures)
+
+add-empty-figure : tie.Need-add-empty-figure
+add-empty-figure c = search needs
+
+empty-figure-requires : tie.Need-empty-figure-requires
+empty-figure-requires c κs = c .before .before .before .before .pre .1
+
+add-empty-word : tie.Need-add-empty-word
+add-empty-word c = search needs
+
+empty-word-requires : tie.Need-empty-word-requires
+empty-word-requires c κs = c .before .before .before .before .before .pre .1
+
+add-lacks-attribute : tie.Need-add-lacks-attribute
+add-lacks-attribute c = search needs
+
+lacks-attribute-requires : tie.Need-lacks-attribute-requires
+lacks-attribute-requires c κs = c .before .before .before .before .before .before .pre .1
+
+push-for-node-requires : tie.Need-push-for-node-requires
+push-for-node-requires c κs =
+    let p = c .before .before .before .before .before .before .before .before .pre in
+    let x = c .before .before .before .empty-figure in
+    (p .0, given-room _ _ _ _ (all (c .before .before .before .before .before .before .before .before)) (x .result) _ (x .ensures) refl (p .2))
+
+push-for-node-requires-2 : tie.Need-push-for-node-requires-2
+push-for-node-requires-2 c κs =
+    let p = c .before .before .before .before .before .before .before .before .before .before .before .before .pre in
+    let x = c .before .before .before .before .before .before .empty-word in
+    (p .0, given-room _ _ _ _ (left-1 (c .before .before .before)) (x .result) _ (x .ensures) refl (p .2))
+
+push-for-node-requires-3 : tie.Need-push-for-node-requires-3
+push-for-node-requires-3 c κs =
+    let p = c .before .before .before .before .before .before .before .before .before .before .before .before .before .before .before .before .pre in
+    let x = c .before .before .before .before .before .before .before .before .before .lacks-attribute in
+    (p .0, given-room _ _ _ _ (left-2 (c .before .before .before)) (x .result) _ (x .ensures) refl (p .2))
+
+same-length : tie.Need-same-length
+same-length c = search needs
+
+returns : tie.Need-returns
+returns c =
+    let x = c .before .before .before .before .before .before .before .before .before .before .before .before .lacks-attribute in
+    given-end _ _ (given-wrote _ _ _ _ (left-2 (c .before .before .before .before .before .before)) (x .result) _ (x .ensures) refl _ _ (c .before .before .push-for-node3 .ensures))
+
+pub content-findings-spec : {M : Type 1} → statement M
+content-findings-spec =
+    tie.close
+    (tie.spec
+    add-empty-figure
+    empty-figure-requires
+    add-empty-word
+    empty-word-requires
+    add-lacks-attribute
+    lacks-attribute-requires
+    push-for-node-requires
+    push-for-node-requires-2
+    push-for-node-requires-3
+    same-length
+    returns)

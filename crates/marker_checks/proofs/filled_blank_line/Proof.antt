@@ -1,0 +1,25 @@
+-- `marker_checks::filled_blank_line` meets its contract.
+-- Assumes nothing.
+use borrow.Author.Needs.{needs}
+use Rattle.marker_checks.proofs.Flags.{both-holds, both-fails}
+use Rattle.marker_checks.proofs.filled_blank_line.Statement.{statement}
+use Rattle.marker_checks.proofs.filled_blank_line.Tie as tie
+
+slice-aggregate-same : tie.Need-slice-aggregate-same
+slice-aggregate-same c = search needs
+
+same-requires : tie.Need-same-requires
+same-requires c κs = search needs
+
+blank-line-has-inline-content-requires : tie.Need-blank-line-has-inline-content-requires
+blank-line-has-inline-content-requires c κs = search needs
+
+returns : tie.Need-returns
+returns c = both-holds _ _ (c .before .before .same .ensures) _ _ (c .before .if1 .taken) (c .blank-line-has-inline-content .ensures)
+
+returns-2 : tie.Need-returns-2
+returns-2 c = both-fails _ _ (c .before .same .ensures) _ (c .if1 .left)
+
+pub filled-blank-line-spec : {M : Type 1} → statement M
+filled-blank-line-spec =
+    tie.close (tie.spec slice-aggregate-same same-requires blank-line-has-inline-content-requires returns returns-2)

@@ -1,0 +1,28 @@
+-- `marker_checks::lacks_attribute` meets its contract.
+-- Assumes nothing.
+use borrow.Author.Needs.{needs}
+use mathlib.Core.Path.{ap}
+use mathlib.Core.Bool.{not}
+use Rattle.marker_checks.proofs.Flags.{both-holds, both-fails}
+use Rattle.marker_checks.proofs.lacks_attribute.Statement.{statement}
+use Rattle.marker_checks.proofs.lacks_attribute.Tie as tie
+
+slice-aggregate-same : tie.Need-slice-aggregate-same
+slice-aggregate-same c = search needs
+
+same-requires : tie.Need-same-requires
+same-requires c κs = search needs
+
+has-attribute-requires : tie.Need-has-attribute-requires
+has-attribute-requires c κs = search needs
+
+returns : tie.Need-returns
+returns c = both-holds _ _ (c .before .before .same .ensures) _ _ (c .before .if1 .taken) (ap not (c .has-attribute .ensures))
+
+returns-2 : tie.Need-returns-2
+returns-2 c = both-fails _ _ (c .before .same .ensures) _ (c .if1 .left)
+
+pub lacks-attribute-spec : {M : Type 1} → statement M
+lacks-attribute-spec =
+    tie.close
+    (tie.spec slice-aggregate-same same-requires has-attribute-requires returns returns-2)

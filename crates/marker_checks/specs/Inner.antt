@@ -1,0 +1,40 @@
+-- What the inner functions of the crate promise.
+use Prim.Native.Nat.{ℕ}
+use mathlib.Core.Bool.{Bool, not}
+use mathlib.Core.List.{List}
+use lib.Dec.{eqb}
+use Rattle.text.specs.Pick.{both, either}
+use Rattle.text.specs.Words.{blankText}
+use Rattle.tape.specs.Nodes.{Node}
+use Rattle.tape.specs.Forest.{Forest}
+use Rattle.numbers.specs.Verse.{pickBool}
+use Rattle.definition.specs.Checks.{frontBy, hasText, hasAttribute, hasMarkers}
+use Rattle.state.specs.declared.Record.{Record}
+
+-- a Text; a blank one counts if the flag says so
+abbrev pub isText : Bool → Node → Bool
+isText blank x = both (eqb (x .kind) 5) (either blank (not (blankText (x .text))))
+
+-- a Text that isn't blank, an Attribute or a marker
+abbrev pub hasContent : Forest → Bool
+hasContent f = either (hasText f) (either (hasAttribute f) (hasMarkers f))
+
+-- the running record after a marker that is an `id` or isn't, with the book code
+abbrev pub withId : Bool → List ℕ → Record → Record
+withId named code r =
+    record {
+      «has_id» = either named (r .«has_id»);
+      «has_chapter» = r .«has_chapter»;
+      «has_verse» = r .«has_verse»;
+      «front_matter» = pickBool named (frontBy code (r .«front_matter»)) (r .«front_matter»);
+      «outside_warned» = r .«outside_warned»;
+      chapter = r .chapter;
+      verse = r .verse;
+      seen = r .seen;
+      «open» = r .«open»;
+      verses = r .verses;
+      anchor = r .anchor;
+      errors = r .errors;
+      warnings = r .warnings;
+      infos = r .infos;
+    }

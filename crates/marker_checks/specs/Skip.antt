@@ -1,0 +1,37 @@
+-- A test of a marker. Where it holds, nothing is said of the marker and its children change nothing, which `skipped-marked` and, in `checker`, `visited-skipped` prove; it holds of most markers of a book.
+use Prim.Native.Nat.{ℕ}
+use mathlib.Core.Bool.{Bool, true, false, not}
+use mathlib.Core.List.{List}
+use lib.Dec.{eqb}
+use Rattle.text.specs.Pick.{both, either, cut}
+use Rattle.tape.specs.Forest.{Forest, end, leaf, node}
+use Rattle.table.specs.Bytes.{equal, oneOf}
+use Rattle.table.specs.Entries.{Entry}
+use Rattle.numbers.specs.Verse.{pickBool}
+use Rattle.definition.specs.State as state
+use Rattle.definition.specs.Checks.{numberMarkers, bName, figName, idName, rbName, trName, wName}
+use Rattle.marker_checks.specs.Own.{childrenAt}
+
+-- a run of Texts
+unfoldable pub onlyTexts : Forest → Bool
+onlyTexts end = true
+onlyTexts (leaf x r) = both (eqb (x .kind) 5) (onlyTexts r)
+onlyTexts (node x c r) = false
+
+-- a name that a check asks for
+abbrev pub askedFor : List ℕ → Bool
+askedFor name =
+    either (either (equal name bName) (equal name wName))
+    (either (either (equal name idName) (equal name rbName)) (either (either (equal name trName) (equal name figName)) (oneOf numberMarkers name)))
+
+-- a paragraph behind a chapter, or a character marker in a note
+abbrev pub placed : Entry → state.Around → Bool → Bool
+placed e o chapter = pickBool (eqb (e .category) 3) chapter (both (eqb (e .category) 4) (o .note))
+
+-- by its name in the table, what lies around it, whether a chapter stands before it, and its children
+abbrev pub canSkipMarker : List ℕ → Entry → state.Around → Bool → Forest → Bool
+canSkipMarker name e o chapter c = both (placed e o chapter) (both (onlyTexts c) (not (askedFor name)))
+
+-- of node i with its table entry
+abbrev pub canSkipMarkerAt : List ℕ → List ℕ → List ℕ → state.Around → Entry → ℕ → Bool → Bool
+canSkipMarkerAt table s t o e i chapter = canSkipMarker (cut (e .name) table) e o chapter (childrenAt s t i)

@@ -1,0 +1,26 @@
+-- Bytes with capitals for small letters.
+-- Assumes nothing.
+use Prim.Native.Nat.{ℕ, zero, suc, _+_, _-_, _<_}
+use mathlib.Core.Path.{_≡_, refl, ap}
+use mathlib.Core.List.{List, [], _∷_}
+use lib.ListN.{length, set, getD}
+use Rattle.text.specs.Pick.{within, pickNat}
+use Rattle.definition.specs.Checks.{upper}
+use Rattle.buffer.proofs.Laying.{Laying, laying-on}
+
+abbrev pub capitalOf : ℕ → ℕ
+capitalOf b = pickNat (within 0x61 0x7A b) (b - 32) b
+
+pub length-upper : (s : List ℕ) → length (upper s) ≡ length s
+unfolding upper
+length-upper [] = refl
+length-upper (b ∷ s) = ap suc (length-upper s)
+
+upper-at : (s : List ℕ) (i : ℕ) → getD (upper s) i 0 ≡ capitalOf (getD s i 0)
+unfolding upper
+upper-at [] i = refl
+upper-at (b ∷ s) zero = refl
+upper-at (b ∷ s) (suc i) = upper-at s i
+
+pub capitals-on : (s l₀ : List ℕ) (at : ℕ) (l : List ℕ) (i b : ℕ) → Laying (upper s) l₀ at l i → i < length s → at + i < length l → b ≡ capitalOf (getD s i 0) → Laying (upper s) l₀ at (set l (at + i) b) (i + 1)
+capitals-on s l₀ at l i b y h k e = rw (e, ← upper-at s i) (laying-on (upper s) l₀ at l i y (rw (length-upper s) h) k)

@@ -1,5 +1,0 @@
-pub mod Flags
-pub mod Children
-pub mod Codes
-pub mod Whole
-pub mod Calm

@@ -1,0 +1,23 @@
+-- The position after one that is told.
+-- Assumes nothing.
+use Prim.Native.Nat.{ℕ, zero, suc, _<_, _≤_}
+use native.Mathlib.Omega.{arith}
+use mathlib.Core.Path.{_≡_, refl}
+use mathlib.Core.Bool.{true}
+use lib.Dec.{leb, ltb}
+use borrow.Author.Tests.{le-leb, lt-leb, lt-ltb, le-ltb}
+use Rattle.numbers.specs.Verse.{Position, Readable, letterLow, next}
+use Rattle.oracle_exports.specs.Told.{positionTold, nextTold}
+
+pub told-large : (n b : ℕ) → 4294967295 < n → positionTold n b ≡ nextTold n b
+told-large n b h = rw (lt-leb n 4294967295 h)
+
+pub told-last : (n b : ℕ) → n ≤ 4294967295 → b ≡ 255 → positionTold n b ≡ nextTold n b
+told-last n b l e = rw (le-leb n 4294967295 l, le-ltb b 255 (omega arith))
+
+pub told-next : (n b : ℕ) → n ≤ 4294967295 → b < 255 → next (positionTold n b) ≡ nextTold n b
+told-next n b l h = rw (le-leb n 4294967295 l, lt-ltb b 255 h)
+
+pub told-readable : (n b : ℕ) → n ≤ 4294967295 → b < 255 → Readable (positionTold n b)
+told-readable n zero l h = record { number-low = l; letter-low = refl }
+told-readable n (suc b) l h = record { number-low = l; letter-low = lt-ltb (suc b) 255 h }

@@ -1,0 +1,188 @@
+// What runs along with the walk over a document: the record by value, and what lies around a run of siblings.
+use findings::Counts;
+use findings::Finding;
+use findings::Severity;
+use numbers::VersePart;
+use table::Category;
+use table::MarkerInfo;
+use table::TextRole;
+ghost use mathlib.Core.Path.{_≡_};
+ghost use mathlib.Core.List.{[]};
+ghost use Prim.Native.Nat.{_<_};
+ghost use Rattle.tape.specs.Nodes.{count, nodeAt};
+ghost use Rattle.findings.specs.Finding.{findingOf, severityOf};
+ghost use lib.Dec.{eqb};
+ghost use Rattle.table.specs.Entries.{entryOfInfo, categoryOf, roleOf};
+ghost use Rattle.text.specs.Pick.{either};
+ghost use Rattle.definition.specs.Checks;
+ghost use Rattle.definition.specs.Checks.{isBody};
+ghost use Rattle.definition.specs.Walk;
+ghost use Rattle.state.specs.Running.{countsOf, withCounts, withAnchor, aroundOf};
+
+// The running record: flags, what is expected next, how long the two working lists are, the verses visited, the node of the latest anchor or 0, and the counts of findings.
+pub struct Record {
+    pub has_id: bool,
+    pub has_chapter: bool,
+    pub has_verse: bool,
+    pub front_matter: bool,
+    pub outside_warned: bool,
+    pub chapter: u64,
+    pub verse: VersePart,
+    pub seen: usize,
+    pub open: usize,
+    pub verses: u64,
+    pub anchor: usize,
+    pub errors: u64,
+    pub warnings: u64,
+    pub infos: u64,
+}
+
+// Whether a run of siblings stands in a body paragraph, in a note, in a character marker.
+pub struct Around {
+    pub body: bool,
+    pub note: bool,
+    pub char: bool,
+}
+
+pub fn counts(r: Record) -> Counts
+    ensures { λ c. ⌜ c ≡ countsOf r ⌝ }
+{
+    Counts {
+        errors: r.errors,
+        warnings: r.warnings,
+        infos: r.infos,
+    }
+}
+
+// The record with other counts.
+pub fn with_counts(r: Record, c: Counts) -> Record
+    ensures { λ q. ⌜ q ≡ withCounts r c ⌝ }
+{
+    let verse = r.verse;
+    Record {
+        has_id: r.has_id,
+        has_chapter: r.has_chapter,
+        has_verse: r.has_verse,
+        front_matter: r.front_matter,
+        outside_warned: r.outside_warned,
+        chapter: r.chapter,
+        verse: verse,
+        seen: r.seen,
+        open: r.open,
+        verses: r.verses,
+        anchor: r.anchor,
+        errors: c.errors,
+        warnings: c.warnings,
+        infos: c.infos,
+    }
+}
+
+// A finding with the span of a node.
+pub fn about(
+    tape: &[u8],
+    i: usize,
+    severity: Severity,
+    code: u64,
+    form: u64,
+    first: u64,
+    second: u64,
+) -> Finding
+    requires { ⌜ i < count (now tape) ⌝ }
+    ensures { λ r. ⌜ findingOf r ≡ Checks.about (nodeAt [] (now (tape .entry)) i) (severityOf severity) code form first second ⌝ }
+{
+    Finding {
+        severity: severity,
+        code: code,
+        start: tape::start_at(tape, i) as u64,
+        len: tape::len_at(tape, i) as u64,
+        node: i as u64,
+        form: form,
+        first: first,
+        second: second,
+    }
+}
+
+// The record with another anchor.
+pub fn with_anchor(r: Record, n: usize) -> Record
+    ensures { λ q. ⌜ q ≡ withAnchor r n ⌝ }
+{
+    let verse = r.verse;
+    Record {
+        has_id: r.has_id,
+        has_chapter: r.has_chapter,
+        has_verse: r.has_verse,
+        front_matter: r.front_matter,
+        outside_warned: r.outside_warned,
+        chapter: r.chapter,
+        verse: verse,
+        seen: r.seen,
+        open: r.open,
+        verses: r.verses,
+        anchor: n,
+        errors: r.errors,
+        warnings: r.warnings,
+        infos: r.infos,
+    }
+}
+
+fn category_number(c: Category) -> u8
+    ensures { λ r. ⌜ r ≡ categoryOf c ⌝ }
+{
+    match c {
+        Category::Identification => 0,
+        Category::Chapter => 1,
+        Category::Verse => 2,
+        Category::Paragraph => 3,
+        Category::Character => 4,
+        Category::Note => 5,
+        Category::Milestone => 6,
+        Category::Other => 7,
+    }
+}
+
+fn role_number(r: TextRole) -> u8
+    ensures { λ n. ⌜ n ≡ roleOf r ⌝ }
+{
+    match r {
+        TextRole::Content => 0,
+        TextRole::Excluded => 1,
+        TextRole::Boundary => 2,
+    }
+}
+
+// Whether an entry is of the category, by its place in document 01's list.
+pub fn is_of(m: MarkerInfo, category: u8) -> bool
+    ensures { λ r. ⌜ r ≡ eqb (entryOfInfo m .category) category ⌝ }
+{
+    let c = m.category;
+    category_number(c) == category
+}
+
+// Whether an entry is a paragraph that can hold verse text.
+pub fn is_body(m: MarkerInfo) -> bool
+    ensures { λ r. ⌜ r ≡ isBody (entryOfInfo m) ⌝ }
+{
+    let role = m.text_role;
+    if is_of(m, 3) {
+        role_number(role) == 2
+    } else {
+        false
+    }
+}
+
+fn or(a: bool, b: bool) -> bool
+    ensures { λ r. ⌜ r ≡ either a b ⌝ }
+{
+    if a { true } else { b }
+}
+
+// What lies around the children of a marker.
+pub fn inside(o: Around, m: MarkerInfo) -> Around
+    ensures { λ r. ⌜ aroundOf r ≡ Walk.inside (aroundOf o) (entryOfInfo m) ⌝ }
+{
+    Around {
+        body: or(o.body, is_body(m)),
+        note: or(o.note, is_of(m, 5)),
+        char: or(o.char, is_of(m, 4)),
+    }
+}

@@ -1,0 +1,24 @@
+-- Written by proof_writer/write from proof_writer/descriptions/walk.py, from the code and its contracts.
+-- The contract of `walk::leaf`, for its own walk and for the walks that call it: its symbol and its result; what is passed; what is asked of that; what is said of it, of the result r and of the last values z. `known` shows that it is the contract.
+use Rattle.reference_laws.proofs.Call.{Terms, stated-as, val, shr, mut, of-number, of-struct, w64, u8, u32, u64, [], _∷_, Known, bound-at, rule-of, cited}
+use Prim.Native.Nat.{_<_}
+use lib.ListN.{length}
+use Rattle.tape.specs.Nodes.{nodeAt}
+use Rattle.table.specs.Entries.{Indexed}
+use Rattle.cursor.specs.Inner.{Spanned}
+use Rattle.findings.specs.Written.{Room}
+use Rattle.definition.specs.Checks.{leafTold}
+use Rattle.state.specs.Running.{stateOf, aroundOf, countsOf, Sane}
+use Rattle.walk.specs.Walking.{LeafPassed}
+use Rattle.state.proofs.Around as Around-T
+use Rattle.state.proofs.Record as Record-T
+use Rattle.walk.proofs.leaf as leaf-F
+
+abbrev pub terms : Terms
+terms = stated-as leaf-F.Symbol.name (of-struct Record-T.the-type Record-T.Laws.the-laws Record-T.Laws.the-plain)
+    (shr u8 ∷ shr u64 ∷ val (of-number w64) ∷ shr u8 ∷ shr u8 ∷ val (of-number w64) ∷ val (of-struct Around-T.the-type Around-T.Laws.the-laws Around-T.Laws.the-plain) ∷ val (of-struct Record-T.the-type Record-T.Laws.the-laws Record-T.Laws.the-plain) ∷ mut u32 ∷ mut u64 ∷ [])
+    (λ table₀ words₀ count₀ source₀ tape₀ i₀ around₀ rec₀ seen₀ list₀. ((Indexed table₀ words₀ count₀) × (Spanned source₀ tape₀ i₀) × Sane rec₀ × (rec₀ .seen < length seen₀) × (rec₀ .verses < 4611686018427387904) × Room (countsOf rec₀) (leafTold table₀ (aroundOf around₀) (stateOf source₀ tape₀ seen₀ [] rec₀) (nodeAt source₀ tape₀ i₀) .findings)) ∷ [])
+    (λ table₀ words₀ count₀ source₀ tape₀ i₀ around₀ rec₀ seen₀ list₀ r z. (LeafPassed table₀ source₀ tape₀ (aroundOf around₀) i₀ seen₀ list₀ rec₀ (z .0) (z .1 .0) r) ∷ [])
+
+pub known : Known terms leaf-F.signature (λ M 𝓤 H A at-mem run. leaf-F.spec 𝓤 H A at-mem run)
+known M 𝓤 H 𝓜 𝓖 𝓡 γ r at met x cs = cited 𝓤 H _ 𝓜 𝓡 γ (terms .name) r at met (bound-at (rule-of terms x .pars) cs)

@@ -1,0 +1,318 @@
+// The walk over a document: a run of siblings, and the visit of one node, each one level deeper.
+use attachment::Attached;
+use definition::OpenStart;
+use state::Around;
+use state::Record;
+use table::Info;
+use table::MarkerInfo;
+ghost use mathlib.Core.Path.{_≡_};
+ghost use mathlib.Core.List.{[]};
+ghost use Prim.Native.Nat.{_+_, _<_, _≤_};
+ghost use lib.ListN.{length};
+ghost use Rattle.tape.specs.Nodes.{nodeAt, kindAt, isOpen};
+ghost use Rattle.tape.specs.Nodes.{count as nodes};
+ghost use Rattle.tape.specs.Forest.{forest, Nested, Accepted};
+ghost use Rattle.table.specs.Entries.{Indexed, infoOf, entryOfInfo};
+ghost use Rattle.cursor.specs.Info.{infoAt};
+ghost use Rattle.numbers.specs.Label.{numbered};
+ghost use Rattle.cursor.specs.Inner.{Run, Spanned};
+ghost use Rattle.findings.specs.Written.{Room};
+ghost use Rattle.attachment.specs.Attached.{startsOf};
+ghost use Rattle.definition.specs.Checks.{leafTold};
+ghost use Rattle.state.specs.Running.{stateOf, aroundOf, anchorOf, startsFor, countsOf, Sane};
+ghost use Rattle.walk.specs.Walking.{Ready, Walked, Visited, Visitable, Anchored, walkAt, visitFindings, LeafPassed, numbersAfter, onlyOpen, Passable, PassedBy, canSkipChildren};
+
+// The numbers attached to an anchor, among the siblings up to `to`; none without an anchor.
+fn anchored(
+    source: &[u8],
+    tape: &[u8],
+    depth: usize,
+    anchor: usize,
+    from: usize,
+    to: usize,
+) -> Attached
+    requires { ⌜ (Accepted (now source) (now tape)) × (Nested (now tape) depth from to) × (to ≤ nodes (now tape)) × (Anchored (now tape) depth anchor from) ⌝ }
+    ensures { λ r. ⌜ startsOf r ≡ startsFor (anchorOf (now (source .entry)) (now (tape .entry)) anchor from) (forest (now (source .entry)) (now (tape .entry)) from to) ⌝ }
+{
+    if anchor == 0 {
+        return Attached {
+            count: 0,
+            first: 0,
+            second: 0,
+        };
+    }
+    attachment::attached_numbers(
+        source,
+        tape,
+        tape::kind_at(tape, anchor),
+        cursor::past_node(tape, anchor),
+        to,
+    )
+}
+
+// The numbers attached after a leaf, to those that follow it: of a new anchor, or as they were.
+fn numbers_after(
+    source: &[u8],
+    tape: &[u8],
+    i: usize,
+    next: usize,
+    to: usize,
+    numbers: Attached,
+) -> Attached
+    requires { ⌜ (i < nodes (now tape)) × (Run (now source) (now tape) next to) ⌝ }
+    ensures { λ r. ⌜ startsOf r ≡ numbersAfter (now (source .entry)) (now (tape .entry)) i next to (startsOf numbers) ⌝ }
+{
+    let kind = tape::kind_at(tape, i);
+    if kind == 3 {
+        return attachment::attached_numbers(source, tape, kind, next, to);
+    }
+    if kind == 4 {
+        return attachment::attached_numbers(source, tape, kind, next, to);
+    }
+    numbers
+}
+
+// The record after a leaf: a Chapter or a Verse is the new anchor.
+fn leaf(
+    table: &[u8],
+    words: &[u64],
+    count: usize,
+    source: &[u8],
+    tape: &[u8],
+    i: usize,
+    around: Around,
+    rec: Record,
+    seen: &mut [u32],
+    list: &mut [u64],
+) -> Record
+    requires { ⌜ (Indexed (now table) (now words) count) × (Spanned (now source) (now tape) i) × Sane rec × (rec .seen < length (now seen)) × (rec .verses < 4611686018427387904) × Room (countsOf rec) (leafTold (now table) (aroundOf around) (stateOf (now source) (now tape) (now seen) [] rec) (nodeAt (now source) (now tape) i) .findings) ⌝ }
+    ensures { λ r. ⌜ LeafPassed (now (table .entry)) (now (source .entry)) (now (tape .entry)) (aroundOf around) i (now (seen .entry)) (now (list .entry)) rec (now (seen .exit)) (now (list .exit)) r ⌝ }
+{
+    let r = chapter_verse::visit_leaf(
+        table,
+        words,
+        count,
+        source,
+        tape,
+        i,
+        around,
+        rec,
+        seen,
+        list,
+    );
+    let kind = tape::kind_at(tape, i);
+    if kind == 3 {
+        return state::with_anchor(r, i);
+    }
+    if kind == 4 {
+        return state::with_anchor(r, i);
+    }
+    r
+}
+
+// Whether a node is a Chapter or a Verse.
+fn is_number(tape: &[u8], i: usize) -> bool
+    requires { ⌜ i < nodes (now tape) ⌝ }
+    ensures { λ r. ⌜ r ≡ numbered (kindAt (now (tape .entry)) i) ⌝ }
+{
+    numbers::is_numbered(tape::kind_at(tape, i))
+}
+
+// The table entry of a marker; a leaf has none here.
+fn marker(table: &[u8], words: &[u64], count: usize, tape: &[u8], i: usize) -> Info
+    requires { ⌜ (Indexed (now table) (now words) count) × (i < nodes (now tape)) ⌝ }
+    ensures { λ r. ⌜ infoOf r ≡ onlyOpen (isOpen (kindAt (now (tape .entry)) i)) (infoAt (now (table .entry)) (now (tape .entry)) i) ⌝ }
+{
+    if tape::kind_at(tape, i) == 1 {
+        return cursor::marker_info(table, words, count, tape, i);
+    }
+    Info::Missing
+}
+
+// The visit of a leaf, to which the record is lent: a Chapter or a Verse updates it, and any other node is passed. It gives the
+// numbers attached to what follows, from `next` on.
+fn visit_leaf(
+    table: &[u8],
+    words: &[u64],
+    count: usize,
+    source: &[u8],
+    tape: &[u8],
+    i: usize,
+    next: usize,
+    to: usize,
+    around: Around,
+    numbers: Attached,
+    rec: &mut Record,
+    seen: &mut [u32],
+    list: &mut [u64],
+) -> Attached
+    requires { ⌜ Passable (now table) (now words) count (now source) (now tape) (aroundOf around) i next to (now seen) (now rec) ⌝ }
+    ensures { λ r. ⌜ PassedBy (now (table .entry)) (now (source .entry)) (now (tape .entry)) (aroundOf around) i next to numbers (now (seen .entry)) (now (list .entry)) (now (rec .entry)) (now (seen .exit)) (now (list .exit)) (now (rec .exit)) r ⌝ }
+{
+    if is_number(tape, i) {
+        let before = *rec;
+        *rec = leaf(
+            table,
+            words,
+            count,
+            source,
+            tape,
+            i,
+            around,
+            before,
+            seen,
+            list,
+        );
+        return numbers_after(source, tape, i, next, to, numbers);
+    }
+    numbers
+}
+
+// Whether a run has no marker, no chapter and no verse. Most markers hold such a run, and the walk of it is spared.
+fn can_skip_children(source: &[u8], tape: &[u8], from: usize, to: usize) -> bool
+    requires { ⌜ Run (now source) (now tape) from to ⌝ }
+    ensures { λ r. ⌜ r ≡ canSkipChildren (forest (now (source .entry)) (now (tape .entry)) from to) ⌝ }
+{
+    let mut i = from;
+    while i < to {
+        let kind = tape::kind_at(tape, i);
+        if kind == 1 {
+            return false;
+        }
+        if kind == 3 {
+            return false;
+        }
+        if kind == 4 {
+            return false;
+        }
+        i = cursor::past_node(tape, i);
+    }
+    true
+}
+
+// What is said of a marker, and of what lies in it. The record is lent: it is updated.
+fn visit(
+    table: &[u8],
+    words: &[u64],
+    count: usize,
+    source: &[u8],
+    tape: &[u8],
+    i: usize,
+    to: usize,
+    depth: usize,
+    m: MarkerInfo,
+    around: Around,
+    numbers: Attached,
+    rec: &mut Record,
+    seen: &mut [u32],
+    opens: &mut [OpenStart],
+    list: &mut [u64],
+)
+    requires { ⌜ (Ready (now table) (now words) count (now source) (now tape) depth i to (now seen) (now opens) (now rec)) × (Visitable (now source) (now tape) i to numbers (now rec)) × (m .«name_start» + m .«name_len» ≤ length (now table)) × Room (countsOf (now rec)) (visitFindings (now table) (now source) (now tape) (aroundOf around) (entryOfInfo m) i to (now seen) (now opens) (now rec)) ⌝ }
+    ensures { λ _. ⌜ Visited (now (table .entry)) (now (source .entry)) (now (tape .entry)) (aroundOf around) (entryOfInfo m) i to (now (seen .entry)) (now (opens .entry)) (now (list .entry)) (now (rec .entry)) (now (seen .exit)) (now (opens .exit)) (now (list .exit)) (now (rec .exit)) ⌝ }
+{
+    if marker_checks::can_skip_marker(table, m, source, tape, i, around, rec.has_chapter) {
+        return;
+    }
+    let before = *rec;
+    let marked = marker_checks::visit_marker(
+        table,
+        m,
+        source,
+        tape,
+        i,
+        to,
+        around,
+        numbers,
+        before,
+        list,
+    );
+    let paired = milestones::milestone(m, source, tape, i, opens, marked, list);
+    let from = i + 1;
+    let link = tape::link_at(tape, i) as usize;
+    if can_skip_children(source, tape, from, link) {
+        *rec = state::with_anchor(paired, before.anchor);
+        return;
+    }
+    *rec = state::with_anchor(paired, 0);
+    let deeper = depth - 1;
+    let inner = state::inside(around, m);
+    walk(
+        table,
+        words,
+        count,
+        source,
+        tape,
+        from,
+        link,
+        deeper,
+        inner,
+        rec,
+        seen,
+        opens,
+        list,
+    );
+    *rec = state::with_anchor(*rec, before.anchor);
+}
+
+// The findings of the nodes from one up to another, the record after them with its lists, and the last anchor.
+pub fn walk(
+    table: &[u8],
+    words: &[u64],
+    count: usize,
+    source: &[u8],
+    tape: &[u8],
+    from: usize,
+    to: usize,
+    depth: usize,
+    around: Around,
+    rec: &mut Record,
+    seen: &mut [u32],
+    opens: &mut [OpenStart],
+    list: &mut [u64],
+)
+    requires { ⌜ (Ready (now table) (now words) count (now source) (now tape) depth from to (now seen) (now opens) (now rec)) × Room (countsOf (now rec)) (walkAt (now table) (now source) (now tape) (aroundOf around) from to (now seen) (now opens) (now rec) .findings) ⌝ }
+    ensures { λ _. ⌜ Walked (now (source .entry)) (now (tape .entry)) (walkAt (now (table .entry)) (now (source .entry)) (now (tape .entry)) (aroundOf around) from to (now (seen .entry)) (now (opens .entry)) (now (rec .entry))) depth from to (now (list .entry)) (now (rec .entry)) (now (seen .exit)) (now (opens .exit)) (now (list .exit)) (now (rec .exit)) ⌝ }
+{
+    let mut numbers = anchored(source, tape, depth, rec.anchor, from, to);
+    let mut i = from;
+    while i < to {
+        let here = i;
+        i = cursor::past_node(tape, here);
+        numbers = visit_leaf(
+            table,
+            words,
+            count,
+            source,
+            tape,
+            here,
+            i,
+            to,
+            around,
+            numbers,
+            rec,
+            seen,
+            list,
+        );
+        let Info::Known(m) = marker(table, words, count, tape, here) else {
+            continue;
+        };
+        visit(
+            table,
+            words,
+            count,
+            source,
+            tape,
+            here,
+            to,
+            depth,
+            m,
+            around,
+            numbers,
+            rec,
+            seen,
+            opens,
+            list,
+        );
+    }
+}
