@@ -136,8 +136,12 @@ fn examples() -> PathBuf {
 /// The names of the repository's examples.
 pub fn example_names() -> Vec<String> {
     let folder = fs::read_dir(examples()).expect("the repository has examples");
-    let names = folder.map(|entry| entry.unwrap().file_name().into_string().unwrap());
-    let mut names: Vec<String> = names.collect();
+    let folders = folder
+        .map(Result::unwrap)
+        .filter(|entry| entry.path().is_dir());
+    let mut names: Vec<String> = folders
+        .map(|entry| entry.file_name().into_string().unwrap())
+        .collect();
     names.sort();
     assert!(names.len() >= 18, "{names:?}");
     names
