@@ -7,7 +7,7 @@ use mathlib.Core.List.{List, [], _∷_, _++_}
 use native.Mathlib.Omega.{arith}
 use lib.ListN.{length, length-append}
 use borrow.Author.Tests.{eq-eqb, ne-eqb, eqb-true}
-use Rattle.text.specs.Pick.{both, either, pickNat}
+use Rattle.text.specs.Pick.{both, either, pick}
 use Rattle.text.proofs.Rows.{both-left, both-right}
 use Rattle.tape.specs.Nodes.{Node, nodeAt, kindAt, startAt, linkAt, isOpen}
 use Rattle.tape.specs.Forest.{forest}
@@ -39,7 +39,7 @@ plain-end s t a b h = rw (forest-done s t a b h)
 
 -- a place that is taken counts
 abbrev pub bit : Bool → ℕ
-bit v = pickNat v 1 0
+bit v = pick v 1 0
 
 -- what is left of the run gives, after what is found, what the whole gives; nothing is found without taking a place
 pub record Going (s t : List ℕ) (kind from to : ℕ) (found : Attached) (alt pubn : Bool) (i : ℕ) : Type 0 where

@@ -5,7 +5,7 @@ use mathlib.Core.List.{List, [], _∷_, _++_}
 use mathlib.Core.Path.{_≡_}
 use lib.Dec.{eqb}
 use lib.ListN.{take}
-use Rattle.text.specs.Pick.{both, either, pickNat}
+use Rattle.text.specs.Pick.{both, either, pick}
 use Rattle.text.specs.Words.{blankText}
 use Rattle.tape.specs.Nodes.{Node}
 use Rattle.tape.specs.Forest.{Forest, end, leaf, node}
@@ -15,7 +15,7 @@ use Rattle.attachment.specs.declared.Attached.{Attached}
 
 -- `c` of a Chapter, `v` of a Verse: the letter with which the names of its numbers begin
 abbrev pub letter : ℕ → ℕ
-letter kind = pickNat (eqb kind 3) 0x63 0x76
+letter kind = pick (eqb kind 3) 0x63 0x76
 
 -- "`\ca`/`\va` (alternate)"
 unfoldable pub isAlternate : ℕ → List ℕ → Bool

@@ -8,7 +8,7 @@ use native.Mathlib.Nat.{le-refl}
 use native.Mathlib.Omega.{arith}
 use lib.Dec.{eqb}
 use lib.ListN.{length, take, drop, length-append, length-take, length-drop}
-use Rattle.text.specs.Pick.{Part, cut}
+use Rattle.text.specs.Pick.{Part, cut, pick}
 use Rattle.text.specs.declared.Decoded.{Decoded}
 use Rattle.text.specs.Utf8.{decode}
 use Rattle.text.specs.Characters.{charsPast, chars}
@@ -18,7 +18,7 @@ use Rattle.tape.proofs.Sizes.{breadth}
 use Rattle.table.specs.Names.{defaultOf}
 use Rattle.cursor.specs.Names.{pastOne}
 use Rattle.findings.specs.Finding.{Finding, Kind}
-use Rattle.attributes.specs.Attributes.{emptyList, noDefault, Mode, between, key, value, opened, quoted, escaping, unquoted, Step, go, tell, stop, step, ended, resume, scan, afterBar, body, pickKinds, hasDefault, holdsEquals, attributeKinds, findingsAt, attributeFindings, pickFindings, attributesFindings}
+use Rattle.attributes.specs.Attributes.{emptyList, noDefault, Mode, between, key, value, opened, quoted, escaping, unquoted, Step, go, tell, stop, step, ended, resume, scan, afterBar, body, hasDefault, holdsEquals, attributeKinds, findingsAt, attributeFindings, attributesFindings}
 
 chars-few : (k : ℕ) (s : List ℕ) → length (charsPast k s) ≤ length s
 unfolding charsPast
@@ -54,7 +54,7 @@ kinds-few : (marker text : List ℕ) → length (attributeKinds marker text) ≤
 unfolding attributeKinds
 kinds-few marker text = choose (eqb (length (body text)) 0) (holdsEquals (body text)) (hasDefault (defaultOf marker))
   where
-    choose : (a b c : Bool) → length (pickKinds a (emptyList ∷ []) (pickKinds b (scan between (chars (body text))) (pickKinds c [] (noDefault ∷ [])))) ≤ 1 + length text
+    choose : (a b c : Bool) → length (pick a (emptyList ∷ []) (pick b (scan between (chars (body text))) (pick c [] (noDefault ∷ [])))) ≤ 1 + length text
     choose true b c = omega arith
     choose false true c =
         let k = scan-few between (chars (body text)) in
@@ -74,7 +74,7 @@ unfolding attributesFindings breadth
 attributes-few owner marker end = le-refl 0
 attributes-few owner marker (leaf x r) = choose (eqb (x .kind) 6) (attributes-few owner marker r)
   where
-    choose : (b : Bool) → length (attributesFindings owner marker r) ≤ breadth r → length (pickFindings b (attributeFindings owner marker x) [] ++ attributesFindings owner marker r) ≤ 1 + length (x .text) + breadth r
+    choose : (b : Bool) → length (attributesFindings owner marker r) ≤ breadth r → length (pick b (attributeFindings owner marker x) [] ++ attributesFindings owner marker r) ≤ 1 + length (x .text) + breadth r
     choose true h =
         let k = kinds-few marker (x .text) in
         let j = at-few (x .start) (x .len) (x .number) owner (attributeKinds marker (x .text)) in

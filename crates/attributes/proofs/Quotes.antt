@@ -10,13 +10,13 @@ use lib.Dec.{eqb, ltb, leb·suc-suc}
 use lib.ListN.{length, getD, drop, length-drop, drop-of-length-le}
 use lib.Seq.{drop-drop}
 use borrow.Author.Tests.{lt-ltb, le-ltb, eq-eqb, ne-eqb, eqb-true}
-use Rattle.text.specs.Pick.{both, either, pickNat}
+use Rattle.text.specs.Pick.{both, either, pick}
 use Rattle.text.specs.Utf8.{decode}
 use Rattle.text.specs.Characters.{chars, findByte}
 use Rattle.text.proofs.Rows.{both-false, both-left, place}
 use Rattle.text.proofs.Find.{find-bytes}
 use Rattle.findings.specs.Finding.{Kind}
-use Rattle.attributes.specs.Attributes.{Mode, between, value, opened, quoted, escaping, go, inQuotes, step, scan, emptyValue, unterminated, pickKinds}
+use Rattle.attributes.specs.Attributes.{Mode, between, value, opened, quoted, escaping, go, inQuotes, step, scan, emptyValue, unterminated}
 use Rattle.attributes.specs.Inner.{leads, escapes, closing}
 use Rattle.attributes.proofs.Scanning.{scan-end, scan-char, scan-byte, same-code, neither, stay, leads-at}
 
@@ -72,7 +72,7 @@ inside-byte e b s h = test e (eqb b 0x22) (eqb b 0x5C) refl refl h
 
 -- what the scan finds of a value that closes after n bytes, or doesn't
 abbrev closedBy : ℕ → List ℕ → List Kind
-closedBy n l = pickKinds (ltb n (length l)) (scan between (chars (drop (suc n) l))) (unterminated ∷ [])
+closedBy n l = pick (ltb n (length l)) (scan between (chars (drop (suc n) l))) (unterminated ∷ [])
 
 closes-here : (b : ℕ) (s : List ℕ) → eqb b 0x22 ≡ true → scan quoted (chars (b ∷ s)) ≡ closedBy 0 (b ∷ s)
 unfolding step
@@ -88,16 +88,16 @@ quoted-closes e (b ∷ s) = test (both (eqb b 0x22) (not e)) refl (quoted-closes
     closes-at true h = absurd (false≢true (sym (both-false (eqb b 0x22)) ∙ h))
     closes-at false h = closes-here b s (both-left (eqb b 0x22) true h)
 
-    test : (t : Bool) → both (eqb b 0x22) (not e) ≡ t → scan (inside (eqb b 0x5C)) (chars s) ≡ closedBy (closing (eqb b 0x5C) s) s → scan (inside e) (chars (b ∷ s)) ≡ closedBy (pickNat t 0 (suc (closing (eqb b 0x5C) s))) (b ∷ s)
+    test : (t : Bool) → both (eqb b 0x22) (not e) ≡ t → scan (inside (eqb b 0x5C)) (chars s) ≡ closedBy (closing (eqb b 0x5C) s) s → scan (inside e) (chars (b ∷ s)) ≡ closedBy (pick t 0 (suc (closing (eqb b 0x5C) s))) (b ∷ s)
     test true h ih = closes-at e h
     test false h ih = inside-byte e b s h ∙ ih ∙ rw (leb·suc-suc (suc (closing (eqb b 0x5C) s)) (length s))
 
-opened-closes : (l : List ℕ) → scan opened (chars l) ≡ pickKinds (ltb (closing false l) (length l)) (pickKinds (eqb (closing false l) 0) (emptyValue ∷ []) [] ++ scan between (chars (drop (suc (closing false l)) l))) (unterminated ∷ [])
+opened-closes : (l : List ℕ) → scan opened (chars l) ≡ pick (ltb (closing false l) (length l)) (pick (eqb (closing false l) 0) (emptyValue ∷ []) [] ++ scan between (chars (drop (suc (closing false l)) l))) (unterminated ∷ [])
 unfolding closing step
 opened-closes [] = scan-end opened
 opened-closes (b ∷ s) = test (eqb b 0x22) refl
   where
-    test : (t : Bool) → eqb b 0x22 ≡ t → scan opened (chars (b ∷ s)) ≡ pickKinds (ltb (closing false (b ∷ s)) (length (b ∷ s))) (pickKinds (eqb (closing false (b ∷ s)) 0) (emptyValue ∷ []) [] ++ scan between (chars (drop (suc (closing false (b ∷ s))) (b ∷ s)))) (unterminated ∷ [])
+    test : (t : Bool) → eqb b 0x22 ≡ t → scan opened (chars (b ∷ s)) ≡ pick (ltb (closing false (b ∷ s)) (length (b ∷ s))) (pick (eqb (closing false (b ∷ s)) 0) (emptyValue ∷ []) [] ++ scan between (chars (drop (suc (closing false (b ∷ s))) (b ∷ s)))) (unterminated ∷ [])
     test true q = scan-byte opened 0x22 (b ∷ s) (omega arith) q ∙ rw (q, lt-ltb 0 (length (b ∷ s)) (omega arith))
     test false q = no-quote opened b s (λ c e. rw e) q ∙ quoted-closes false (b ∷ s) ∙ rw (q, ne-eqb (suc (closing (eqb b 0x5C) s)) 0 (λ e. omega arith))
 
@@ -118,7 +118,7 @@ module _ (s : List ℕ) (k close : ℕ) (quote : leads 0x22 (drop (k + 1) s) ≡
       let l = length-drop (k + 2) s in
       opens ∙ opened-closes (drop (k + 2) s) ∙ rw (le-ltb (closing false (drop (k + 2) s)) (length (drop (k + 2) s)) (omega arith))
 
-  pub closed : close < length s → scan value (chars (drop (k + 1) s)) ≡ pickKinds (eqb close (k + 2)) (emptyValue ∷ []) [] ++ scan between (chars (drop (close + 1) s))
+  pub closed : close < length s → scan value (chars (drop (k + 1) s)) ≡ pick (eqb close (k + 2)) (emptyValue ∷ []) [] ++ scan between (chars (drop (close + 1) s))
   closed h =
       let l = length-drop (k + 2) s in
       let d : k + 2 + suc (closing false (drop (k + 2) s)) ≡ close + 1 = omega arith in
@@ -126,7 +126,7 @@ module _ (s : List ℕ) (k close : ℕ) (quote : leads 0x22 (drop (k + 1) s) ≡
       ∙ rw (lt-ltb (closing false (drop (k + 2) s)) (length (drop (k + 2) s)) (omega arith), drop-drop (suc (closing false (drop (k + 2) s))) (k + 2) s, d, is, same-test (k + 2) (closing false (drop (k + 2) s)))
 
 -- how far the search for the closing quote goes at a byte that is none
-jump : (l : List ℕ) (r : ℕ) → r ≡ pickNat (escapes l) 2 1 → leads 0x22 l ≡ false → 0 < length l → (0 < r) × (r ≤ length l) × (closing false l ≡ r + closing false (drop r l))
+jump : (l : List ℕ) (r : ℕ) → r ≡ pick (escapes l) 2 1 → leads 0x22 l ≡ false → 0 < length l → (0 < r) × (r ≤ length l) × (closing false l ≡ r + closing false (drop r l))
 unfolding closing
 jump [] r e h g = absurd (not-suc-le-zero g)
 jump (b ∷ []) r e h g =
@@ -134,7 +134,7 @@ jump (b ∷ []) r e h g =
     rw (z, h) (omega arith, omega arith, omega arith)
 jump (b ∷ x ∷ s) r e h g = rw (e, h) (test (eqb b 0x5C) (eqb x 0x22) refl)
   where
-    test : (t u : Bool) → eqb x 0x22 ≡ u → (0 < pickNat (both t u) 2 1) × (pickNat (both t u) 2 1 ≤ suc (suc (length s))) × (suc (pickNat (both u (not t)) 0 (suc (closing (eqb x 0x5C) s))) ≡ pickNat (both t u) 2 1 + closing false (drop (pickNat (both t u) 2 1) (b ∷ x ∷ s)))
+    test : (t u : Bool) → eqb x 0x22 ≡ u → (0 < pick (both t u) 2 1) × (pick (both t u) 2 1 ≤ suc (suc (length s))) × (suc (pick (both u (not t)) 0 (suc (closing (eqb x 0x5C) s))) ≡ pick (both t u) 2 1 + closing false (drop (pick (both t u) 2 1) (b ∷ x ∷ s)))
     test true true q =
         let z : x ≡ 0x22 = eqb-true x 0x22 q in
         rw z (omega arith, omega arith, omega arith)
@@ -152,7 +152,7 @@ module _ (s : List ℕ) (i : ℕ) where
   unfolding closing
   quote-here h e = rw (place s i h, eq-eqb (getD s i 0) 0x22 e) (add-zero i)
 
-  pub quote-past : (r : ℕ) → i < length s → (getD s i 0 ≡ 0x22 → ⊥) → r ≡ pickNat (escapes (drop i s)) 2 1 → (0 < r) × (i + r ≤ length s) × (i + closing false (drop i s) ≡ i + r + closing false (drop (i + r) s))
+  pub quote-past : (r : ℕ) → i < length s → (getD s i 0 ≡ 0x22 → ⊥) → r ≡ pick (escapes (drop i s)) 2 1 → (0 < r) × (i + r ≤ length s) × (i + closing false (drop i s) ≡ i + r + closing false (drop (i + r) s))
   quote-past r h q e =
       let l = length-drop i s in
       let j = jump (drop i s) r e (sym (leads-at 0x22 s i h) ∙ ne-eqb (getD s i 0) 0x22 q) (omega arith) in
@@ -160,8 +160,8 @@ module _ (s : List ℕ) (i : ℕ) where
 
 -- the bytes that the code passes at once
 module _ (s : List ℕ) (k : ℕ) where
-  pub passed-one : leads 0x5C (drop k s) ≡ false → 1 ≡ pickNat (escapes (drop k s)) 2 1
+  pub passed-one : leads 0x5C (drop k s) ≡ false → 1 ≡ pick {A = ℕ} (escapes (drop k s)) 2 1
   passed-one h = rw h
 
-  pub passed-by : (t : Bool) → leads 0x5C (drop k s) ≡ true → leads 0x22 (drop (k + 1) s) ≡ t → pickNat t 2 1 ≡ pickNat (escapes (drop k s)) 2 1
+  pub passed-by : (t : Bool) → leads 0x5C (drop k s) ≡ true → leads 0x22 (drop (k + 1) s) ≡ t → pick t 2 1 ≡ pick {A = ℕ} (escapes (drop k s)) 2 1
   passed-by t h q = rw (h, drop-drop 1 k s, q)

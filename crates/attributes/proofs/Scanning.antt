@@ -11,7 +11,7 @@ use lib.Dec.{eqb}
 use lib.ListN.{length, getD, drop, length-drop, drop-of-length-le}
 use lib.Seq.{drop-nil, drop-drop}
 use borrow.Author.Tests.{ne-eqb, eqb-true, not-true}
-use Rattle.text.specs.Pick.{either, pickNat}
+use Rattle.text.specs.Pick.{either, pick}
 use Rattle.text.specs.declared.Decoded.{Decoded}
 use Rattle.text.specs.Utf8.{decode}
 use Rattle.text.specs.Blank.{blank}
@@ -23,7 +23,7 @@ use Rattle.text.proofs.Decode.{decode-width}
 use Rattle.text.proofs.Chars.{chars-nil, chars-cons}
 use Rattle.text.proofs.Find.{low-decode, high-decode}
 use Rattle.text.proofs.Hits.{find-hits}
-use Rattle.attributes.specs.Attributes.{Mode, between, key, value, unquoted, Step, go, tell, stop, pickStep, step, ended, resume, scan, keyAlone, unquotedValue}
+use Rattle.attributes.specs.Attributes.{Mode, between, key, value, unquoted, Step, go, tell, stop, step, ended, resume, scan, keyAlone, unquotedValue}
 use Rattle.attributes.specs.Inner.{leads, endsKey}
 
 -- the byte at a place
@@ -74,7 +74,7 @@ scan-byte m b (x ∷ s) h e =
     scan-char m x s ∙ rw (z, low-decode b s h)
 
 -- none of two tests passes
-pub neither : (t u : Bool) (a b m : Step) → either t u ≡ false → pickStep t a (pickStep u b m) ≡ m
+pub neither : (t u : Bool) (a b m : Step) → either t u ≡ false → pick t a (pick u b m) ≡ m
 neither true u a b m h = absurd (false≢true (sym h))
 neither false true a b m h = absurd (false≢true (sym h))
 neither false false a b m h = refl
@@ -88,10 +88,10 @@ module _ (m : Mode) (p : ℕ → Bool) (stays : (c : ℕ) → p c ≡ false → 
       let l = b ∷ s in
       let w = decode l .width in
       let d = decode-width l (omega arith) in
-      let e : find p l ≡ pickNat (p (decode l .cp)) 0 (w + find p (drop w l)) = rw (chars-cons l w (omega arith) refl) in
+      let e : find p l ≡ pick (p (decode l .cp)) 0 (w + find p (drop w l)) = rw (chars-cons l w (omega arith) refl) in
       rw e (test w (p (decode l .cp)) refl refl (d .0))
     where
-      test : (w : ℕ) (t : Bool) → decode (b ∷ s) .width ≡ w → p (decode (b ∷ s) .cp) ≡ t → 0 < w → scan m (chars (b ∷ s)) ≡ scan m (chars (drop (pickNat t 0 (w + find p (drop w (b ∷ s)))) (b ∷ s)))
+      test : (w : ℕ) (t : Bool) → decode (b ∷ s) .width ≡ w → p (decode (b ∷ s) .cp) ≡ t → 0 < w → scan m (chars (b ∷ s)) ≡ scan m (chars (drop (pick t 0 (w + find p (drop w (b ∷ s)))) (b ∷ s)))
       test w true z y d = refl
       test w false z y d =
           scan-char m b s ∙ rw (stays _ y, z) (ih (drop w (b ∷ s)) (omega (arith, length-drop w (b ∷ s))) ∙ rw (drop-drop (find p (drop w (b ∷ s))) w (b ∷ s)))
@@ -104,7 +104,7 @@ between-stays : (c : ℕ) → solid c ≡ false → step between c ≡ go betwee
 unfolding step
 between-stays c h = test (blank c) h
   where
-    test : (t : Bool) → not t ≡ false → pickStep t (go between) (pickStep (eqb c 0x3D) (go value) (go key)) ≡ go between
+    test : (t : Bool) → not t ≡ false → pick t (go between) (pick (eqb c 0x3D) (go value) (go key)) ≡ go between
     test true h = refl
     test false h = absurd (false≢true (sym h))
 
@@ -156,7 +156,7 @@ unfolding step
 unquoted-starts [] h = scan-end value ∙ ap (unquotedValue ∷_) (sym (scan-end unquoted))
 unquoted-starts (b ∷ s) h = scan-char value b s ∙ rw (same-code 0x22 b s (omega arith), h, scan-char unquoted b s) (test (blank (decode (b ∷ s) .cp)))
   where
-    test : (t : Bool) → resume (pickStep t (tell unquotedValue between) (tell unquotedValue unquoted)) (λ n. scan n (chars (drop (decode (b ∷ s) .width) (b ∷ s)))) ≡ unquotedValue ∷ resume (pickStep t (go between) (go unquoted)) (λ n. scan n (chars (drop (decode (b ∷ s) .width) (b ∷ s))))
+    test : (t : Bool) → resume (pick t (tell unquotedValue between) (tell unquotedValue unquoted)) (λ n. scan n (chars (drop (decode (b ∷ s) .width) (b ∷ s)))) ≡ unquotedValue ∷ resume (pick t (go between) (go unquoted)) (λ n. scan n (chars (drop (decode (b ∷ s) .width) (b ∷ s))))
     test true = refl
     test false = refl
 

@@ -7,7 +7,7 @@ use Prim.Native.Nat.{ℕ, _+_, _-_, _<_, _≤_}
 use lib.Dec.{eqb}
 use lib.ListN.{length}
 use borrow.Author.Tests.{eq-eqb, ne-eqb, eqb-true, lt-ltb, le-ltb}
-use Rattle.text.specs.Pick.{cut}
+use Rattle.text.specs.Pick.{cut, pick}
 use Rattle.text.specs.Characters.{chars, findByte}
 use Rattle.tape.specs.Nodes.{nodeAt, kindAt, startAt, lenAt, span, isOpen}
 use Rattle.tape.specs.Forest.{forest}
@@ -21,7 +21,7 @@ use Rattle.findings.specs.Finding.{Finding}
 use Rattle.findings.specs.declared.Counts.{Counts}
 use Rattle.findings.specs.Written.{Wrote, Room}
 use Rattle.findings.proofs.Overlay.{Left, left-start, left-wrote, left-end, left-room, room-first}
-use Rattle.attributes.specs.Attributes.{emptyList, noDefault, between, scan, body, pickKinds, hasDefault, attributeKinds, findingsAt, attributesFindings}
+use Rattle.attributes.specs.Attributes.{emptyList, noDefault, between, scan, body, hasDefault, attributeKinds, findingsAt, attributesFindings}
 use Rattle.attributes.specs.Inner.{ofNode}
 
 module _ (marker text b : List ℕ) (is : b ≡ body text) where
@@ -34,11 +34,11 @@ module _ (marker text b : List ℕ) (is : b ≡ body text) where
     unfolding attributeKinds
     kinds-scan h = rw (← is, ne-eqb (length b) 0 some, ← at, lt-ltb k (length b) h)
 
-    pub kinds-bare : (x : Bool) → x ≡ hasDefault (defaultOf marker) → length b ≤ k → attributeKinds marker text ≡ pickKinds (not x) (noDefault ∷ []) [] ++ []
+    pub kinds-bare : (x : Bool) → x ≡ hasDefault (defaultOf marker) → length b ≤ k → attributeKinds marker text ≡ pick (not x) (noDefault ∷ []) [] ++ []
     unfolding attributeKinds
     kinds-bare x e h = rw (← is, ne-eqb (length b) 0 some, ← at, le-ltb k (length b) h, ← e) (test x)
       where
-        test : (x : Bool) → pickKinds x [] (noDefault ∷ []) ≡ pickKinds (not x) (noDefault ∷ []) [] ++ []
+        test : (x : Bool) → pick x [] (noDefault ∷ []) ≡ pick (not x) (noDefault ∷ []) [] ++ []
         test true = refl
         test false = refl
 

@@ -4,7 +4,7 @@ use mathlib.Core.Bool.{Bool, true, false}
 use mathlib.Core.List.{List, [], _∷_, _++_}
 use lib.Dec.{eqb, ltb}
 use lib.ListN.{length, drop}
-use Rattle.text.specs.Pick.{either, pickNat, cut}
+use Rattle.text.specs.Pick.{either, cut, pick}
 use Rattle.text.specs.Blank.{blank}
 use Rattle.text.specs.declared.Decoded.{Decoded}
 use Rattle.text.specs.Characters.{chars, findByte}
@@ -56,22 +56,18 @@ pub data Step : Type 0 where
   tell : Kind → Mode → Step
   stop : Kind → Step
 
-abbrev pub pickStep : Bool → Step → Step → Step
-pickStep true a b = a
-pickStep false a b = b
-
 -- 0x3D is `=`, 0x22 is `"`, 0x5C is `\`. A quote after a backslash is part of the value
 abbrev pub inQuotes : ℕ → Step
-inQuotes c = pickStep (eqb c 0x5C) (go escaping) (go quoted)
+inQuotes c = pick (eqb c 0x5C) (go escaping) (go quoted)
 
 unfoldable pub step : Mode → ℕ → Step
-step between c = pickStep (blank c) (go between) (pickStep (eqb c 0x3D) (go value) (go key))
-step key c = pickStep (eqb c 0x3D) (go value) (pickStep (blank c) (stop keyAlone) (go key))
-step value c = pickStep (eqb c 0x22) (go opened) (pickStep (blank c) (tell unquotedValue between) (tell unquotedValue unquoted))
-step opened c = pickStep (eqb c 0x22) (tell emptyValue between) (inQuotes c)
-step quoted c = pickStep (eqb c 0x22) (go between) (inQuotes c)
+step between c = pick (blank c) (go between) (pick (eqb c 0x3D) (go value) (go key))
+step key c = pick (eqb c 0x3D) (go value) (pick (blank c) (stop keyAlone) (go key))
+step value c = pick (eqb c 0x22) (go opened) (pick (blank c) (tell unquotedValue between) (tell unquotedValue unquoted))
+step opened c = pick (eqb c 0x22) (tell emptyValue between) (inQuotes c)
+step quoted c = pick (eqb c 0x22) (go between) (inQuotes c)
 step escaping c = inQuotes c
-step unquoted c = pickStep (blank c) (go between) (go unquoted)
+step unquoted c = pick (blank c) (go between) (go unquoted)
 
 -- the end of the text
 abbrev pub ended : Mode → List Kind
@@ -100,10 +96,6 @@ afterBar text = drop (pastOne 0x7C text 0) text
 abbrev pub body : List ℕ → List ℕ
 body text = cut (trim (afterBar text)) (afterBar text)
 
-abbrev pub pickKinds : Bool → List Kind → List Kind → List Kind
-pickKinds true a b = a
-pickKinds false a b = b
-
 -- the marker has an attribute that a bare value sets
 abbrev pub hasDefault : DefaultAttribute → Bool
 hasDefault NoDefault = false
@@ -121,9 +113,9 @@ holdsEquals s = ltb (findByte (eqb 0x3D) s) (length s)
 -- what is found of the text of one Attribute of a marker with this name as written, in order
 unfoldable pub attributeKinds : List ℕ → List ℕ → List Kind
 attributeKinds marker text =
-    pickKinds (eqb (length (body text)) 0) (emptyList ∷ [])
-    (pickKinds (holdsEquals (body text)) (scan between (chars (body text)))
-    (pickKinds (hasDefault (defaultOf marker)) [] (noDefault ∷ [])))
+    pick (eqb (length (body text)) 0) (emptyList ∷ [])
+    (pick (holdsEquals (body text)) (scan between (chars (body text)))
+    (pick (hasDefault (defaultOf marker)) [] (noDefault ∷ [])))
 
 -- "DefaultAttributeNotDefined its owner's node; else 0"
 unfoldable pub findingsAt : ℕ → ℕ → ℕ → ℕ → List Kind → List Finding
@@ -136,7 +128,7 @@ findingsAt start len number owner (k ∷ ks) =
       len = len;
       node = number;
       form = k .form;
-      first = pickNat (eqb (k .code) 32) owner 0;
+      first = pick (eqb (k .code) 32) owner 0;
       second = 0;
     }
     ∷ findingsAt start len number owner ks
@@ -144,12 +136,8 @@ findingsAt start len number owner (k ∷ ks) =
 abbrev pub attributeFindings : ℕ → List ℕ → Node → List Finding
 attributeFindings owner marker x = findingsAt (x .start) (x .len) (x .number) owner (attributeKinds marker (x .text))
 
-abbrev pub pickFindings : Bool → List Finding → List Finding → List Finding
-pickFindings true a b = a
-pickFindings false a b = b
-
 -- of all Attributes among the children of a node
 unfoldable pub attributesFindings : ℕ → List ℕ → Forest → List Finding
 attributesFindings owner marker end = []
-attributesFindings owner marker (leaf x r) = pickFindings (eqb (x .kind) 6) (attributeFindings owner marker x) [] ++ attributesFindings owner marker r
+attributesFindings owner marker (leaf x r) = pick (eqb (x .kind) 6) (attributeFindings owner marker x) [] ++ attributesFindings owner marker r
 attributesFindings owner marker (node x c r) = attributesFindings owner marker r

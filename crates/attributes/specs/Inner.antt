@@ -4,12 +4,12 @@ use mathlib.Core.Bool.{Bool, false, not}
 use mathlib.Core.List.{List, [], _∷_}
 use lib.Dec.{eqb}
 use lib.ListN.{drop}
-use Rattle.text.specs.Pick.{both, either, pickNat}
+use Rattle.text.specs.Pick.{both, either, pick}
 use Rattle.text.specs.Blank.{blank}
 use Rattle.tape.specs.Nodes.{Node}
 use Rattle.findings.specs.Finding.{Finding, Kind}
 use Rattle.attributes.specs.declared.Where.{Where}
-use Rattle.attributes.specs.Attributes.{pickFindings, attributeFindings}
+use Rattle.attributes.specs.Attributes.{attributeFindings}
 
 -- the text begins with the byte
 abbrev pub leads : ℕ → List ℕ → Bool
@@ -27,7 +27,7 @@ escapes s = both (leads 0x5C s) (leads 0x22 (drop 1 s))
 -- how many bytes of a value stand before the quote that closes it, all where none does. The byte before them is a backslash, or isn't
 unfoldable pub closing : Bool → List ℕ → ℕ
 closing escaped [] = 0
-closing escaped (b ∷ s) = pickNat (both (eqb b 0x22) (not escaped)) 0 (suc (closing (eqb b 0x5C) s))
+closing escaped (b ∷ s) = pick (both (eqb b 0x22) (not escaped)) 0 (suc (closing (eqb b 0x5C) s))
 
 -- the finding of an Attribute, with its first number
 abbrev pub told : Where → Kind → ℕ → Finding
@@ -45,4 +45,4 @@ told w k first =
 
 -- of a node by itself
 abbrev pub ofNode : ℕ → List ℕ → Node → List Finding
-ofNode owner marker x = pickFindings (eqb (x .kind) 6) (attributeFindings owner marker x) []
+ofNode owner marker x = pick (eqb (x .kind) 6) (attributeFindings owner marker x) []

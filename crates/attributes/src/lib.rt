@@ -10,7 +10,6 @@ ghost use mathlib.Core.Path.{_≡_};
 ghost use mathlib.Core.Bool.{false};
 ghost use Prim.Native.Nat.{_<_, _≤_};
 ghost use lib.ListN.{length, drop};
-ghost use Rattle.text.specs.Pick.{pickNat};
 ghost use Rattle.text.specs.Scans.{Ended};
 ghost use Rattle.text.specs.Characters.{chars, find};
 ghost use Rattle.tape.specs.Nodes.{nodeAt};
@@ -21,6 +20,7 @@ ghost use Rattle.findings.specs.Finding.{findingOf, severityOf};
 ghost use Rattle.findings.specs.Written.{Wrote, Room};
 ghost use Rattle.attributes.specs.Attributes.{hasDefault, kind, scan, between, afterBar, attributeKinds, findingsAt, attributesFindings};
 ghost use Rattle.attributes.specs.Inner.{leads, endsKey, escapes, closing, told, ofNode};
+ghost use Rattle.text.specs.Pick.{pick};
 
 // The Attribute node that is looked at, and the node that owns it.
 pub struct Where {
@@ -87,7 +87,7 @@ fn key_end(s: &[u8], from: usize) -> usize
 // How many bytes the search for the closing quote passes at a place: a backslash takes the quote after it along.
 fn passed(s: &[u8], k: usize) -> usize
     requires { ⌜ k < length (now s) ⌝ }
-    ensures { λ r. ⌜ r ≡ pickNat (escapes (drop k (now (s .entry)))) 2 1 ⌝ }
+    ensures { λ r. ⌜ r ≡ pick (escapes (drop k (now (s .entry)))) 2 1 ⌝ }
 {
     if !byte_is(s, k, 0x5C) {
         return 1;

@@ -11,9 +11,9 @@ use native.Mathlib.Omega.{arith}
 use lib.Dec.{eqb, ltb}
 use lib.ListN.{length}
 use borrow.Author.Tests.{eq-eqb, ne-eqb, lt-ltb, le-ltb, ltb-false, eqb-true, not-true, not-false}
-use Rattle.text.specs.Pick.{both, either, pickNat, pickOption}
+use Rattle.text.specs.Pick.{both, either, pick}
 use Rattle.tape.specs.Nodes.{count, kindAt, startAt, lenAt, linkAt, isClose}
-use Rattle.tape.specs.Forest.{Nested, done, one, inner, pickN, nextAt, Accepted}
+use Rattle.tape.specs.Forest.{Nested, done, one, inner, nextAt, Accepted}
 use Rattle.tape.proofs.Nest.{nested-le}
 use Rattle.cursor.specs.Inner.{Spanned}
 use Rattle.cursor.specs.Steps.{holdsNodes, firstChild, pastNode, nextSibling, numberAt}
@@ -46,7 +46,7 @@ module _ (t : List ℕ) (i p : ℕ) (is-past : p ≡ pastNode t i) where
   unfolding nextSibling
   next-off h = rw (← is-past, le-ltb p (count t) h)
 
-  pub next-by : (k : ℕ) (x : Bool) → p < count t → k ≡ kindAt t p → x ≡ isClose k → pickOption (not x) (some p) none ≡ nextSibling t i
+  pub next-by : (k : ℕ) (x : Bool) → p < count t → k ≡ kindAt t p → x ≡ isClose k → pick (not x) (some p) none ≡ nextSibling t i
   unfolding nextSibling
   next-by k x h e f = rw (← is-past, lt-ltb p (count t) h, ← e, ← f)
 
@@ -68,7 +68,7 @@ module _ (t : List ℕ) where
   pub past-next : (a : ℕ) → (kindAt t a ≡ 0 → ⊥) → pastNode t a ≡ nextAt t a
   past-next a h = rw (ne-eqb (kindAt t a) 0 h) (go (eqb (kindAt t a) 1))
     where
-      go : (b : Bool) → pickNat b (linkAt t a + 1) (a + 1) ≡ pickN b (linkAt t a + 1) (a + 1)
+      go : (b : Bool) → pick b (linkAt t a + 1) (a + 1) ≡ pick b (linkAt t a + 1) (a + 1)
       go true = refl
       go false = refl
 
@@ -87,7 +87,7 @@ module _ (t : List ℕ) where
   next-nested (one h z r) l = rw h r
   next-nested (inner h z c r) l = rw h r
 
-  pub next-in : {d a b : ℕ} → Nested t d a b → a < b → (kindAt t a ≡ 0 → ⊥) → Border b → nextSibling t a ≡ pickOption (ltb (nextAt t a) b) (some (nextAt t a)) none
+  pub next-in : {d a b : ℕ} → Nested t d a b → a < b → (kindAt t a ≡ 0 → ⊥) → Border b → nextSibling t a ≡ pick (ltb (nextAt t a) b) (some (nextAt t a)) none
   unfolding nextSibling
   next-in {d} {a} {b} n l k border =
       let p = past-next a k in
@@ -99,7 +99,7 @@ module _ (t : List ℕ) where
       inside (inl e) = omega arith
       inside (inr e) = omega (arith, e .0)
 
-      go : Dec (nextAt t a < b) → Border b → Nested t d (nextAt t a) b → nextAt t a ≤ b → pickOption (both (ltb (nextAt t a) (count t)) (not (isClose (kindAt t (nextAt t a))))) (some (nextAt t a)) none ≡ pickOption (ltb (nextAt t a) b) (some (nextAt t a)) none
+      go : Dec (nextAt t a < b) → Border b → Nested t d (nextAt t a) b → nextAt t a ≤ b → pick (both (ltb (nextAt t a) (count t)) (not (isClose (kindAt t (nextAt t a))))) (some (nextAt t a)) none ≡ pick (ltb (nextAt t a) b) (some (nextAt t a)) none
       go (yes q) w r h = rw (lt-ltb (nextAt t a) b q, lt-ltb (nextAt t a) (count t) (omega (arith, inside w)), no-close r q)
       go (no q) (inl e) r h = rw (le-ltb (nextAt t a) b (omega arith), le-ltb (nextAt t a) (count t) (omega arith))
       go (no q) (inr e) r h =

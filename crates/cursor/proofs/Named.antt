@@ -11,7 +11,7 @@ use lib.Dec.{eqb}
 use lib.ListN.{length, getD, take, drop, length-take, length-drop, List·getD-eq-default}
 use lib.Seq.{getD-take, getD-drop}
 use borrow.Author.Tests.{eq-eqb, ne-eqb, eqb-true}
-use Rattle.text.specs.Pick.{pickNat, end}
+use Rattle.text.specs.Pick.{end, pick}
 use Rattle.text.specs.Blank.{blank}
 use Rattle.text.specs.Characters.{find}
 use Rattle.text.proofs.Blank.{low-not-blank}
@@ -44,7 +44,7 @@ module _ (s : List ℕ) (i b : ℕ) where
   over-one : (p : ℕ → Bool) → b < 0x80 → p b ≡ false → i + find p (drop i s) ≡ pastOne b s i + find p (drop (pastOne b s i) s)
   over-one p l y = go (eqb (getD s i 256) b) refl (decLt i (length s))
     where
-      go : (v : Bool) → eqb (getD s i 256) b ≡ v → Dec (i < length s) → i + find p (drop i s) ≡ pickNat v (i + 1) i + find p (drop (pickNat v (i + 1) i) s)
+      go : (v : Bool) → eqb (getD s i 256) b ≡ v → Dec (i < length s) → i + find p (drop i s) ≡ pick v (i + 1) i + find p (drop (pick v (i + 1) i) s)
       go false e h = refl
       go true e (no h) = let o : length s ≤ i = omega arith in absurd (omega (arith, eqb-true (getD s i 256) b e, List·getD-eq-default s 256 o))
       go true e (yes h) =
@@ -54,7 +54,7 @@ module _ (s : List ℕ) (i b : ℕ) where
 past-least : (b : ℕ) (s : List ℕ) (i : ℕ) → i ≤ pastOne b s i
 past-least b s i = go (eqb (getD s i 256) b)
   where
-    go : (t : Bool) → i ≤ pickNat t (i + 1) i
+    go : (t : Bool) → i ≤ pick t (i + 1) i
     go true = omega arith
     go false = omega arith
 
@@ -69,10 +69,10 @@ module _ (s : List ℕ) (a n : ℕ) (fits : a + n ≤ length s) (some : 0 < leng
   byte-at : (k : ℕ) → k < length part → getD part k 256 ≡ getD s (a + k) 0
   byte-at k h = same-byte part k 0 h ∙ getD-take n (drop a s) k 0 (omega (arith, long)) ∙ getD-drop a s k 0
 
-  one-at : (b k : ℕ) → k < length part → a + pastOne b part k ≡ a + k + pickNat (eqb (getD s (a + k) 0) b) 1 0
+  one-at : (b k : ℕ) → k < length part → a + pastOne b part k ≡ a + k + pick (eqb (getD s (a + k) 0) b) 1 0
   one-at b k h = rw (byte-at k h) (go (eqb (getD s (a + k) 0) b))
     where
-      go : (t : Bool) → a + pickNat t (k + 1) k ≡ a + k + pickNat t 1 0
+      go : (t : Bool) → a + pick t (k + 1) k ≡ a + k + pick t 1 0
       go true = omega arith
       go false = omega arith
 
@@ -88,15 +88,15 @@ module _ (s : List ℕ) (a n : ℕ) (fits : a + n ≤ length s) (some : 0 < leng
   pub slash-inside : a < length s
   slash-inside = omega (arith, slash-less, long)
 
-  slash-at : a + past-slash ≡ a + pickNat (eqb (getD s a 0) 0x5C) 1 0
+  slash-at : a + past-slash ≡ a + pick (eqb (getD s a 0) 0x5C) 1 0
   slash-at =
       let z : a + 0 ≡ a = omega arith in
       rw z at (one-at 0x5C 0 (omega (arith, slash-less)))
 
-  pub plus-inside : a + pickNat (eqb (getD s a 0) 0x5C) 1 0 < length s
+  pub plus-inside : a + pick (eqb (getD s a 0) 0x5C) 1 0 < length s
   plus-inside = omega (arith, slash-less, long, slash-at)
 
-  pub named-at : a + pickNat (eqb (getD s a 0) 0x5C) 1 0 + pickNat (eqb (getD s (a + pickNat (eqb (getD s a 0) 0x5C) 1 0) 0) 0x2B) 1 0 ≡ a + namePart (take n (drop a s)) .start
+  pub named-at : a + pick (eqb (getD s a 0) 0x5C) 1 0 + pick (eqb (getD s (a + pick (eqb (getD s a 0) 0x5C) 1 0) 0) 0x2B) 1 0 ≡ a + namePart (take n (drop a s)) .start
   unfolding namePart
   named-at = sym (rw (slash-at) at (one-at 0x2B past-slash slash-less))
 

@@ -10,10 +10,10 @@ use native.Mathlib.Omega.{arith}
 use lib.Dec.{eqb, ltb}
 use lib.ListN.{length}
 use borrow.Author.Tests.{eq-eqb, ne-eqb, eqb-true}
-use Rattle.text.specs.Pick.{both, either, pickNat, within}
+use Rattle.text.specs.Pick.{both, either, within}
 use Rattle.tape.specs.Nodes.{count, nodeAt, kindAt, startAt, lenAt, linkAt, isOpen, isClose}
 use Rattle.tape.specs.Reading.{badKind}
-use Rattle.tape.specs.Forest.{Forest, end, leaf, node, forest, Nested, done, one, inner, Accepted, pickN, nextAt}
+use Rattle.tape.specs.Forest.{Forest, end, leaf, node, forest, Nested, done, one, inner, Accepted, nextAt}
 use Rattle.tape.proofs.OneNumber.{rooted}
 use Rattle.tape.proofs.Nest.{close-no-open, nested-inside, nested-le, nested-open, nested-leaf, forest-done, forest-leaf, forest-node}
 use Rattle.cursor.specs.Inner.{Spanned, Run}
@@ -136,11 +136,11 @@ root-end s t h = go (rooted s t (h .sized) (h .root) .place)
   where
     go : (linkAt t 0 ≡ count t) ⊎ ((linkAt t 0 + 1 ≡ count t) × (isClose (kindAt t (linkAt t 0)) ≡ true)) → (linkAt t 0 ≤ count t) × ((i : ℕ) → i < count t → isOpen (kindAt t i) ≡ true → i < linkAt t 0)
     go (inl e) = (omega arith, λ i l q. omega arith)
-    go (inr e) = (omega (arith, e .0), λ i l q. pick i l q (ℕ-discrete i (linkAt t 0)))
+    go (inr e) = (omega (arith, e .0), λ i l q. choose i l q (ℕ-discrete i (linkAt t 0)))
       where
-        pick : (i : ℕ) → i < count t → isOpen (kindAt t i) ≡ true → Dec (i ≡ linkAt t 0) → i < linkAt t 0
-        pick i l q (yes x) = absurd (false≢true (sym (close-no-open (kindAt t (linkAt t 0)) (e .1)) ∙ rw (← x) q))
-        pick i l q (no x) = omega (arith, e .0)
+        choose : (i : ℕ) → i < count t → isOpen (kindAt t i) ≡ true → Dec (i ≡ linkAt t 0) → i < linkAt t 0
+        choose i l q (yes x) = absurd (false≢true (sym (close-no-open (kindAt t (linkAt t 0)) (e .1)) ∙ rw (← x) q))
+        choose i l q (no x) = omega (arith, e .0)
 
 -- the root's children, and those of any open node of an accepted tape
 pub run-top : (s t : List ℕ) → Accepted s t → Run s t 1 (linkAt t 0)

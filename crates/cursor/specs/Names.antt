@@ -5,13 +5,13 @@ use mathlib.Core.Bool.{Bool, true, false}
 use mathlib.Core.List.{List, [], _∷_}
 use lib.Dec.{eqb}
 use lib.ListN.{getD, drop}
-use Rattle.text.specs.Pick.{Part, either, pickNat, cut}
+use Rattle.text.specs.Pick.{Part, either, cut, pick}
 use Rattle.text.specs.Blank.{blank}
 use Rattle.text.specs.Characters.{find}
 
 -- one byte dropped, if the list begins with it
 abbrev pub pastOne : ℕ → List ℕ → ℕ → ℕ
-pastOne b s i = pickNat (eqb (getD s i 256) b) (i + 1) i
+pastOne b s i = pick (eqb (getD s i 256) b) (i + 1) i
 
 -- a blank, `*`, `|` or `\`
 abbrev pub endsName : ℕ → Bool

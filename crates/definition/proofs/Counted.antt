@@ -9,7 +9,7 @@ use mathlib.Core.List.{List, [], _∷_, _++_}
 use mathlib.Core.Option.{Option, some, none}
 use lib.Dec.{eqb, ltb}
 use lib.ListN.{length, getD}
-use Rattle.text.specs.Pick.{both, either, pickNat, cut}
+use Rattle.text.specs.Pick.{both, either, cut, pick}
 use Rattle.text.specs.Words.{blankText}
 use Rattle.table.specs.Bytes.{equal, oneOf}
 use Rattle.attachment.specs.Attached.{among}
@@ -26,13 +26,13 @@ use Rattle.table.specs.Names.{defaultOf, noteOnly}
 use Rattle.cursor.specs.Names.{nameOf}
 use Rattle.findings.specs.Finding.{Finding, Kind, codes}
 use Rattle.findings.specs.Written.{only, room}
-use Rattle.attributes.specs.Attributes.{emptyList, noDefault, Mode, between, key, value, opened, quoted, escaping, unquoted, inQuotes, Step, go, tell, stop, pickStep, step, ended, resume, scan, body, pickKinds, hasDefault, holdsEquals, attributeKinds, findingsAt, attributeFindings, pickFindings, attributesFindings}
+use Rattle.attributes.specs.Attributes.{emptyList, noDefault, Mode, between, key, value, opened, quoted, escaping, unquoted, inQuotes, Step, go, tell, stop, step, ended, resume, scan, body, hasDefault, holdsEquals, attributeKinds, findingsAt, attributeFindings, attributesFindings}
 use Rattle.rows.specs.Cells.{Range}
 use Rattle.rows.specs.Row.{cellIn, outOfOrder, byColumns, rowFrom, rowFindings}
 use Rattle.numbers.specs.Verse.{Position, versePart, inSequence}
 use Rattle.numbers.specs.Label.{isGlued, labelOf}
 use Rattle.definition.specs.State.{State, initial, outside, Around, Anchor, past, Told}
-use Rattle.definition.specs.Checks.{error, warning, Check, given, entryOf, afterChapter, afterVerse, pickState, chapterChecks, verseChecks, pickChecks, leafTold, bookCode, idName, trName, idChecks, afterId, placeChecks, contentChecks}
+use Rattle.definition.specs.Checks.{error, warning, Check, given, entryOf, afterChapter, afterVerse, chapterChecks, verseChecks, leafTold, bookCode, idName, trName, idChecks, afterId, placeChecks, contentChecks}
 use Rattle.definition.specs.Milestones.{milestoneChecks, afterMilestone}
 use Rattle.definition.specs.Walk.{Walked, leafAnchor, openTold, inside, before, after, thenWalk, byEntry, walk}
 use Rattle.definition.specs.Document.{textBefore, ofDocument, unclosed, closing, walked, running, findings, versesVisited}
@@ -56,7 +56,7 @@ graded-only : (b : Bool) (f : Finding) → Listed (f .severity) (f .code) → Gr
 graded-only true f h = (h, tt)
 graded-only false f h = tt
 
-graded-pick : (b : Bool) (fs gs : List Finding) → Graded fs → Graded gs → Graded (pickFindings b fs gs)
+graded-pick : (b : Bool) (fs gs : List Finding) → Graded fs → Graded gs → Graded (pick b fs gs)
 graded-pick true fs gs p q = p
 graded-pick false fs gs p q = q
 
@@ -88,7 +88,7 @@ LowStep (go m) = Unit {0}
 LowStep (tell k m) = Listed (k .severity) (k .code)
 LowStep (stop k) = Listed (k .severity) (k .code)
 
-low-pick : (b : Bool) (x y : Step) → LowStep x → LowStep y → LowStep (pickStep b x y)
+low-pick : (b : Bool) (x y : Step) → LowStep x → LowStep y → LowStep (pick b x y)
 low-pick true x y p q = p
 low-pick false x y p q = q
 
@@ -128,7 +128,7 @@ low-kinds : (marker text : List ℕ) → Low (attributeKinds marker text)
 unfolding attributeKinds
 low-kinds marker text = go (eqb (length (body text)) 0) (holdsEquals (body text)) (hasDefault (defaultOf marker))
   where
-    go : (a b c : Bool) → Low (pickKinds a (emptyList ∷ []) (pickKinds b (scan between (chars (body text))) (pickKinds c [] (noDefault ∷ []))))
+    go : (a b c : Bool) → Low (pick a (emptyList ∷ []) (pick b (scan between (chars (body text))) (pick c [] (noDefault ∷ []))))
     go true b c = (omega arith, tt)
     go false true c = low-scan between (chars (body text))
     go false false true = tt
@@ -143,7 +143,7 @@ attributes-graded : (owner : ℕ) (marker : List ℕ) (f : Forest) → Graded (a
 unfolding attributesFindings
 attributes-graded owner marker end = tt
 attributes-graded owner marker (leaf x r) =
-    graded-append (pickFindings (eqb (x .kind) 6) (attributeFindings owner marker x) []) (attributesFindings owner marker r) (graded-pick (eqb (x .kind) 6) _ [] (at-graded (x .start) (x .len) (x .number) owner (attributeKinds marker (x .text)) (low-kinds marker (x .text))) tt) (attributes-graded owner marker r)
+    graded-append (pick (eqb (x .kind) 6) (attributeFindings owner marker x) []) (attributesFindings owner marker r) (graded-pick (eqb (x .kind) 6) _ [] (at-graded (x .start) (x .len) (x .number) owner (attributeKinds marker (x .text)) (low-kinds marker (x .text))) tt) (attributes-graded owner marker r)
 attributes-graded owner marker (node x c r) = attributes-graded owner marker r
 
 -- and of the checks of a node
@@ -160,7 +160,7 @@ leaf-graded : (table : List ℕ) (o : Around) (st : State) (x : Node) → Graded
 unfolding leafTold
 leaf-graded table o st x = given-graded _ (go (eqb (x .kind) 3) (eqb (x .kind) 4))
   where
-    go : (b v : Bool) → Fair (pickChecks b (chapterChecks (entryOf table x) st x) (pickChecks v (verseChecks (entryOf table x) o st x) []))
+    go : (b v : Bool) → Fair (pick b (chapterChecks (entryOf table x) st x) (pick v (verseChecks (entryOf table x) o st x) []))
     go true v = (omega arith, (omega arith, (omega arith, (omega arith, (omega arith, tt)))))
     go false true = (omega arith, (omega arith, (omega arith, (omega arith, (omega arith, (omega arith, tt))))))
     go false false = tt
@@ -171,7 +171,7 @@ open-graded table o a st e x c f =
     let name = cut (e .name) table in
     let st₁ = afterId (equal name idName) st c in
     let checks = idChecks (equal name idName) st (bookCode c) x ++ placeChecks name e o a st₁ x c f ++ contentChecks name x c in
-    let row = pickFindings (equal name trName) (rowFindings c) [] in
+    let row = pick (equal name trName) (rowFindings c) [] in
     let attributes = attributesFindings (x .number) (nameOf (x .text)) c in
     graded-append (given checks ++ row ++ attributes) (given (milestoneChecks e st₁ x))
     (graded-append (given checks ++ row) attributes (graded-append (given checks) row (given-graded checks (omega arith, (omega arith, (omega arith, (omega arith, (omega arith, (omega arith, (omega arith, (omega arith, (omega arith, tt)))))))))) (graded-pick (equal name trName) (rowFindings c) [] (row-graded 1 c) tt)) (attributes-graded (x .number) (nameOf (x .text)) c))
@@ -228,7 +228,7 @@ leaf-verses : (table : List ℕ) (o : Around) (st : State) (x : Node) → leafTo
 unfolding leafTold afterChapter afterVerse
 leaf-verses table o st x = go (eqb (x .kind) 3) (eqb (x .kind) 4)
   where
-    go : (b v : Bool) → pickState b (afterChapter st x) (pickState v (afterVerse (entryOf table x) o st x) st) .verses ≤ st .verses + 1
+    go : (b v : Bool) → pick b (afterChapter st x) (pick v (afterVerse (entryOf table x) o st x) st) .verses ≤ st .verses + 1
     go true v = omega arith
     go false true = le-refl (st .verses + 1)
     go false false = omega arith

@@ -17,10 +17,11 @@ use Rattle.tape.proofs.OneNumber.{accepted, neither}
 use Rattle.tape.proofs.Begins.{top-longer, rest-nested}
 use Rattle.table.specs.Entries.{Entry}
 use Rattle.definition.specs.Checks.{entryOf}
-use Rattle.definition.specs.Milestones.{isMilestone, pickNodes, visitOf, visits, marks, takenFrom}
+use Rattle.definition.specs.Milestones.{isMilestone, visitOf, visits, marks, takenFrom}
 use Rattle.definition.specs.Document.{running, unclosedOf, those, Beginning}
 use Rattle.definition.specs.Outcome.{Lent, of1, of2, of3, ofTape, of9, of10, refusal}
 use Rattle.definition.proofs.Longer.{running-longer, Rising, none-left, rises, rising-le, unclosed-longer}
+use Rattle.text.specs.Pick.{pick}
 
 rising-from : {a b : ℕ} {xs : List Node} (c : ℕ) → c ≤ a → Rising a b xs → Rising c b xs
 rising-from {a} {b} c l (none-left h) = let k : c ≤ b = omega arith in none-left k
@@ -42,7 +43,7 @@ visits-rise table s t {a} {b} (inner {d} h z c r) =
     x : Node
     x = nodeAt s t a
 
-    own : (v : Bool) → Rising a (a + 1) (pickNodes v (x ∷ []) [])
+    own : (v : Bool) → Rising a (a + 1) (pick v (x ∷ []) [])
     own true = rises x (le-refl a) (let k : suc a ≤ a + 1 = omega arith in none-left k)
     own false = let k : a ≤ a + 1 = omega arith in none-left k
 

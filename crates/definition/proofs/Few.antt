@@ -9,7 +9,7 @@ use mathlib.Core.List.{List, [], _∷_, _++_}
 use mathlib.Core.Option.{Option, some, none}
 use lib.Dec.{eqb}
 use lib.ListN.{length, length-append}
-use Rattle.text.specs.Pick.{both, either, cut}
+use Rattle.text.specs.Pick.{both, either, cut, pick}
 use Rattle.text.specs.Words.{blankText}
 use Rattle.tape.specs.Nodes.{Node}
 use Rattle.tape.specs.Forest.{Forest, end, leaf, node}
@@ -19,12 +19,12 @@ use Rattle.table.specs.Entries.{Entry}
 use Rattle.cursor.specs.Names.{nameOf}
 use Rattle.findings.specs.Finding.{Finding}
 use Rattle.findings.specs.Written.{only}
-use Rattle.attributes.specs.Attributes.{pickFindings, attributesFindings}
+use Rattle.attributes.specs.Attributes.{attributesFindings}
 use Rattle.attributes.proofs.Few.{attributes-few}
 use Rattle.rows.specs.Row.{rowFindings}
 use Rattle.rows.proofs.Few.{only-few, row-few}
 use Rattle.definition.specs.State.{State, initial, outside, Around, Anchor, past, Told}
-use Rattle.definition.specs.Checks.{warning, Check, when, given, entryOf, chapterChecks, verseChecks, pickChecks, leafTold, bookCode, idName, trName, idChecks, afterId, placeChecks, contentChecks}
+use Rattle.definition.specs.Checks.{warning, Check, when, given, entryOf, chapterChecks, verseChecks, leafTold, bookCode, idName, trName, idChecks, afterId, placeChecks, contentChecks}
 use Rattle.definition.specs.Milestones.{milestoneChecks}
 use Rattle.definition.specs.Walk.{Walked, leafAnchor, openTold, inside, after, thenWalk, byEntry, walk}
 use Rattle.definition.specs.Document.{textBefore, ofDocument, unclosed, closing, walked, running, findings}
@@ -42,12 +42,12 @@ leaf-few : (table : List ℕ) (o : Around) (st : State) (x : Node) → length (l
 unfolding leafTold
 leaf-few table o st x = go (eqb (x .kind) 3) (eqb (x .kind) 4)
   where
-    go : (b v : Bool) → length (given (pickChecks b (chapterChecks (entryOf table x) st x) (pickChecks v (verseChecks (entryOf table x) o st x) []))) ≤ 6
+    go : (b v : Bool) → length (given (pick b (chapterChecks (entryOf table x) st x) (pick v (verseChecks (entryOf table x) o st x) []))) ≤ 6
     go true v = let h = given-few (chapterChecks (entryOf table x) st x) in omega arith
     go false true = given-few (verseChecks (entryOf table x) o st x)
     go false false = let h = given-few [] in omega arith
 
-pick-few : (b : Bool) (fs : List Finding) (n : ℕ) → length fs ≤ n → length (pickFindings b fs []) ≤ n
+pick-few : (b : Bool) (fs : List Finding) (n : ℕ) → length fs ≤ n → length (pick b fs []) ≤ n
 pick-few true fs n h = h
 pick-few false fs n h = omega arith
 
@@ -57,7 +57,7 @@ open-few table o a st e x c f =
     let name = cut (e .name) table in
     let st₁ = afterId (equal name idName) st c in
     let checks = given (idChecks (equal name idName) st (bookCode c) x ++ placeChecks name e o a st₁ x c f ++ contentChecks name x c) in
-    let row = pickFindings (equal name trName) (rowFindings c) [] in
+    let row = pick (equal name trName) (rowFindings c) [] in
     let attributes = attributesFindings (x .number) (nameOf (x .text)) c in
     let last = given (milestoneChecks e st₁ x) in
     let p = given-few (idChecks (equal name idName) st (bookCode c) x ++ placeChecks name e o a st₁ x c f ++ contentChecks name x c) in

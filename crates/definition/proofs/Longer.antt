@@ -9,14 +9,13 @@ use mathlib.Core.List.{List, [], _∷_, _++_, append-assoc, append-nil}
 use mathlib.Core.Option.{Option, some, none}
 use lib.Dec.{eqb, ltb, leb}
 use borrow.Author.Tests.{lt-ltb, le-ltb, le-leb, eq-eqb, ne-eqb}
-use Rattle.text.specs.Pick.{both, either}
+use Rattle.text.specs.Pick.{both, either, pick}
 use Rattle.tape.specs.Nodes.{Node}
 use Rattle.tape.specs.Forest.{Forest, end, leaf, node, followed}
 use Rattle.findings.specs.Finding.{Finding}
-use Rattle.attributes.specs.Attributes.{pickFindings}
 use Rattle.definition.specs.State.{State, initial, outside}
 use Rattle.definition.specs.Checks.{error}
-use Rattle.definition.specs.Milestones.{isStart, sameBase, pickNodes, visits, Mark, free, untaken, pickMarks, taking, met, marksFrom, marks, freeStarts, takerFrom, takenFrom}
+use Rattle.definition.specs.Milestones.{isStart, sameBase, visits, Mark, free, untaken, taking, met, marksFrom, marks, freeStarts, takerFrom, takenFrom}
 use Rattle.definition.specs.Walk.{Walked, walk}
 use Rattle.definition.specs.Document.{textBefore, walked, running, unclosed, unclosedOf, those, Beginning}
 use Rattle.definition.proofs.Then.{walk-then}
@@ -57,7 +56,7 @@ unfolding taking
 falling-taking x b [] h = tt
 falling-taking x b (m ∷ ms) h = go (both (untaken m) (sameBase (m .milestone) x)) (falling-taking x (m .milestone .number) ms (h .1))
   where
-    go : (v : Bool) → Falling (m .milestone .number) (taking x ms) → Falling b (pickMarks v (record { milestone = m .milestone; taker = some x } ∷ ms) (m ∷ taking x ms))
+    go : (v : Bool) → Falling (m .milestone .number) (taking x ms) → Falling b (pick v (record { milestone = m .milestone; taker = some x } ∷ ms) (m ∷ taking x ms))
     go true k = h
     go false k = (h .0, k)
 
@@ -66,9 +65,9 @@ falling-higher b d [] l h = tt
 falling-higher b d (m ∷ ms) l h = (omega (arith, h .0), h .1)
 
 falling-met : (x : Node) (b : ℕ) (ms : List Mark) → b ≤ x .number → Falling b ms → Falling (suc (x .number)) (met x ms)
-falling-met x b ms l h = (le-refl (suc (x .number)), falling-higher b (x .number) (pickMarks (isStart x) ms (taking x ms)) l (go (isStart x)))
+falling-met x b ms l h = (le-refl (suc (x .number)), falling-higher b (x .number) (pick (isStart x) ms (taking x ms)) l (go (isStart x)))
   where
-    go : (v : Bool) → Falling b (pickMarks v ms (taking x ms))
+    go : (v : Bool) → Falling b (pick v ms (taking x ms))
     go true = h
     go false = falling-taking x b ms h
 
@@ -103,13 +102,13 @@ unfolding taking
 later-taking m x h nothing = nothing
 later-taking m x h (same k {ms} {ls} r) = go (untaken k) refl (sameBase (k .milestone) x) (later-taking m x h r)
   where
-    go : (u : Bool) → untaken k ≡ u → (v : Bool) → Later m ms (taking x ls) → Later m (k ∷ ms) (pickMarks (both u v) (record { milestone = k .milestone; taker = some x } ∷ ls) (k ∷ taking x ls))
+    go : (u : Bool) → untaken k ≡ u → (v : Bool) → Later m ms (taking x ls) → Later m (k ∷ ms) (pick (both u v) (record { milestone = k .milestone; taker = some x } ∷ ls) (k ∷ taking x ls))
     go true e true q = took k x e h r
     go true e false q = same k q
     go false e v q = same k q
 later-taking m x h (took k e {ms} {ls} u l r) = go (isStart (k .milestone)) (later-taking m x h r)
   where
-    go : (b : Bool) → Later m ms (taking x ls) → Later m (k ∷ ms) (pickMarks (both (both b false) (sameBase (k .milestone) x)) (record { milestone = k .milestone; taker = some x } ∷ ls) (record { milestone = k .milestone; taker = some e } ∷ taking x ls))
+    go : (b : Bool) → Later m ms (taking x ls) → Later m (k ∷ ms) (pick (both (both b false) (sameBase (k .milestone) x)) (record { milestone = k .milestone; taker = some x } ∷ ls) (record { milestone = k .milestone; taker = some e } ∷ taking x ls))
     go true q = took k e u l q
     go false q = took k e u l q
 
@@ -133,7 +132,7 @@ taking-split m x ms (k ∷ hs) ls h hi r = go (both (untaken k) (sameBase (k .mi
 split-met : (m : ℕ) (x : Node) (ms ks : List Mark) → m ≤ x .number → Split m ms ks → Split m ms (met x ks)
 split-met m x ms ks h s = go (isStart x)
   where
-    go : (v : Bool) → Split m ms (record { milestone = x; taker = none } ∷ pickMarks v ks (taking x ks))
+    go : (v : Bool) → Split m ms (record { milestone = x; taker = none } ∷ pick v ks (taking x ks))
     go true = record { added = record { milestone = x; taker = none } ∷ s .added; later = s .later; is = ap (record { milestone = x; taker = none } ∷_) (s .is); high = (h, s .high); rel = s .rel }
     go false =
         let q = taking-split m x ms (s .added) (s .later) h (s .high) (s .rel) in
@@ -149,14 +148,14 @@ split-marks m a b ms ks (x ∷ xs) h (rises y l r) s = split-marks m (suc (x .nu
 -- the nodes of a list that pass a test
 unfoldable keep : (Node → Bool) → List Node → List Node
 keep p [] = []
-keep p (x ∷ xs) = pickNodes (p x) (x ∷ keep p xs) (keep p xs)
+keep p (x ∷ xs) = pick (p x) (x ∷ keep p xs) (keep p xs)
 
 keep-append : (p : Node → Bool) (xs ys : List Node) → keep p (xs ++ ys) ≡ keep p xs ++ keep p ys
 unfolding keep
 keep-append p [] ys = refl
 keep-append p (x ∷ xs) ys = go (p x) (keep-append p xs ys)
   where
-    go : (b : Bool) → keep p (xs ++ ys) ≡ keep p xs ++ keep p ys → pickNodes b (x ∷ keep p (xs ++ ys)) (keep p (xs ++ ys)) ≡ pickNodes b (x ∷ keep p xs) (keep p xs) ++ keep p ys
+    go : (b : Bool) → keep p (xs ++ ys) ≡ keep p xs ++ keep p ys → pick b (x ∷ keep p (xs ++ ys)) (keep p (xs ++ ys)) ≡ pick b (x ∷ keep p xs) (keep p xs) ++ keep p ys
     go true h = ap (x ∷_) h
     go false h = h
 
@@ -165,7 +164,7 @@ unfolding freeStarts
 free-append [] ls = refl
 free-append (m ∷ hs) ls = go (untaken m) (free-append hs ls)
   where
-    go : (b : Bool) → freeStarts (hs ++ ls) ≡ freeStarts hs ++ freeStarts ls → pickNodes b (m .milestone ∷ freeStarts (hs ++ ls)) (freeStarts (hs ++ ls)) ≡ pickNodes b (m .milestone ∷ freeStarts hs) (freeStarts hs) ++ freeStarts ls
+    go : (b : Bool) → freeStarts (hs ++ ls) ≡ freeStarts hs ++ freeStarts ls → pick b (m .milestone ∷ freeStarts (hs ++ ls)) (freeStarts (hs ++ ls)) ≡ pick b (m .milestone ∷ freeStarts hs) (freeStarts hs) ++ freeStarts ls
     go true h = ap (m .milestone ∷_) h
     go false h = h
 
@@ -177,7 +176,7 @@ unfolding freeStarts keep
 high-none m [] h = refl
 high-none m (k ∷ hs) h = go (untaken k) (high-none m hs (h .1))
   where
-    go : (b : Bool) → keep (below m) (freeStarts hs) ≡ [] → keep (below m) (pickNodes b (k .milestone ∷ freeStarts hs) (freeStarts hs)) ≡ []
+    go : (b : Bool) → keep (below m) (freeStarts hs) ≡ [] → keep (below m) (pick b (k .milestone ∷ freeStarts hs) (freeStarts hs)) ≡ []
     go true q = rw (le-ltb (k .milestone .number) m (h .0)) q
     go false q = q
 
@@ -186,7 +185,7 @@ unfolding freeStarts keep
 low-all m b [] l h = refl
 low-all m b (k ∷ ls) l h = go (untaken k) (low-all m (k .milestone .number) ls (omega (arith, h .0)) (h .1))
   where
-    go : (v : Bool) → keep (below m) (freeStarts ls) ≡ freeStarts ls → keep (below m) (pickNodes v (k .milestone ∷ freeStarts ls) (freeStarts ls)) ≡ pickNodes v (k .milestone ∷ freeStarts ls) (freeStarts ls)
+    go : (v : Bool) → keep (below m) (freeStarts ls) ≡ freeStarts ls → keep (below m) (pick v (k .milestone ∷ freeStarts ls) (freeStarts ls)) ≡ pick v (k .milestone ∷ freeStarts ls) (freeStarts ls)
     go true q = rw (lt-ltb (k .milestone .number) m (omega (arith, h .0))) (ap (k .milestone ∷_) q)
     go false q = q
 
@@ -216,7 +215,7 @@ unfolding freeStarts keep
 keep-free p q b [] h e = refl
 keep-free p q b (k ∷ ms) h e = go (untaken k) (keep-free p q (k .milestone .number) ms (h .1) (λ x l. e x (omega (arith, h .0))))
   where
-    go : (v : Bool) → keep p (freeStarts ms) ≡ keep q (freeStarts ms) → keep p (pickNodes v (k .milestone ∷ freeStarts ms) (freeStarts ms)) ≡ keep q (pickNodes v (k .milestone ∷ freeStarts ms) (freeStarts ms))
+    go : (v : Bool) → keep p (freeStarts ms) ≡ keep q (freeStarts ms) → keep p (pick v (k .milestone ∷ freeStarts ms) (freeStarts ms)) ≡ keep q (pick v (k .milestone ∷ freeStarts ms) (freeStarts ms))
     go true r = rw (e (k .milestone) (h .0), r)
     go false r = r
 
@@ -250,7 +249,7 @@ spares-no : (m : ℕ) (x e : Node) (ls : List Mark) → m ≤ e .number → spar
 unfolding takenFrom
 spares-no m x e ls l = rw (eq-eqb (x .number) (x .number) refl, le-leb m (e .number) l)
 
-keep-one : (p : Node → Bool) (x : Node) (v : Bool) (xs : List Node) → p x ≡ v → keep p (x ∷ xs) ≡ pickNodes v (x ∷ keep p xs) (keep p xs)
+keep-one : (p : Node → Bool) (x : Node) (v : Bool) (xs : List Node) → p x ≡ v → keep p (x ∷ xs) ≡ pick v (x ∷ keep p xs) (keep p xs)
 unfolding keep
 keep-one p x v xs e = rw e
 
@@ -270,7 +269,7 @@ later-free m b nothing h = keep-none (spared m [])
 later-free m b (same k {ms} {ls} r) h =
     go (untaken k) refl (later-free m (k .milestone .number) r (h .1) ∙ spared-past m k b ms ls (h .1))
   where
-    go : (u : Bool) → untaken k ≡ u → freeStarts ls ≡ keep (spared m (k ∷ ls)) (freeStarts ms) → pickNodes u (k .milestone ∷ freeStarts ls) (freeStarts ls) ≡ keep (spared m (k ∷ ls)) (pickNodes u (k .milestone ∷ freeStarts ms) (freeStarts ms))
+    go : (u : Bool) → untaken k ≡ u → freeStarts ls ≡ keep (spared m (k ∷ ls)) (freeStarts ms) → pick u (k .milestone ∷ freeStarts ls) (freeStarts ls) ≡ keep (spared m (k ∷ ls)) (pick u (k .milestone ∷ freeStarts ms) (freeStarts ms))
     go true e rest =
         ap (k .milestone ∷_) rest
         ∙ sym (keep-one (spared m (k ∷ ls)) (k .milestone) true (freeStarts ms) (spares-free m k ls e (falling-later m (k .milestone .number) r (h .1))))
@@ -278,7 +277,7 @@ later-free m b (same k {ms} {ls} r) h =
 later-free m b (took k e {ms} {ls} u l r) h =
     rw u (go (isStart (k .milestone)) (later-free m (k .milestone .number) r (h .1) ∙ spared-past m (record { milestone = k .milestone; taker = some e }) b ms ls (h .1)))
   where
-    go : (v : Bool) → freeStarts ls ≡ keep (spared m (record { milestone = k .milestone; taker = some e } ∷ ls)) (freeStarts ms) → pickNodes (both v false) (k .milestone ∷ freeStarts ls) (freeStarts ls) ≡ keep (spared m (record { milestone = k .milestone; taker = some e } ∷ ls)) (k .milestone ∷ freeStarts ms)
+    go : (v : Bool) → freeStarts ls ≡ keep (spared m (record { milestone = k .milestone; taker = some e } ∷ ls)) (freeStarts ms) → pick (both v false) (k .milestone ∷ freeStarts ls) (freeStarts ls) ≡ keep (spared m (record { milestone = k .milestone; taker = some e } ∷ ls)) (k .milestone ∷ freeStarts ms)
     go true rest = rest ∙ sym (keep-one (spared m (record { milestone = k .milestone; taker = some e } ∷ ls)) (k .milestone) false (freeStarts ms) (spares-no m (k .milestone) e ls l))
     go false rest = rest ∙ sym (keep-one (spared m (record { milestone = k .milestone; taker = some e } ∷ ls)) (k .milestone) false (freeStarts ms) (spares-no m (k .milestone) e ls l))
 
@@ -306,7 +305,7 @@ unfolding those
 those-append p [] gs = refl
 those-append p (f ∷ fs) gs = go (p f) (those-append p fs gs)
   where
-    go : (b : Bool) → those p (fs ++ gs) ≡ those p fs ++ those p gs → pickFindings b (f ∷ those p (fs ++ gs)) (those p (fs ++ gs)) ≡ pickFindings b (f ∷ those p fs) (those p fs) ++ those p gs
+    go : (b : Bool) → those p (fs ++ gs) ≡ those p fs ++ those p gs → pick b (f ∷ those p (fs ++ gs)) (those p (fs ++ gs)) ≡ pick b (f ∷ those p fs) (those p fs) ++ those p gs
     go true h = ap (f ∷_) h
     go false h = h
 
@@ -315,7 +314,7 @@ unfolding unclosed those keep
 those-unclosed p [] = refl
 those-unclosed p (x ∷ xs) = those-append p (unclosed xs) (error x 16 0 ∷ []) ∙ go (p (error x 16 0)) (those-unclosed p xs)
   where
-    go : (b : Bool) → those p (unclosed xs) ≡ unclosed (keep (ofStart p) xs) → those p (unclosed xs) ++ pickFindings b (error x 16 0 ∷ []) [] ≡ unclosed (pickNodes b (x ∷ keep (ofStart p) xs) (keep (ofStart p) xs))
+    go : (b : Bool) → those p (unclosed xs) ≡ unclosed (keep (ofStart p) xs) → those p (unclosed xs) ++ pick b (error x 16 0 ∷ []) [] ≡ unclosed (pick b (x ∷ keep (ofStart p) xs) (keep (ofStart p) xs))
     go true h = ap (_++ error x 16 0 ∷ []) h
     go false h = append-nil (those p (unclosed xs)) ∙ h
 

@@ -6,13 +6,13 @@ use mathlib.Core.Bool.{Bool, true, false, not}
 use mathlib.Core.List.{List, [], _∷_, _++_, append-assoc, append-nil}
 use mathlib.Core.Option.{Option, some, none}
 use lib.Dec.{eqb}
-use Rattle.text.specs.Pick.{both, either}
+use Rattle.text.specs.Pick.{both, either, pick}
 use Rattle.tape.specs.Nodes.{Node}
 use Rattle.tape.specs.Forest.{Forest, end, leaf, node, followed}
 use Rattle.table.specs.Entries.{Entry}
 use Rattle.definition.specs.State.{State, initial, Around, Anchor, past, Told}
-use Rattle.definition.specs.Checks.{entryOf, afterChapter, afterVerse, pickState, leafTold, afterId}
-use Rattle.definition.specs.Milestones.{isStart, isMilestone, sameBase, pickNodes, without, openAfter, afterMilestone, visitOf, visits, Mark, free, untaken, pickMarks, taking, met, marksFrom, marks, freeStarts}
+use Rattle.definition.specs.Checks.{entryOf, afterChapter, afterVerse, leafTold, afterId}
+use Rattle.definition.specs.Milestones.{isStart, isMilestone, sameBase, without, openAfter, afterMilestone, visitOf, visits, Mark, free, untaken, taking, met, marksFrom, marks, freeStarts}
 use Rattle.definition.specs.Walk.{Walked, leafAnchor, openTold, inside, after, thenWalk, byEntry, walk}
 use Rattle.definition.specs.Document.{walked}
 
@@ -24,7 +24,7 @@ visits-then table (node x c r) g = go (entryOf table x) (visits-then table r g)
   where
     go : (q : Option Entry) → visits table (followed r g) ≡ visits table r ++ visits table g → visitOf q x (visits table c) (visits table (followed r g)) ≡ visitOf q x (visits table c) (visits table r) ++ visits table g
     go none h = h
-    go (some e) h = rw h (sym (append-assoc (pickNodes (isMilestone e x) (x ∷ []) [] ++ visits table c) (visits table r) (visits table g)))
+    go (some e) h = rw h (sym (append-assoc (pick (isMilestone e x) (x ∷ []) [] ++ visits table c) (visits table r) (visits table g)))
 
 pub marks-then : (ms : List Mark) (xs ys : List Node) → marksFrom ms (xs ++ ys) ≡ marksFrom (marksFrom ms xs) ys
 unfolding marksFrom
@@ -47,7 +47,7 @@ met-open : (x : Node) (ms : List Mark) → freeStarts (met x ms) ≡ openAfter (
 unfolding freeStarts
 met-open x ms = go (isStart x) refl
   where
-    go : (b : Bool) → isStart x ≡ b → pickNodes (both b true) (x ∷ freeStarts (pickMarks b ms (taking x ms))) (freeStarts (pickMarks b ms (taking x ms))) ≡ pickNodes b (x ∷ freeStarts ms) (without x (freeStarts ms))
+    go : (b : Bool) → isStart x ≡ b → pick (both b true) (x ∷ freeStarts (pick b ms (taking x ms))) (freeStarts (pick b ms (taking x ms))) ≡ pick b (x ∷ freeStarts ms) (without x (freeStarts ms))
     go true p = refl
     go false p = taking-without x ms
 
@@ -55,12 +55,12 @@ leaf-open : (table : List ℕ) (o : Around) (st : State) (x : Node) → leafTold
 unfolding leafTold afterChapter afterVerse
 leaf-open table o st x = go (eqb (x .kind) 3) (eqb (x .kind) 4)
   where
-    go : (b v : Bool) → pickState b (afterChapter st x) (pickState v (afterVerse (entryOf table x) o st x) st) .openStarts ≡ st .openStarts
+    go : (b v : Bool) → pick b (afterChapter st x) (pick v (afterVerse (entryOf table x) o st x) st) .openStarts ≡ st .openStarts
     go true v = refl
     go false true = refl
     go false false = refl
 
-open-open : (table : List ℕ) (o : Around) (a : Option Anchor) (st : State) (e : Entry) (x : Node) (c f : Forest) → openTold table o a st e x c f .state .openStarts ≡ pickNodes (isMilestone e x) (openAfter (isStart x) x (st .openStarts)) (st .openStarts)
+open-open : (table : List ℕ) (o : Around) (a : Option Anchor) (st : State) (e : Entry) (x : Node) (c f : Forest) → openTold table o a st e x c f .state .openStarts ≡ pick (isMilestone e x) (openAfter (isStart x) x (st .openStarts)) (st .openStarts)
 unfolding openTold afterMilestone afterId
 open-open table o a st e x c f = refl
 
@@ -80,12 +80,12 @@ walk-open table o a (node x c r) st ms h =
     go (some e) below later =
         let t = openTold table o a st e x c (node x c r) in
         let w = walk table (inside o e) none c (t .state) in
-        let own = pickNodes (isMilestone e x) (x ∷ []) [] in
+        let own = pick (isMilestone e x) (x ∷ []) [] in
         let mine : t .state .openStarts ≡ freeStarts (marksFrom ms own) = open-open table o a st e x c (node x c r) ∙ rw h (one (isMilestone e x)) in
         later (w .state) (marksFrom (marksFrom ms own) (visits table c)) (below (inside o e) (t .state) (marksFrom ms own) mine)
         ∙ ap freeStarts (sym (marks-then ms (own ++ visits table c) (visits table r) ∙ ap (λ (k : List Mark). marksFrom k (visits table r)) (marks-then ms own (visits table c))))
       where
-        one : (b : Bool) → pickNodes b (openAfter (isStart x) x (freeStarts ms)) (freeStarts ms) ≡ freeStarts (marksFrom ms (pickNodes b (x ∷ []) []))
+        one : (b : Bool) → pick b (openAfter (isStart x) x (freeStarts ms)) (freeStarts ms) ≡ freeStarts (marksFrom ms (pick b (x ∷ []) []))
         one true = sym (met-open x ms)
         one false = refl
 

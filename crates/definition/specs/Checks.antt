@@ -5,7 +5,7 @@ use mathlib.Core.List.{List, [], _∷_, _++_}
 use mathlib.Core.Option.{Option, some, none}
 use lib.Dec.{eqb, ltb}
 use lib.ListN.{length, getD, take, drop}
-use Rattle.text.specs.Pick.{both, either, pickNat, within, cut}
+use Rattle.text.specs.Pick.{both, either, within, cut, pick}
 use Rattle.text.specs.Words.{firstWord, blankText}
 use Rattle.tape.specs.Nodes.{Node}
 use Rattle.tape.specs.Forest.{Forest, end, leaf, node, followed}
@@ -17,8 +17,8 @@ use Rattle.cursor.specs.Names.{nameOf}
 use Rattle.cursor.specs.Info.{hasMarker, onlyFor}
 use Rattle.findings.specs.Finding.{Finding}
 use Rattle.findings.specs.Written.{only}
-use Rattle.numbers.specs.Label.{isGlued, pickList, labelOf, numbered}
-use Rattle.numbers.specs.Verse.{Position, versePart, verseEnd, next, pickBool, inSequence}
+use Rattle.numbers.specs.Label.{isGlued, labelOf, numbered}
+use Rattle.numbers.specs.Verse.{Position, versePart, verseEnd, next, inSequence}
 use Rattle.attachment.specs.Attached.{among, isAttached}
 use Rattle.definition.specs.State.{State, firstVerse, Around, Anchor, Told}
 
@@ -138,26 +138,18 @@ afterVerse e o st x =
       verses = st .verses + 1;
     }
 
-abbrev pub pickChecks : Bool → List Check → List Check → List Check
-pickChecks true a b = a
-pickChecks false a b = b
-
-abbrev pub pickState : Bool → State → State → State
-pickState true a b = a
-pickState false a b = b
-
 -- a Chapter, a Verse, or any other leaf, of which nothing is said
 unfoldable pub leafTold : List ℕ → Around → State → Node → Told
 leafTold table o st x =
     record {
-      findings = given (pickChecks (eqb (x .kind) 3) (chapterChecks (entryOf table x) st x) (pickChecks (eqb (x .kind) 4) (verseChecks (entryOf table x) o st x) []));
-      state = pickState (eqb (x .kind) 3) (afterChapter st x) (pickState (eqb (x .kind) 4) (afterVerse (entryOf table x) o st x) st);
+      findings = given (pick (eqb (x .kind) 3) (chapterChecks (entryOf table x) st x) (pick (eqb (x .kind) 4) (verseChecks (entryOf table x) o st x) []));
+      state = pick (eqb (x .kind) 3) (afterChapter st x) (pick (eqb (x .kind) 4) (afterVerse (entryOf table x) o st x) st);
     }
 
 -- "The book code = first whitespace token of the `\id` line's text", its first Text; empty where there is none
 unfoldable pub bookCode : Forest → List ℕ
 bookCode end = []
-bookCode (leaf x r) = pickList (eqb (x .kind) 5) (cut (firstWord (x .text)) (x .text)) (bookCode r)
+bookCode (leaf x r) = pick (eqb (x .kind) 5) (cut (firstWord (x .text)) (x .text)) (bookCode r)
 bookCode (node x c r) = bookCode r
 
 abbrev pub isBook : List ℕ → Bool
@@ -165,18 +157,18 @@ isBook code = known (bookOf code)
 
 unfoldable pub upper : List ℕ → List ℕ
 upper [] = []
-upper (b ∷ s) = pickNat (within 0x61 0x7A b) (b - 32) b ∷ upper s
+upper (b ∷ s) = pick (within 0x61 0x7A b) (b - 32) b ∷ upper s
 
 -- `id`: DuplicateId, InvalidBookCode ("0 should be uppercase, 1 not valid")
 abbrev pub idChecks : Bool → State → List ℕ → Node → List Check
 idChecks named st code x =
     when (both named (st .hasId)) (error x 6 0)
-    ∷ when (both named (both (not (isEmpty code)) (not (isBook code)))) (warning x 5 (pickNat (isBook (upper code)) 0 1))
+    ∷ when (both named (both (not (isEmpty code)) (not (isBook code)))) (warning x 5 (pick (isBook (upper code)) 0 1))
     ∷ []
 
 -- without a book code the front-matter flag stays as it was
 abbrev pub frontBy : List ℕ → Bool → Bool
-frontBy code before = pickBool (isEmpty code) before (oneOf frontMatter code)
+frontBy code before = pick (isEmpty code) before (oneOf frontMatter code)
 
 unfoldable pub afterId : Bool → State → Forest → State
 afterId named st c =
@@ -184,7 +176,7 @@ afterId named st c =
       hasId = either named (st .hasId);
       hasChapter = st .hasChapter;
       hasVerse = st .hasVerse;
-      frontMatter = pickBool named (frontBy (bookCode c) (st .frontMatter)) (st .frontMatter);
+      frontMatter = pick named (frontBy (bookCode c) (st .frontMatter)) (st .frontMatter);
       outsideWarned = st .outsideWarned;
       chapter = st .chapter;
       verse = st .verse;
@@ -196,7 +188,7 @@ afterId named st c =
 -- content of a `\b`: a Text that isn't blank or a marker, before any Verse or Chapter
 unfoldable pub inlineContent : Forest → Bool
 inlineContent end = false
-inlineContent (leaf x r) = pickBool (numbered (x .kind)) false (pickBool (both (eqb (x .kind) 5) (not (blankText (x .text)))) true (inlineContent r))
+inlineContent (leaf x r) = pick (numbered (x .kind)) false (pick (both (eqb (x .kind) 5) (not (blankText (x .text)))) true (inlineContent r))
 inlineContent (node x c r) = true
 
 -- a Text that isn't blank

@@ -4,13 +4,12 @@ use mathlib.Core.Bool.{Bool, true, false, not}
 use mathlib.Core.List.{List, [], _∷_, _++_}
 use mathlib.Core.Option.{Option, some, none}
 use lib.Dec.{eqb}
-use Rattle.text.specs.Pick.{both, either}
+use Rattle.text.specs.Pick.{both, either, pick}
 use Rattle.text.specs.Words.{blankText}
 use Rattle.tape.specs.Nodes.{Node}
 use Rattle.tape.specs.Forest.{Forest, end, leaf, node}
 use Rattle.findings.specs.Finding.{Finding}
 use Rattle.findings.specs.Written.{only}
-use Rattle.attributes.specs.Attributes.{pickFindings}
 use mathlib.Core.Path.{_≡_}
 use Rattle.definition.specs.State.{State, initial, outside}
 use Rattle.definition.specs.Checks.{error, warning, when, given}
@@ -61,7 +60,7 @@ unclosedOf table f = unclosed (walked table f .state .openStarts)
 -- the findings of a list that pass a test, in order
 unfoldable pub those : (Finding → Bool) → List Finding → List Finding
 those p [] = []
-those p (f ∷ fs) = pickFindings (p f) (f ∷ those p fs) (those p fs)
+those p (f ∷ fs) = pick (p f) (f ∷ those p fs) (those p fs)
 
 -- one list of findings is a beginning of another
 pub record Beginning (fs gs : List Finding) : Type 0 where

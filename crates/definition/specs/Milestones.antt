@@ -5,7 +5,7 @@ use mathlib.Core.List.{List, [], _∷_, _++_}
 use mathlib.Core.Option.{Option, some, none}
 use lib.Dec.{eqb, leb}
 use lib.ListN.{length, getD, take, drop}
-use Rattle.text.specs.Pick.{both, either}
+use Rattle.text.specs.Pick.{both, either, pick}
 use Rattle.tape.specs.Nodes.{Node}
 use Rattle.tape.specs.Forest.{Forest, end, leaf, node}
 use Rattle.table.specs.Bytes.{equal}
@@ -55,30 +55,26 @@ unfoldable pub waits : Node → List Node → Bool
 waits x [] = false
 waits x (y ∷ ys) = either (sameBase y x) (waits x ys)
 
-abbrev pub pickNodes : Bool → List Node → List Node → List Node
-pickNodes true a b = a
-pickNodes false a b = b
-
 -- the open starts without the latest of the base of x
 unfoldable pub without : Node → List Node → List Node
 without x [] = []
-without x (y ∷ ys) = pickNodes (sameBase y x) ys (y ∷ without x ys)
+without x (y ∷ ys) = pick (sameBase y x) ys (y ∷ without x ys)
 
 abbrev pub openAfter : Bool → Node → List Node → List Node
-openAfter begins x xs = pickNodes begins (x ∷ xs) (without x xs)
+openAfter begins x xs = pick begins (x ∷ xs) (without x xs)
 
 -- MilestoneMismatch: "1 end"
 abbrev pub milestoneChecks : Entry → State → Node → List Check
 milestoneChecks e st x = when (both (isMilestone e x) (both (not (isStart x)) (not (waits x (st .openStarts))))) (error x 16 1) ∷ []
 
 unfoldable pub afterMilestone : Entry → State → Node → State
-afterMilestone e st x = withOpen st (pickNodes (isMilestone e x) (openAfter (isStart x) x (st .openStarts)) (st .openStarts))
+afterMilestone e st x = withOpen st (pick (isMilestone e x) (openAfter (isStart x) x (st .openStarts)) (st .openStarts))
 
 -- The order of visits: the milestones of a run that are visited, in order.
 
 abbrev pub visitOf : Option Entry → Node → List Node → List Node → List Node
 visitOf none x below after = after
-visitOf (some e) x below after = pickNodes (isMilestone e x) (x ∷ []) [] ++ below ++ after
+visitOf (some e) x below after = pick (isMilestone e x) (x ∷ []) [] ++ below ++ after
 
 unfoldable pub visits : List ℕ → Forest → List Node
 visits table end = []
@@ -97,19 +93,15 @@ free (some e) = false
 abbrev pub untaken : Mark → Bool
 untaken m = both (isStart (m .milestone)) (free (m .taker))
 
-abbrev pub pickMarks : Bool → List Mark → List Mark → List Mark
-pickMarks true a b = a
-pickMarks false a b = b
-
 -- among the milestones before it, the latest first, an end takes the nearest start of its base that is free
 unfoldable pub taking : Node → List Mark → List Mark
 taking x [] = []
 taking x (m ∷ ms) =
-    pickMarks (both (untaken m) (sameBase (m .milestone) x)) (record { milestone = m .milestone; taker = some x } ∷ ms) (m ∷ taking x ms)
+    pick (both (untaken m) (sameBase (m .milestone) x)) (record { milestone = m .milestone; taker = some x } ∷ ms) (m ∷ taking x ms)
 
 -- one visit more
 abbrev pub met : Node → List Mark → List Mark
-met x ms = record { milestone = x; taker = none } ∷ pickMarks (isStart x) ms (taking x ms)
+met x ms = record { milestone = x; taker = none } ∷ pick (isStart x) ms (taking x ms)
 
 -- the marks after all visits, the latest first
 unfoldable pub marksFrom : List Mark → List Node → List Mark
@@ -122,7 +114,7 @@ marks xs = marksFrom [] xs
 -- the starts that no end took, the latest first
 unfoldable pub freeStarts : List Mark → List Node
 freeStarts [] = []
-freeStarts (m ∷ ms) = pickNodes (untaken m) (m .milestone ∷ freeStarts ms) (freeStarts ms)
+freeStarts (m ∷ ms) = pick (untaken m) (m .milestone ∷ freeStarts ms) (freeStarts ms)
 
 -- the milestone with the number is taken by an end whose number is at least `from`
 abbrev pub takerFrom : ℕ → Option Node → Bool

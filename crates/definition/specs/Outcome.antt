@@ -5,7 +5,7 @@ use mathlib.Core.List.{List, [], _∷_, _++_}
 use mathlib.Core.Option.{Option, some, none}
 use lib.Dec.{eqb, ltb}
 use lib.ListN.{length, drop}
-use Rattle.text.specs.Pick.{either, pickNat}
+use Rattle.text.specs.Pick.{either, pick}
 use Rattle.text.specs.Utf8.{firstIllFormed}
 use Rattle.tape.specs.Nodes.{count}
 use Rattle.tape.specs.Forest.{top}
@@ -84,7 +84,7 @@ abbrev pub listOf : Lent → List Finding
 listOf l = findings (l .table) (top (l .source) (l .tape))
 
 abbrev pub smaller : ℕ → ℕ → ℕ
-smaller a b = pickNat (ltb a b) a b
+smaller a b = pick (ltb a b) a b
 
 -- "Written is the smaller of total and the list's length divided by 8, rounded down"; "the answer says Cut exactly if written is below total"
 abbrev pub writtenOf : Lent → ℕ

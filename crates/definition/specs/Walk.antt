@@ -4,14 +4,14 @@ use mathlib.Core.Bool.{Bool, true, false}
 use mathlib.Core.List.{List, [], _∷_, _++_}
 use mathlib.Core.Option.{Option, some, none}
 use lib.Dec.{eqb}
-use Rattle.text.specs.Pick.{either, cut}
+use Rattle.text.specs.Pick.{either, cut, pick}
 use Rattle.tape.specs.Nodes.{Node}
 use Rattle.tape.specs.Forest.{Forest, end, leaf, node}
 use Rattle.table.specs.Bytes.{equal}
 use Rattle.table.specs.Entries.{Entry}
 use Rattle.cursor.specs.Names.{nameOf}
 use Rattle.findings.specs.Finding.{Finding}
-use Rattle.attributes.specs.Attributes.{pickFindings, attributesFindings}
+use Rattle.attributes.specs.Attributes.{attributesFindings}
 use Rattle.rows.specs.Row.{rowFindings}
 use Rattle.numbers.specs.Label.{numbered}
 use Rattle.definition.specs.State.{State, Around, Anchor, past, Told}
@@ -24,13 +24,9 @@ pub record Walked : Type 0 where
   pub anchor : Option Anchor
   pub state : State
 
-abbrev pub pickAnchor : Bool → Option Anchor → Option Anchor → Option Anchor
-pickAnchor true a b = a
-pickAnchor false a b = b
-
 -- a Chapter or Verse is the new anchor; other leaves are passed
 abbrev pub leafAnchor : Option Anchor → Node → Option Anchor
-leafAnchor a x = pickAnchor (numbered (x .kind)) (some (record { kind = x .kind; passed = end })) (past a (leaf x end))
+leafAnchor a x = pick (numbered (x .kind)) (some (record { kind = x .kind; passed = end })) (past a (leaf x end))
 
 -- by its table name, and the record after `id`; the row of a `tr` and the attributes stand before the milestone
 abbrev pub openBy : List ℕ → State → Around → Option Anchor → State → Entry → Node → Forest → Forest → Told
@@ -38,7 +34,7 @@ openBy name st₁ o a st e x c f =
     record {
       findings =
           given (idChecks (equal name idName) st (bookCode c) x ++ placeChecks name e o a st₁ x c f ++ contentChecks name x c)
-          ++ pickFindings (equal name trName) (rowFindings c) []
+          ++ pick (equal name trName) (rowFindings c) []
           ++ attributesFindings (x .number) (nameOf (x .text)) c
           ++ given (milestoneChecks e st₁ x);
       state = afterMilestone e st₁ x;

@@ -13,7 +13,8 @@ use lib.Seq.{sets, sets-eq, take-at, drop-append-add, drop-drop, length-take-le}
 use borrow.Author.Tests.{lt-ltb, le-ltb}
 use Rattle.findings.specs.Finding.{Finding, wordsOf}
 use Rattle.findings.specs.declared.Counts.{Counts}
-use Rattle.findings.specs.Written.{total, bySeverity, counted, room, pickWords, put, overlay, encode, only, Wrote, limit, Room}
+use Rattle.findings.specs.Written.{total, bySeverity, counted, room, put, overlay, encode, only, Wrote, limit, Room}
+use Rattle.text.specs.Pick.{pick}
 
 pub put-in : (l : List ℕ) (k : ℕ) (f : Finding) → k < room l → put l k f ≡ sets l (8 * k) (wordsOf f)
 unfolding put
@@ -35,7 +36,7 @@ pub length-put : (l : List ℕ) (k : ℕ) (f : Finding) → length (put l k f) �
 unfolding put
 length-put l k f = test (ltb k (room l))
   where
-    test : (b : Bool) → length (pickWords b (sets l (8 * k) (wordsOf f)) l) ≡ length l
+    test : (b : Bool) → length (pick b (sets l (8 * k) (wordsOf f)) l) ≡ length l
     test true = length-sets (wordsOf f) l (8 * k)
     test false = refl
 

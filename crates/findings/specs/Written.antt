@@ -8,6 +8,7 @@ use lib.ListN.{length}
 use lib.Seq.{sets}
 use Rattle.findings.specs.Finding.{Finding, wordsOf}
 use Rattle.findings.specs.declared.Counts.{Counts}
+use Rattle.text.specs.Pick.{pick}
 
 abbrev pub total : Counts → ℕ
 total c = c .errors + c .warnings + c .infos
@@ -26,13 +27,9 @@ counted c (f ∷ fs) = counted (bySeverity (f .severity) c) fs
 abbrev pub room : List ℕ → ℕ
 room l = length l / 8
 
-abbrev pub pickWords : Bool → List ℕ → List ℕ → List ℕ
-pickWords true a b = a
-pickWords false a b = b
-
 -- the finding as number k, from 0, if it has room
 unfoldable pub put : List ℕ → ℕ → Finding → List ℕ
-put l k f = pickWords (ltb k (room l)) (sets l (8 * k) (wordsOf f)) l
+put l k f = pick (ltb k (room l)) (sets l (8 * k) (wordsOf f)) l
 
 -- the findings from number k on, those that have room
 unfoldable pub overlay : List ℕ → ℕ → List Finding → List ℕ

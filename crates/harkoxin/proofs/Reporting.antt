@@ -10,7 +10,6 @@ use native.Mathlib.Omega.{arith}
 use lib.Dec.{ltb}
 use lib.ListN.{length}
 use borrow.Author.Tests.{ltb-true}
-use Rattle.text.specs.Pick.{pickNat}
 use Rattle.tape.specs.Reading.{refuse}
 use Rattle.tape.specs.Forest.{Accepted}
 use Rattle.table.specs.Entries.{Indexed}
@@ -27,6 +26,7 @@ use Rattle.messages.proofs.Nine.{nine-none, is-accepted, is-short}
 use Rattle.telling.specs.Telling.{textsOf, joined, endsFrom}
 use Rattle.harkoxin.specs.Words.{answerWords, textsWords}
 use Rattle.harkoxin.specs.Report.{heldOf, heldIn, toldHeld, turnedWords, reportTold, reportText, reportEnds}
+use Rattle.text.specs.Pick.{pick}
 
 pub nine-words : (a : Answer) → length (answerWords a) ≡ 9
 nine-words (refused r) = refl
@@ -68,7 +68,7 @@ module _ (table s t seen : List ℕ) (opens : List OpenStart) (l : List ℕ) whe
       unfolding checkedOf
       held-asks words entries i e = (i, is-accepted table s t nine, is-short table s t nine, rw (a-is, nothing, e) (go (length (listOf it)) (ltb (length (listOf it)) (length l / 8)) refl))
         where
-          go : (n : ℕ) (b : Bool) → ltb n (length l / 8) ≡ b → 8 * pickNat b n (length l / 8) ≤ length l
+          go : (n : ℕ) (b : Bool) → ltb n (length l / 8) ≡ b → 8 * pick b n (length l / 8) ≤ length l
           go n true h = omega (arith, ltb-true n (length l / 8) h)
           go n false h = omega arith
 

@@ -6,6 +6,7 @@ use mathlib.Core.List.{List, [], _∷_, _++_}
 use lib.Dec.{eqb}
 use Rattle.text.specs.Literal.{ascii}
 use Rattle.buffer.specs.Decimal.{decimal}
+use Rattle.text.specs.Pick.{pick}
 
 -- a key, `=`, a value, byte 10
 abbrev pub line : String → List ℕ → List ℕ
@@ -84,13 +85,9 @@ pub record Place : Type 0 where
   pub line : ℕ
   pub column : ℕ
 
-abbrev pub pickPlace : Bool → Place → Place → Place
-pickPlace true a b = a
-pickPlace false a b = b
-
 -- "a line ends after byte 10"
 abbrev pub afterByte : ℕ → Place → Place
-afterByte b p = pickPlace (eqb b 10) (record { line = p .line + 1; column = 1 }) (record { line = p .line; column = p .column + 1 })
+afterByte b p = pick (eqb b 10) (record { line = p .line + 1; column = 1 }) (record { line = p .line; column = p .column + 1 })
 
 -- the place behind the first n bytes of what stands at a place
 unfoldable pub placeFrom : Place → List ℕ → ℕ → Place

@@ -9,7 +9,7 @@ use native.Mathlib.Omega.{arith}
 use lib.Dec.{eqb}
 use lib.ListN.{length, getD}
 use borrow.Author.Tests.{ne-eqb}
-use Rattle.text.specs.Pick.{pickNat, within}
+use Rattle.text.specs.Pick.{within, pick}
 use Rattle.table.specs.Bytes.{oneOf}
 use Rattle.table.specs.Books.{codes, bookOf}
 use Rattle.table.specs.Inner as table
@@ -41,7 +41,7 @@ pub no-upper-book : (s : List ℕ) → (length s ≡ 3 → ⊥) → false ≡ is
 no-upper-book s h = no-book (upper s) (λ e. h (sym (length-upper s) ∙ e))
 
 abbrev pub upperByte : ℕ → ℕ
-upperByte b = pickNat (within 0x61 0x7A b) (b - 32) b
+upperByte b = pick (within 0x61 0x7A b) (b - 32) b
 
 pub upper-three : (s : List ℕ) (a b c : ℕ) → length s ≡ 3 → a ≡ upperByte (getD s 0 0) → b ≡ upperByte (getD s 1 0) → c ≡ upperByte (getD s 2 0) → isBook (a ∷ b ∷ c ∷ []) ≡ isBook (upper s)
 unfolding upper

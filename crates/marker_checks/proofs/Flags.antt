@@ -8,7 +8,7 @@ use mathlib.Core.Option.{Option, some, none}
 use borrow.Author.Tests.{eq-eqb, ne-eqb}
 use lib.Dec.{eqb}
 use lib.ListN.{length}
-use Rattle.text.specs.Pick.{both, either, pickNat}
+use Rattle.text.specs.Pick.{both, either, pick}
 use Rattle.text.proofs.Rows.{both-false}
 use Rattle.tape.specs.Nodes.{Node}
 use Rattle.tape.specs.Forest.{Forest}
@@ -50,10 +50,10 @@ module _ (a x : Bool) (is : a ≡ x) where
   pub either-fails : (r y : Bool) → a ≡ false → r ≡ y → r ≡ either x y
   either-fails r y h e = rw (sym is ∙ h) e
 
-  pub nat-holds : (n m : ℕ) → a ≡ true → n ≡ pickNat x n m
+  pub nat-holds : (n m : ℕ) → a ≡ true → n ≡ pick x n m
   nat-holds n m h = rw (sym is ∙ h)
 
-  pub nat-fails : (n m : ℕ) → a ≡ false → m ≡ pickNat x n m
+  pub nat-fails : (n m : ℕ) → a ≡ false → m ≡ pick x n m
   nat-fails n m h = rw (sym is ∙ h)
 
 -- a book code that may be empty

@@ -8,7 +8,7 @@ use mathlib.Core.List.{List, [], _++_}
 use mathlib.Core.Option.{Option}
 use lib.Dec.{eqb}
 use borrow.Author.Tests.{eq-eqb, ne-eqb, eqb-true}
-use Rattle.text.specs.Pick.{both, either, cut}
+use Rattle.text.specs.Pick.{both, either, cut, pick}
 use Rattle.text.proofs.Rows.{both-left, both-right, both-false}
 use Rattle.tape.specs.Nodes.{Node, nodeAt, kindAt, isOpen}
 use Rattle.tape.specs.Forest.{Forest, end, leaf, node, forest}
@@ -21,7 +21,6 @@ use Rattle.cursor.proofs.Runs.{forest-at-leaf, forest-at-open}
 use Rattle.findings.specs.Finding.{Finding}
 use Rattle.findings.proofs.Overlay.{wrote-none}
 use Rattle.attributes.specs.Attributes.{attributesFindings}
-use Rattle.numbers.specs.Verse.{pickBool}
 use Rattle.definition.specs.State.{State, Anchor}
 use Rattle.definition.specs.State as state
 use Rattle.table.specs.Names.{noteOnly}
@@ -68,7 +67,7 @@ data Placed (e : Entry) (o : state.Around) (chapter : Bool) : Type 0 where
 is-placed : (e : Entry) (o : state.Around) (chapter : Bool) → placed e o chapter ≡ true → Placed e o chapter
 is-placed e o chapter = go (eqb (e .category) 3) refl
   where
-    go : (v : Bool) → eqb (e .category) 3 ≡ v → pickBool v chapter (both (eqb (e .category) 4) (o .note)) ≡ true → Placed e o chapter
+    go : (v : Bool) → eqb (e .category) 3 ≡ v → pick v chapter (both (eqb (e .category) 4) (o .note)) ≡ true → Placed e o chapter
     go true k h = paragraph (eqb-true (e .category) 3 k) h
     go false k h = character (eqb-true (e .category) 4 (both-left (eqb (e .category) 4) (o .note) h)) (both-right (eqb (e .category) 4) (o .note) h)
 

@@ -6,7 +6,7 @@ use mathlib.Core.Bool.{Bool}
 use mathlib.Core.List.{List, [], _++_}
 use native.Mathlib.Omega.{arith}
 use lib.ListN.{length, length-append}
-use Rattle.text.specs.Pick.{cut}
+use Rattle.text.specs.Pick.{cut, pick}
 use Rattle.tape.specs.Nodes.{nodeAt, span, linkAt}
 use Rattle.tape.specs.Forest.{forest}
 use Rattle.table.specs.Bytes.{equal}
@@ -16,7 +16,7 @@ use Rattle.findings.specs.Finding.{Finding}
 use Rattle.findings.specs.declared.Counts.{Counts}
 use Rattle.findings.specs.Written.{total, Wrote, Room}
 use Rattle.findings.proofs.Overlay.{counted-total, wrote-append, room-first}
-use Rattle.attributes.specs.Attributes.{pickFindings, attributesFindings}
+use Rattle.attributes.specs.Attributes.{attributesFindings}
 use Rattle.rows.specs.Row.{rowFindings}
 use Rattle.definition.specs.State.{Around}
 use Rattle.definition.specs.Checks.{Check, given, idName, trName, bookCode, idChecks, afterId, placeChecks, contentChecks}
@@ -84,7 +84,7 @@ abbrev pub contentPart : List ℕ → List ℕ → ℕ → List ℕ → ℕ → 
 contentPart s t i name link = contentChecks name (nodeAt s t i) (forest s t (i + 1) link)
 
 abbrev pub rowPart : List ℕ → List ℕ → ℕ → List ℕ → ℕ → List Finding
-rowPart s t i name link = pickFindings (equal name trName) (rowFindings (forest s t (i + 1) link)) []
+rowPart s t i name link = pick (equal name trName) (rowFindings (forest s t (i + 1) link)) []
 
 abbrev pub attributePart : List ℕ → List ℕ → ℕ → ℕ → List Finding
 attributePart s t i link = attributesFindings i (nameOf (cut (span t i) s)) (forest s t (i + 1) link)

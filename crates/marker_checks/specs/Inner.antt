@@ -3,11 +3,10 @@ use Prim.Native.Nat.{ℕ}
 use mathlib.Core.Bool.{Bool, not}
 use mathlib.Core.List.{List}
 use lib.Dec.{eqb}
-use Rattle.text.specs.Pick.{both, either}
+use Rattle.text.specs.Pick.{both, either, pick}
 use Rattle.text.specs.Words.{blankText}
 use Rattle.tape.specs.Nodes.{Node}
 use Rattle.tape.specs.Forest.{Forest}
-use Rattle.numbers.specs.Verse.{pickBool}
 use Rattle.definition.specs.Checks.{frontBy, hasText, hasAttribute, hasMarkers}
 use Rattle.state.specs.declared.Record.{Record}
 
@@ -26,7 +25,7 @@ withId named code r =
       «has_id» = either named (r .«has_id»);
       «has_chapter» = r .«has_chapter»;
       «has_verse» = r .«has_verse»;
-      «front_matter» = pickBool named (frontBy code (r .«front_matter»)) (r .«front_matter»);
+      «front_matter» = pick named (frontBy code (r .«front_matter»)) (r .«front_matter»);
       «outside_warned» = r .«outside_warned»;
       chapter = r .chapter;
       verse = r .verse;

@@ -4,7 +4,7 @@ use mathlib.Core.Path.{_≡_}
 use mathlib.Core.Bool.{Bool}
 use mathlib.Core.Option.{Option}
 use mathlib.Core.List.{List, [], _++_}
-use Rattle.text.specs.Pick.{cut}
+use Rattle.text.specs.Pick.{cut, pick}
 use Rattle.tape.specs.Nodes.{Node, nodeAt, linkAt}
 use Rattle.tape.specs.Forest.{Forest, forest}
 use Rattle.table.specs.Bytes.{equal}
@@ -12,7 +12,7 @@ use Rattle.table.specs.Entries.{Entry}
 use Rattle.cursor.specs.Names.{nameOf}
 use Rattle.findings.specs.Finding.{Finding}
 use Rattle.findings.specs.Written.{Wrote}
-use Rattle.attributes.specs.Attributes.{pickFindings, attributesFindings}
+use Rattle.attributes.specs.Attributes.{attributesFindings}
 use Rattle.rows.specs.Row.{rowFindings}
 use Rattle.definition.specs.State.{State, Anchor}
 use Rattle.definition.specs.State as state
@@ -25,7 +25,7 @@ use Rattle.state.specs.declared.Record.{Record}
 abbrev pub ownFindings : List ℕ → State → state.Around → Option Anchor → State → Entry → Node → Forest → Forest → List Finding
 ownFindings name st₁ o a st e x c f =
     given (idChecks (equal name idName) st (bookCode c) x ++ placeChecks name e o a st₁ x c f ++ contentChecks name x c)
-    ++ pickFindings (equal name trName) (rowFindings c) []
+    ++ pick (equal name trName) (rowFindings c) []
     ++ attributesFindings (x .number) (nameOf (x .text)) c
 
 abbrev pub isId : List ℕ → Entry → Bool

@@ -3,11 +3,10 @@ use Prim.Native.Nat.{ℕ}
 use mathlib.Core.Bool.{Bool, true, false, not}
 use mathlib.Core.List.{List}
 use lib.Dec.{eqb}
-use Rattle.text.specs.Pick.{both, either, cut}
+use Rattle.text.specs.Pick.{both, either, cut, pick}
 use Rattle.tape.specs.Forest.{Forest, end, leaf, node}
 use Rattle.table.specs.Bytes.{equal, oneOf}
 use Rattle.table.specs.Entries.{Entry}
-use Rattle.numbers.specs.Verse.{pickBool}
 use Rattle.definition.specs.State as state
 use Rattle.definition.specs.Checks.{numberMarkers, bName, figName, idName, rbName, trName, wName}
 use Rattle.marker_checks.specs.Own.{childrenAt}
@@ -26,7 +25,7 @@ askedFor name =
 
 -- a paragraph behind a chapter, or a character marker in a note
 abbrev pub placed : Entry → state.Around → Bool → Bool
-placed e o chapter = pickBool (eqb (e .category) 3) chapter (both (eqb (e .category) 4) (o .note))
+placed e o chapter = pick (eqb (e .category) 3) chapter (both (eqb (e .category) 4) (o .note))
 
 -- by its name in the table, what lies around it, whether a chapter stands before it, and its children
 abbrev pub canSkipMarker : List ℕ → Entry → state.Around → Bool → Forest → Bool

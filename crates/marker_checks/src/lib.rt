@@ -22,7 +22,7 @@ ghost use mathlib.Core.List.{[]};
 ghost use Prim.Native.Nat.{_+_, _-_, _<_, _≤_};
 ghost use lib.Dec.{eqb};
 ghost use lib.ListN.{length};
-ghost use Rattle.text.specs.Pick.{both, either, pickNat, within};
+ghost use Rattle.text.specs.Pick.{both, either, within, pick};
 ghost use Rattle.tape.specs.Nodes.{count, nodeAt, kindAt, startAt, linkAt, isOpen};
 ghost use Rattle.tape.specs.Forest.{forest};
 ghost use Rattle.table.specs.Bytes.{equal, oneOf};
@@ -33,7 +33,6 @@ ghost use Rattle.cursor.specs.Inner.{Run, Spanned};
 ghost use Rattle.findings.specs.Finding.{severityOf};
 ghost use Rattle.findings.specs.Written.{Room, Wrote, only};
 ghost use Rattle.attachment.specs.Attached.{startsOf, among};
-ghost use Rattle.attributes.specs.Attributes.{pickFindings};
 ghost use Rattle.rows.specs.Row.{rowFindings};
 ghost use Rattle.definition.specs.Checks;
 ghost use Rattle.definition.specs.Checks.{given, idChecks, placeChecks, contentChecks, bookCode, isBook, upper, frontBy, inlineContent, hasText, hasAttribute, hasMarkers, numberMarkers, bName, figName, wName, rbName, trName, isBody};
@@ -164,7 +163,7 @@ fn is_book(code: &[u8]) -> bool
 }
 
 fn upper_byte(b: u8) -> u8
-    ensures { λ r. ⌜ r ≡ pickNat (within 0x61 0x7A b) (b - 32) b ⌝ }
+    ensures { λ r. ⌜ r ≡ pick (within 0x61 0x7A b) (b - 32) b ⌝ }
 {
     if text::holds(b, b'a', b'z') {
         b - 32
@@ -199,7 +198,7 @@ fn is_bad_code(code: &[u8]) -> bool
 
 // The form of a bad code's finding.
 fn code_form(code: &[u8]) -> u64
-    ensures { λ r. ⌜ r ≡ pickNat (isBook (upper (now (code .entry)))) 0 1 ⌝ }
+    ensures { λ r. ⌜ r ≡ pick (isBook (upper (now (code .entry)))) 0 1 ⌝ }
 {
     if is_book_upper(code) { 0 } else { 1 }
 }
@@ -448,8 +447,8 @@ fn row_findings(
     list: &mut [u64],
     c: Counts,
 ) -> Counts
-    requires { ⌜ (Run (now source) (now tape) from to) × Room c (pickFindings (equal (now name) trName) (rowFindings (forest (now source) (now tape) from to)) []) ⌝ }
-    ensures { λ r. ⌜ Wrote (pickFindings (equal (now (name .entry)) trName) (rowFindings (forest (now (source .entry)) (now (tape .entry)) from to)) []) (now (list .entry)) c (now (list .exit)) r ⌝ }
+    requires { ⌜ (Run (now source) (now tape) from to) × Room c (pick (equal (now name) trName) (rowFindings (forest (now source) (now tape) from to)) []) ⌝ }
+    ensures { λ r. ⌜ Wrote (pick (equal (now (name .entry)) trName) (rowFindings (forest (now (source .entry)) (now (tape .entry)) from to)) []) (now (list .entry)) c (now (list .exit)) r ⌝ }
 {
     if table::same(name, b"tr") {
         return rows::validate_table_row(source, tape, from, to, list, c);

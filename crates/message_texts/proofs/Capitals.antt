@@ -4,12 +4,12 @@ use Prim.Native.Nat.{ℕ, zero, suc, _+_, _-_, _<_}
 use mathlib.Core.Path.{_≡_, refl, ap}
 use mathlib.Core.List.{List, [], _∷_}
 use lib.ListN.{length, set, getD}
-use Rattle.text.specs.Pick.{within, pickNat}
+use Rattle.text.specs.Pick.{within, pick}
 use Rattle.definition.specs.Checks.{upper}
 use Rattle.buffer.proofs.Laying.{Laying, laying-on}
 
 abbrev pub capitalOf : ℕ → ℕ
-capitalOf b = pickNat (within 0x61 0x7A b) (b - 32) b
+capitalOf b = pick (within 0x61 0x7A b) (b - 32) b
 
 pub length-upper : (s : List ℕ) → length (upper s) ≡ length s
 unfolding upper

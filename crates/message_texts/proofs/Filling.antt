@@ -12,18 +12,18 @@ use borrow.Author.Tests.{ne-eqb}
 use lib.Dec.{eqb}
 use lib.ListN.{length, take, drop, getD, length-append, length-drop, drop-of-length-le}
 use lib.Seq.{drop-cons, drop-drop, getD-drop}
-use Rattle.numbers.specs.Label.{pickList}
 use Rattle.buffer.specs.Over.{over, Put, limit}
 use Rattle.buffer.proofs.Over.{over-over, over-none}
 use Rattle.message_texts.specs.Filled.{Values, byteOf, filled}
 use Rattle.message_texts.specs.Inner.{values, Short, Plain}
 use Rattle.message_texts.proofs.Capitals.{length-upper}
+use Rattle.text.specs.Pick.{pick}
 
 -- a byte that stands for no value stands for itself
 pub itself : (n : ℕ) (v : Values) → (n ≡ 1 → ⊥) → (n ≡ 2 → ⊥) → (n ≡ 3 → ⊥) → (n ≡ 4 → ⊥) → byteOf n v ≡ n ∷ []
 itself n v p q r s = rw (ne-eqb n 1 p, ne-eqb n 2 q, ne-eqb n 3 r, ne-eqb n 4 s)
 
-pub pick-within : (m : ℕ) (t : Bool) (s u : List ℕ) → length s ≤ m → length u ≤ m → length (pickList t s u) ≤ m
+pub pick-within : (m : ℕ) (t : Bool) (s u : List ℕ) → length s ≤ m → length u ≤ m → length (pick t s u) ≤ m
 pick-within m true s u h k = h
 pick-within m false s u h k = k
 

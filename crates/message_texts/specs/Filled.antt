@@ -5,8 +5,8 @@ use mathlib.Core.List.{List, [], _∷_, _++_}
 use mathlib.Core.Option.{Option, some, none}
 use lib.Dec.{eqb}
 use Rattle.definition.specs.Checks.{upper}
-use Rattle.numbers.specs.Label.{pickList}
 use Rattle.message_texts.specs.Texts.{Code, documentTexts, numberTexts, markerTexts, attributeTexts}
+use Rattle.text.specs.Pick.{pick}
 
 -- three values
 pub record Values : Type 0 where
@@ -16,7 +16,7 @@ pub record Values : Type 0 where
 
 -- a text's bytes, its values in their places
 abbrev pub byteOf : ℕ → Values → List ℕ
-byteOf n v = pickList (eqb n 1) (v .a) (pickList (eqb n 2) (v .b) (pickList (eqb n 3) (v .c) (pickList (eqb n 4) (upper (v .a)) (n ∷ []))))
+byteOf n v = pick (eqb n 1) (v .a) (pick (eqb n 2) (v .b) (pick (eqb n 3) (v .c) (pick (eqb n 4) (upper (v .a)) (n ∷ []))))
 
 unfoldable pub filled : List ℕ → Values → List ℕ
 filled [] v = []
@@ -30,13 +30,9 @@ joined (p ∷ ps) = p ++ joined ps
 unfoldable pub allTexts : List Code
 allTexts = documentTexts ++ numberTexts ++ markerTexts ++ attributeTexts
 
-abbrev pub pickCode : Bool → Option Code → Option Code → Option Code
-pickCode true a b = a
-pickCode false a b = b
-
 unfoldable pub codeOf : List Code → ℕ → Option Code
 codeOf [] n = none
-codeOf (c ∷ cs) n = pickCode (eqb (c .code) n) (some c) (codeOf cs n)
+codeOf (c ∷ cs) n = pick (eqb (c .code) n) (some c) (codeOf cs n)
 
 -- "Form is the message's position among that code's messages"
 unfoldable pub formOf : List (List (List ℕ)) → ℕ → Option (List ℕ)

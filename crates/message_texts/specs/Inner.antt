@@ -5,10 +5,10 @@ use mathlib.Core.List.{List, [], _∷_}
 use mathlib.Core.Option.{Option, some, none}
 use lib.Dec.{ltb}
 use lib.ListN.{length, getD}
-use Rattle.numbers.specs.Label.{pickList}
 use Rattle.buffer.specs.Over.{over}
 use Rattle.message_texts.specs.Texts.{Code}
 use Rattle.message_texts.specs.Filled.{Values, filledBy, textIn}
+use Rattle.text.specs.Pick.{pick}
 
 abbrev pub values : List ℕ → List ℕ → List ℕ → Values
 values a b c = record { a = a; b = b; c = c }
@@ -33,7 +33,7 @@ lengthBy (some s) = length s + 1
 -- the list afterwards: with the text laid over its start, if that has room
 abbrev pub overBy : Option (List ℕ) → List ℕ → List ℕ
 overBy none l = l
-overBy (some s) l = pickList (ltb (length l) (length s)) l (over l 0 s)
+overBy (some s) l = pick (ltb (length l) (length s)) l (over l 0 s)
 
 -- the text is laid over the list, if there is one and it has room
 pub record LaidAs (o : Option (List ℕ)) (l l′ : List ℕ) (r : ℕ) : Type 0 where

@@ -4,7 +4,7 @@ ghost use mathlib.Core.List.{[], _∷_, _++_};
 ghost use mathlib.Core.Option.{some};
 ghost use Prim.Native.Nat.{_-_, _≤_};
 ghost use lib.ListN.{length, drop};
-ghost use Rattle.text.specs.Pick.{within, pickNat};
+ghost use Rattle.text.specs.Pick.{within, pick};
 ghost use Rattle.definition.specs.Checks.{upper};
 ghost use Rattle.buffer.specs.Over.{Put, limit};
 ghost use Rattle.message_texts.specs.Texts.{numberTexts, markerTexts, attributeTexts};
@@ -12,7 +12,7 @@ ghost use Rattle.message_texts.specs.Filled.{byteOf, filled, allTexts};
 ghost use Rattle.message_texts.specs.Inner.{values, Short, Plain, LaidAs, LaidFrom, LaidOf};
 
 fn capital(b: u8) -> u8
-    ensures { λ r. ⌜ r ≡ pickNat (within 0x61 0x7A b) (b - 32) b ⌝ }
+    ensures { λ r. ⌜ r ≡ pick (within 0x61 0x7A b) (b - 32) b ⌝ }
 {
     if text::holds(b, b'a', b'z') {
         b - 32

@@ -10,8 +10,9 @@ use Rattle.text.specs.Characters.{chars}
 use Rattle.text.specs.declared.Decoded.{Decoded}
 use Rattle.table.specs.Names.{defaultOf}
 use Rattle.findings.specs.Finding.{Kind}
-use Rattle.attributes.specs.Attributes.{emptyList, keyAlone, emptyValue, unterminated, unquotedValue, noDefault, Mode, between, key, value, opened, quoted, escaping, unquoted, inQuotes, Step, go, tell, stop, pickStep, step, ended, resume, scan, body, pickKinds, hasDefault, holdsEquals, attributeKinds}
+use Rattle.attributes.specs.Attributes.{emptyList, keyAlone, emptyValue, unterminated, unquotedValue, noDefault, Mode, between, key, value, opened, quoted, escaping, unquoted, inQuotes, Step, go, tell, stop, step, ended, resume, scan, body, hasDefault, holdsEquals, attributeKinds}
 use Rattle.messages.proofs.Every.{AllOf}
+use Rattle.text.specs.Pick.{pick}
 
 pub record OfAttributes (P : Kind → Type 0) : Type 0 where
   pub empty-list : P emptyList
@@ -27,7 +28,7 @@ module _ (P : Kind → Type 0) (six : OfAttributes P) where
   InStep (tell k m) = P k
   InStep (stop k) = P k
 
-  in-pick : (b : Bool) (x y : Step) → InStep x → InStep y → InStep (pickStep b x y)
+  in-pick : (b : Bool) (x y : Step) → InStep x → InStep y → InStep (pick b x y)
   in-pick true x y p q = p
   in-pick false x y p q = q
 
@@ -67,7 +68,7 @@ module _ (P : Kind → Type 0) (six : OfAttributes P) where
   unfolding attributeKinds
   all-kinds marker text = by (eqb (length (body text)) 0) (holdsEquals (body text)) (hasDefault (defaultOf marker))
     where
-      by : (a b c : Bool) → AllOf P (pickKinds a (emptyList ∷ []) (pickKinds b (scan between (chars (body text))) (pickKinds c [] (noDefault ∷ []))))
+      by : (a b c : Bool) → AllOf P (pick a (emptyList ∷ []) (pick b (scan between (chars (body text))) (pick c [] (noDefault ∷ []))))
       by true b c = (six .empty-list, tt)
       by false true c = scanned between (chars (body text))
       by false false true = tt

@@ -6,9 +6,9 @@ use mathlib.Core.List.{List, [], _∷_, _++_}
 use Rattle.tape.specs.Nodes.{Node}
 use Rattle.findings.specs.Finding.{Finding}
 use Rattle.findings.specs.Written.{only}
-use Rattle.attributes.specs.Attributes.{pickFindings}
 use Rattle.definition.specs.Checks.{Check, given}
-use Rattle.definition.specs.Milestones.{sameBase, pickNodes, without}
+use Rattle.definition.specs.Milestones.{sameBase, without}
+use Rattle.text.specs.Pick.{pick}
 
 abbrev pub AllOf : {A : Type 0} → (A → Type 0) → List A → Type 0
 AllOf P [] = Unit {0}
@@ -24,7 +24,7 @@ unfolding without
 all-without P x [] h = tt
 all-without P x (y ∷ ys) h = go (sameBase y x) (all-without P x ys (h .1))
   where
-    go : (b : Bool) → AllOf P (without x ys) → AllOf P (pickNodes b ys (y ∷ without x ys))
+    go : (b : Bool) → AllOf P (without x ys) → AllOf P (pick b ys (y ∷ without x ys))
     go true k = h .1
     go false k = (h .0, k)
 
@@ -37,7 +37,7 @@ module _ (P : Finding → Type 0) where
   all-only true f h = (h refl, tt)
   all-only false f h = tt
 
-  pub all-pick : (b : Bool) (fs : List Finding) → AllOf P fs → AllOf P (pickFindings b fs [])
+  pub all-pick : (b : Bool) (fs : List Finding) → AllOf P fs → AllOf P (pick b fs [])
   all-pick true fs h = h
   all-pick false fs h = tt
 

@@ -9,7 +9,7 @@ use mathlib.Core.Option.{Option, some, none}
 use lib.Dec.{eqb, ltb}
 use lib.ListN.{length}
 use borrow.Author.Tests.{lt-ltb, le-leb, ne-eqb, ltb-true}
-use Rattle.text.specs.Pick.{both, either, pickNat, cut}
+use Rattle.text.specs.Pick.{both, either, cut, pick}
 use Rattle.text.specs.Words.{blankText}
 use Rattle.text.proofs.Rows.{both-left, both-right}
 use Rattle.tape.specs.Nodes.{Node, count, kindAt, linkAt, isOpen, nodeAt}
@@ -23,12 +23,12 @@ use Rattle.cursor.proofs.Runs.{run-top}
 use Rattle.findings.specs.Finding.{Finding, Kind}
 use Rattle.findings.specs.Written.{only}
 use Rattle.numbers.specs.Label.{labelOf, numbered}
-use Rattle.attributes.specs.Attributes.{attributeKinds, findingsAt, attributeFindings, pickFindings, attributesFindings}
+use Rattle.attributes.specs.Attributes.{attributeKinds, findingsAt, attributeFindings, attributesFindings}
 use Rattle.rows.specs.Cells.{Range}
 use Rattle.rows.specs.Row.{cellIn, outOfOrder, byColumns, rowFrom, rowFindings}
 use Rattle.definition.specs.State.{State, initial, outside, Around, Anchor, past}
-use Rattle.definition.specs.Checks.{about, error, warning, given, entryOf, letterByte, afterChapter, afterVerse, pickState, numberForm, chapterChecks, verseChecks, pickChecks, leafTold, bookCode, isBook, upper, numberMarkers, idName, trName, idChecks, afterId, attachedTo, placeChecks, contentChecks}
-use Rattle.definition.specs.Milestones.{isStart, isEnd, isMilestone, waits, pickNodes, openAfter, milestoneChecks, afterMilestone}
+use Rattle.definition.specs.Checks.{about, error, warning, given, entryOf, letterByte, afterChapter, afterVerse, numberForm, chapterChecks, verseChecks, leafTold, bookCode, isBook, upper, numberMarkers, idName, trName, idChecks, afterId, attachedTo, placeChecks, contentChecks}
+use Rattle.definition.specs.Milestones.{isStart, isEnd, isMilestone, waits, openAfter, milestoneChecks, afterMilestone}
 use Rattle.definition.specs.Walk.{Walked, leafAnchor, openTold, inside, before, after, thenWalk, byEntry, walk}
 use Rattle.definition.specs.Document.{textBefore, unclosed, closing, walked, running}
 use Rattle.definition.specs.Outcome.{Lent, refusal, listOf}
@@ -88,11 +88,11 @@ module _ (table s t : List ℕ) where
         let q = askedOf (about x 0 code form first second) in
         is-some (messageText table s t q) (rw (lt-ltb i (count t) low) (subst (λ (o : Option Entry). isSome (textBy (shownOf table s t q o x) (codeOf allTexts code) form) ≡ true) (sym entry) h))
 
-    number-checks : numbered (kindAt t i) ≡ true → (chapter : Bool) → AllOf (WhenHeld Has) (numberForm (pickNat chapter 0 1) e x)
+    number-checks : numbered (kindAt t i) ≡ true → (chapter : Bool) → AllOf (WhenHeld Has) (numberForm (pick chapter 0 1) e x)
     unfolding allTexts documentTexts numberTexts codeOf formOf shownOf
     number-checks k chapter = (λ h. said 34 0 0 0 (rw (k, h)), (λ h. zeros chapter (longer-some (length label) _ h), tt))
       where
-        zeros : (chapter : Bool) → not (eqb (length label) 0) ≡ true → Has (error x 15 (pickNat chapter 0 1))
+        zeros : (chapter : Bool) → not (eqb (length label) 0) ≡ true → Has (error x 15 (pick chapter 0 1))
         zeros true h = said 15 0 0 0 (rw (k, h))
         zeros false h = said 15 1 0 0 (rw (k, h))
 
@@ -117,7 +117,7 @@ module _ (table s t : List ℕ) where
     unfolding allTexts documentTexts numberTexts markerTexts codeOf formOf shownOf
     cell-said expected found = said 27 0 expected found refl
 
-    attribute-said : (owner : ℕ) → 1 ≤ owner → owner < count t → OfAttributes (λ k. Has (about x 0 (k .code) (k .form) (pickNat (eqb (k .code) 32) owner 0) 0))
+    attribute-said : (owner : ℕ) → 1 ≤ owner → owner < count t → OfAttributes (λ k. Has (about x 0 (k .code) (k .form) (pick (eqb (k .code) 32) owner 0) 0))
     unfolding allTexts documentTexts numberTexts markerTexts attributeTexts codeOf formOf shownOf
     attribute-said owner from below =
         record {
@@ -158,7 +158,7 @@ module _ (table s t : List ℕ) where
       rw (forest-node s t h z c r) (cell-all a (omega arith) (cellIn (nodeAt s t a)) n (λ m. rowFrom m (forest s t (linkAt t a + 1) b)) (λ m. row-all r l m))
 
   -- the attributes among them
-  at-all : (owner i : ℕ) (ks : List Kind) → AllOf (λ k. Has (about (nodeAt s t i) 0 (k .code) (k .form) (pickNat (eqb (k .code) 32) owner 0) 0)) ks → AllOf Has (findingsAt (nodeAt s t i .start) (nodeAt s t i .len) i owner ks)
+  at-all : (owner i : ℕ) (ks : List Kind) → AllOf (λ k. Has (about (nodeAt s t i) 0 (k .code) (k .form) (pick (eqb (k .code) 32) owner 0) 0)) ks → AllOf Has (findingsAt (nodeAt s t i .start) (nodeAt s t i .len) i owner ks)
   unfolding findingsAt
   at-all owner i [] h = tt
   at-all owner i (k ∷ ks) h = (h .0, at-all owner i ks (h .1))
@@ -172,7 +172,7 @@ module _ (table s t : List ℕ) where
       let found = attributeFindings owner marker x in
       let kinds = all-kinds _ (attribute-said a (omega arith) (infoAt table t a) refl owner from low) marker (x .text) in
       rw (forest-leaf s t h z r)
-      (all-append Has (pickFindings (eqb (x .kind) 6) found []) (attributesFindings owner marker (forest s t (a + 1) b)) (all-pick Has (eqb (x .kind) 6) found (at-all owner a (attributeKinds marker (x .text)) kinds)) (attributes-all r l owner from low marker))
+      (all-append Has (pick (eqb (x .kind) 6) found []) (attributesFindings owner marker (forest s t (a + 1) b)) (all-pick Has (eqb (x .kind) 6) found (at-all owner a (attributeKinds marker (x .text)) kinds)) (attributes-all r l owner from low marker))
   attributes-all {d} {a} {b} (inner h z c r) l owner from low marker = rw (forest-node s t h z c r) (attributes-all r l owner from low marker)
 
   -- a leaf
@@ -183,7 +183,7 @@ module _ (table s t : List ℕ) where
       x : Node
       x = nodeAt s t i
 
-      go : (b v : Bool) → eqb (kindAt t i) 3 ≡ b → eqb (kindAt t i) 4 ≡ v → AllOf (WhenHeld Has) (pickChecks b (chapterChecks (entryOf table x) st x) (pickChecks v (verseChecks (entryOf table x) o st x) []))
+      go : (b v : Bool) → eqb (kindAt t i) 3 ≡ b → eqb (kindAt t i) 4 ≡ v → AllOf (WhenHeld Has) (pick b (chapterChecks (entryOf table x) st x) (pick v (verseChecks (entryOf table x) o st x) []))
       go true v p q = chapter-checks i l (entryOf table x) (entry-is i) (rw p) st
       go false true p q = verse-checks i l (entryOf table x) (entry-is i) (rw (p, q)) o st (fit .letter)
       go false false p q = tt
@@ -192,7 +192,7 @@ module _ (table s t : List ℕ) where
   unfolding leafTold afterChapter afterVerse
   leaf-fit o st x fit = go (eqb (x .kind) 3) (eqb (x .kind) 4)
     where
-      go : (b v : Bool) → Fit table s t (pickState b (afterChapter st x) (pickState v (afterVerse (entryOf table x) o st x) st))
+      go : (b v : Bool) → Fit table s t (pick b (afterChapter st x) (pick v (afterVerse (entryOf table x) o st x) st))
       go true v = record { letter = omega arith; starts = fit .starts }
       go false true = record { letter = next-low (labelOf (entryOf table x) (x .text)) (st .verse) (fit .letter); starts = fit .starts }
       go false false = fit
@@ -223,7 +223,7 @@ module _ (table s t : List ℕ) where
         tell n form h = said i low (some e) known n form 0 0 h
 
         -- both forms show the code
-        book : (b : Bool) → both (equal name idName) (both (not (eqb (length code) 0)) (not (isBook code))) ≡ true → Has (warning y 5 (pickNat b 0 1))
+        book : (b : Bool) → both (equal name idName) (both (not (eqb (length code) 0)) (not (isBook code))) ≡ true → Has (warning y 5 (pick b 0 1))
         book true h = tell 5 0 (rw (opens, middle (equal name idName) (not (eqb (length code) 0)) (not (isBook code)) h))
         book false h = tell 5 1 (rw (opens, middle (equal name idName) (not (eqb (length code) 0)) (not (isBook code)) h))
 
@@ -240,7 +240,7 @@ module _ (table s t : List ℕ) where
         let name = cut (e .name) table in
         let st₁ = afterId (equal name idName) st below in
         let checks = idChecks (equal name idName) st (bookCode below) y ++ placeChecks name e o a st₁ y below f ++ contentChecks name y below in
-        let row = pickFindings (equal name trName) (rowFindings below) [] in
+        let row = pick (equal name trName) (rowFindings below) [] in
         let attributes = attributesFindings i (nameOf (y .text)) below in
         all-append Has (given checks ++ row ++ attributes) (given (milestoneChecks e st₁ y))
         (all-append Has (given checks ++ row) attributes (all-append Has (given checks) row (all-given Has checks (open-checks name o a st st₁ f)) (all-pick Has (equal name trName) (rowFindings below) (row-all n l 1))) (attributes-all n l i from low (nameOf (y .text))))
@@ -253,7 +253,7 @@ module _ (table s t : List ℕ) where
         Unclosed : Node → Type 0
         Unclosed z = Has (error z 16 0)
 
-        go : (m b : Bool) → isStart y ≡ b → AllOf Unclosed (pickNodes m (openAfter b y (st .openStarts)) (st .openStarts))
+        go : (m b : Bool) → isStart y ≡ b → AllOf Unclosed (pick m (openAfter b y (st .openStarts)) (st .openStarts))
         go true true p = (milestone-said i low (some e) known from (rw p) .0, fit .starts)
         go true false p = all-without Unclosed y (st .openStarts) (fit .starts)
         go false b p = fit .starts

@@ -8,26 +8,26 @@ use mathlib.Core.Logic.{_⊎_, inl, inr}
 use mathlib.Core.Option.{Option, some, none}
 use native.Mathlib.Omega.{arith}
 use lib.ListN.{length, take, drop, length-take, length-drop}
-use Rattle.text.specs.Pick.{Part, cut}
+use Rattle.text.specs.Pick.{Part, cut, pick}
 use Rattle.text.specs.Words.{secondWord}
 use Rattle.tape.specs.Nodes.{nodeAt, span}
 use Rattle.table.specs.Bytes.{equal, oneOf}
 use Rattle.table.specs.Entries.{Entry, Indexed}
 use Rattle.cursor.specs.Names.{namePart, nameOf}
 use Rattle.cursor.specs.Info.{infoAt}
-use Rattle.numbers.specs.Label.{labelOf, isGlued, baseLen, pickList}
+use Rattle.numbers.specs.Label.{labelOf, isGlued, baseLen}
 use Rattle.definition.specs.Checks.{numberMarkers}
 use Rattle.messages.specs.Inner.{nameOr, isTables}
 use Rattle.messages.proofs.Shown.{entry-sound}
 
 -- the table's name for two codes, the source's for the others
-module _ (code : ℕ) (a b name : List ℕ) (is : name ≡ pickList (isTables code) a b) where
+module _ (code : ℕ) (a b name : List ℕ) (is : name ≡ pick (isTables code) a b) where
   pub by-table : (code ≡ 13) ⊎ (code ≡ 24) → name ≡ a
-  by-table (inl e) = is ∙ ap (λ (k : ℕ). pickList (isTables k) a b) e
-  by-table (inr e) = is ∙ ap (λ (k : ℕ). pickList (isTables k) a b) e
+  by-table (inl e) = is ∙ ap (λ (k : ℕ). pick (isTables k) a b) e
+  by-table (inr e) = is ∙ ap (λ (k : ℕ). pick (isTables k) a b) e
 
   pub by-source : (n : ℕ) → isTables n ≡ false → code ≡ n → name ≡ b
-  by-source n h e = is ∙ ap (λ (k : ℕ). pickList (isTables k) a b) e ∙ ap (λ (x : Bool). pickList x a b) h
+  by-source n h e = is ∙ ap (λ (k : ℕ). pick (isTables k) a b) e ∙ ap (λ (x : Bool). pick x a b) h
 
 pub take-short : (n : ℕ) (s : List ℕ) → length (take n s) ≤ length s
 take-short n s = omega (arith, length-take n s)
@@ -45,7 +45,7 @@ label-short : (e : Option Entry) (text : List ℕ) → length (labelOf e text) �
 unfolding labelOf
 label-short e text = go (isGlued e (nameOf text))
   where
-    go : (b : Bool) → length (pickList b (drop (baseLen e (nameOf text)) (nameOf text)) (cut (secondWord text) text)) ≤ length text
+    go : (b : Bool) → length (pick b (drop (baseLen e (nameOf text)) (nameOf text)) (cut (secondWord text) text)) ≤ length text
     go true =
         let d = drop-short (baseLen e (nameOf text)) (nameOf text) in
         let k = cut-short (namePart text) text in
@@ -61,10 +61,10 @@ module _ (s t : List ℕ) (i : ℕ) (short : length s ≤ 1048576) where
       let l = cut-short (span t i) s in
       omega arith
 
-  pub label-fits : (b : Bool) (e : Option Entry) (label : List ℕ) → label ≡ pickList b (labelOf e (nodeAt s t i .text)) [] → length label ≤ 1048576
+  pub label-fits : (b : Bool) (e : Option Entry) (label : List ℕ) → label ≡ pick b (labelOf e (nodeAt s t i .text)) [] → length label ≤ 1048576
   label-fits b e label is = go b is
     where
-      go : (b : Bool) → label ≡ pickList b (labelOf e (nodeAt s t i .text)) [] → length label ≤ 1048576
+      go : (b : Bool) → label ≡ pick b (labelOf e (nodeAt s t i .text)) [] → length label ≤ 1048576
       go true z =
           let l = ap length z in
           let k = label-short e (cut (span t i) s) in
@@ -76,7 +76,7 @@ module _ (s t : List ℕ) (i : ℕ) (short : length s ≤ 1048576) where
 pub glued-fits : (e : Option Entry) (text name label : List ℕ) → isGlued e (nameOf text) ≡ true → name ≡ nameOf text → label ≡ labelOf e text → length label ≤ length name
 unfolding labelOf
 glued-fits e text name label g is l =
-    let z : label ≡ drop (baseLen e (nameOf text)) (nameOf text) = l ∙ ap (λ (b : Bool). pickList b (drop (baseLen e (nameOf text)) (nameOf text)) (cut (secondWord text) text)) g in
+    let z : label ≡ drop (baseLen e (nameOf text)) (nameOf text) = l ∙ ap (λ (b : Bool). pick b (drop (baseLen e (nameOf text)) (nameOf text)) (cut (secondWord text) text)) g in
     let d = drop-short (baseLen e (nameOf text)) (nameOf text) in
     let m = ap length z in
     let n = ap length is in

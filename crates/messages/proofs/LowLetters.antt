@@ -9,7 +9,7 @@ use mathlib.Core.Option.{Option, some, none}
 use lib.Dec.{eqb}
 use borrow.Author.Tests.{ne-eqb}
 use lib.ListN.{length, take, drop}
-use Rattle.text.specs.Pick.{pickOption, within, cut}
+use Rattle.text.specs.Pick.{within, cut, pick}
 use Rattle.text.specs.Characters.{findByte, charsPast, before}
 use Rattle.text.specs.Words.{trimStart}
 use Rattle.text.specs.Number.{digits}
@@ -27,7 +27,7 @@ letter-low : (s : List ℕ) → letterByte (letterOf s) ≤ 0x7A
 letter-low [] = omega arith
 letter-low (b ∷ s) = go (within 0x61 0x7A b) refl
   where
-    go : (v : Bool) → within 0x61 0x7A b ≡ v → letterByte (pickOption v (some b) none) ≤ 0x7A
+    go : (v : Bool) → within 0x61 0x7A b ≡ v → letterByte (pick v (some b) none) ≤ 0x7A
     go true h = within-hi 0x61 0x7A b h
     go false h = omega arith
 

@@ -10,12 +10,12 @@ use native.Mathlib.Omega.{arith}
 use lib.Dec.{eqb, ltb}
 use lib.ListN.{length}
 use borrow.Author.Tests.{lt-ltb, le-ltb, ltb-false}
-use Rattle.text.specs.Pick.{either}
+use Rattle.text.specs.Pick.{either, pick}
 use Rattle.tape.specs.Nodes.{count}
 use Rattle.tape.specs.Forest.{Accepted}
 use Rattle.tape.specs.Reading.{Refusal, refuse, orElse, tapeRefusal}
 use Rattle.tape.proofs.OneNumber.{accepted, neither, either-false, only-not}
-use Rattle.numbers.specs.Label.{labelRefusal, pickList}
+use Rattle.numbers.specs.Label.{labelRefusal}
 use Rattle.definition.specs.Outcome.{Lent, of1, of2, of3, ofTape, of9, of10, refusal}
 use Rattle.validate.specs.Entry.{checkRefusal, listsRefusal, fromTape, fromTable}
 use Rattle.validate.proofs.Whole.{or-assoc}
@@ -25,7 +25,7 @@ use Rattle.message_texts.specs.Inner.{LaidAs}
 use Rattle.buffer.specs.Over.{over}
 use Rattle.messages.specs.Message.{Asked, messageText}
 use Rattle.messages.specs.Inner.{LaidBy}
-use Rattle.messages.specs.Told.{document, firstNine, Told, refused, laid, pickTold, byRoom, pickBytes, bytesBy}
+use Rattle.messages.specs.Told.{document, firstNine, Told, refused, laid, byRoom, bytesBy}
 
 or-none : (x : Option Refusal) → orElse x none ≡ x
 or-none none = refl
@@ -81,14 +81,14 @@ nine-none l z = first-five (of1 l) (of2 l) (of3 l) (ofTape l) (of9 l) (of10 l) z
 -- what is told, by what the laying of a text answered and the length of the list
 unfoldable pub toldFor : ℕ → ℕ → Told
 toldFor zero room = refused (record { number = 12; place = 0 })
-toldFor (suc n) room = pickTold (ltb room n) (refused (record { number = 13; place = n })) (laid n)
+toldFor (suc n) room = pick (ltb room n) (refused (record { number = 13; place = n })) (laid n)
 
 by-room : (o : Option (List ℕ)) (l l′ : List ℕ) (r : ℕ) → LaidAs o l l′ r → (toldFor r (length l) ≡ byRoom o (length l)) × (l′ ≡ bytesBy none o l)
 unfolding toldFor
 by-room none l l′ r y = (rw (y .answer-is), y .list-is)
 by-room (some s) l l′ r y = (rw (y .answer-is, add-one), go (ltb (length l) (length s)) (y .list-is))
   where
-    go : (b : Bool) → l′ ≡ pickList b l (over l 0 s) → l′ ≡ pickBytes b l (over l 0 s)
+    go : (b : Bool) → l′ ≡ pick b l (over l 0 s) → l′ ≡ pick b l (over l 0 s)
     go true q = q
     go false q = q
 

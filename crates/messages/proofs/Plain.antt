@@ -11,10 +11,11 @@ use borrow.Author.Tests.{eqb-true}
 use types.Run.{OneOf}
 use Rattle.message_texts.specs.Texts.{Code, Hole, documentTexts, numberTexts, markerTexts, attributeTexts}
 use Rattle.message_texts.specs.Texts as texts
-use Rattle.message_texts.specs.Filled.{allTexts, codeOf, formIn, filledBy, pickCode}
+use Rattle.message_texts.specs.Filled.{allTexts, codeOf, formIn, filledBy}
 use Rattle.message_texts.specs.Inner.{values}
 use Rattle.messages.specs.Message.{Asked, shown, shownOf, textBy}
 use Rattle.messages.specs.Inner.{LaidBy, LaidWith}
+use Rattle.text.specs.Pick.{pick}
 
 abbrev others : List ℕ
 others = 9 ∷ 10 ∷ 11 ∷ 13 ∷ 15 ∷ 16 ∷ 24 ∷ 27 ∷ 32 ∷ 33 ∷ 34 ∷ []
@@ -41,7 +42,7 @@ module _ (sh : Hole → Option (List ℕ)) (nothing : sh texts.empty ≡ some []
   found [] h = refl
   found (c ∷ cs) h = go (eqb (c .code) n) refl (h .0) (found cs (h .1))
     where
-      go : (b : Bool) → eqb (c .code) n ≡ b → Plain c → textBy sh (codeOf cs n) form ≡ filledBy (formIn (codeOf cs n) form) (some (values [] [] [])) → textBy sh (pickCode b (some c) (codeOf cs n)) form ≡ filledBy (formIn (pickCode b (some c) (codeOf cs n)) form) (some (values [] [] []))
+      go : (b : Bool) → eqb (c .code) n ≡ b → Plain c → textBy sh (codeOf cs n) form ≡ filledBy (formIn (codeOf cs n) form) (some (values [] [] [])) → textBy sh (pick b (some c) (codeOf cs n)) form ≡ filledBy (formIn (pick b (some c) (codeOf cs n)) form) (some (values [] [] []))
       go true e (inl o) i = absurd (other (rw (eqb-true (c .code) n e) at o))
       go true e (inr z) i = rw (z .0, z .1 .0, z .1 .1, nothing)
       go false e p i = i

@@ -10,7 +10,7 @@ use lib.Dec.{eqb, ltb, leb}
 use lib.ListN.{length, getD, take, drop, length-drop}
 use lib.Seq.{length-take-le}
 use borrow.Author.Tests.{lt-ltb, le-ltb, le-leb, lt-leb, eq-eqb, ne-eqb, eqb-true, not-false}
-use Rattle.text.specs.Pick.{Part, both, either, cut}
+use Rattle.text.specs.Pick.{Part, both, either, cut, pick}
 use Rattle.tape.specs.Nodes.{Node, count, kindAt, markerAt, linkAt, isOpen, nodeAt}
 use Rattle.tape.specs.Forest.{Accepted, forest}
 use Rattle.table.specs.Bytes.{oneOf}
@@ -19,7 +19,7 @@ use Rattle.cursor.specs.Names.{nameOf}
 use Rattle.cursor.specs.Info.{infoAt, hasMarker, onlyFor}
 use Rattle.cursor.specs.Inner.{Spanned}
 use Rattle.cursor.proofs.Around.{spanned}
-use Rattle.numbers.specs.Label.{labelOf, isGlued, numbered, pickList}
+use Rattle.numbers.specs.Label.{labelOf, isGlued, numbered}
 use Rattle.definition.specs.Checks.{bookCode, numberMarkers}
 use Rattle.definition.specs.Milestones.{isStart, isEnd, baseOf}
 use Rattle.buffer.specs.Decimal.{decimal}
@@ -29,22 +29,22 @@ use Rattle.messages.specs.Message.{Asked, letter, labelIn, glued, nameIn
 use Rattle.messages.specs.Inner.{isTables, nameOr}
 
 -- a label, empty for a node that has none
-module _ (e : Option Entry) (x : Node) (label : List ℕ) (is : label ≡ pickList (numbered (x .kind)) (labelOf e (x .text)) []) where
+module _ (e : Option Entry) (x : Node) (label : List ℕ) (is : label ≡ pick (numbered (x .kind)) (labelOf e (x .text)) []) where
   pub label-there : (length label ≡ 0 → ⊥) → labelIn e x ≡ some label
   label-there h = go (numbered (x .kind)) refl
     where
       go : (b : Bool) → numbered (x .kind) ≡ b → labelIn e x ≡ some label
       go true k =
-          let z : label ≡ labelOf e (x .text) = is ∙ ap (λ (b : Bool). pickList b (labelOf e (x .text)) []) k in
+          let z : label ≡ labelOf e (x .text) = is ∙ ap (λ (b : Bool). pick b (labelOf e (x .text)) []) k in
           rw (← z, k, ne-eqb (length label) 0 h)
-      go false k = absurd (h (ap length (is ∙ ap (λ (b : Bool). pickList b (labelOf e (x .text)) []) k)))
+      go false k = absurd (h (ap length (is ∙ ap (λ (b : Bool). pick b (labelOf e (x .text)) []) k)))
 
   pub label-lacks : length label ≡ 0 → labelIn e x ≡ none
   label-lacks h = go (numbered (x .kind)) refl
     where
       go : (b : Bool) → numbered (x .kind) ≡ b → labelIn e x ≡ none
       go true k =
-          let z : label ≡ labelOf e (x .text) = is ∙ ap (λ (b : Bool). pickList b (labelOf e (x .text)) []) k in
+          let z : label ≡ labelOf e (x .text) = is ∙ ap (λ (b : Bool). pick b (labelOf e (x .text)) []) k in
           rw (← z, k, eq-eqb (length label) 0 h)
       go false k = rw k
 
@@ -64,7 +64,7 @@ module _ (table s t : List ℕ) (q : Asked) where
   unfolding shownOf
   far-letter h = rw (lt-leb (q .second) 127 h)
 
-  module _ (label : List ℕ) (is : label ≡ pickList (numbered (kindAt t (q .node))) (labelOf e (x .text)) []) where
+  module _ (label : List ℕ) (is : label ≡ pick (numbered (kindAt t (q .node))) (labelOf e (x .text)) []) where
     pub verse-lacks : q .second ≤ 127 → length label ≡ 0 → three (shown table s t q texts.position) (shown table s t q texts.label) (shown table s t q texts.empty) ≡ none
     unfolding shownOf
     verse-lacks h k = rw (le-leb (q .second) 127 h, label-lacks e x label is k)

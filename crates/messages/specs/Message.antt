@@ -5,7 +5,7 @@ use mathlib.Core.List.{List, [], _∷_, _++_}
 use mathlib.Core.Option.{Option, some, none}
 use lib.Dec.{eqb, ltb, leb}
 use lib.ListN.{length, getD, take}
-use Rattle.text.specs.Pick.{both, either, cut}
+use Rattle.text.specs.Pick.{both, either, cut, pick}
 use Rattle.text.specs.Literal.{ascii}
 use Rattle.tape.specs.Nodes.{Node, count, linkAt, isOpen, nodeAt}
 use Rattle.tape.specs.Forest.{forest}
@@ -104,10 +104,6 @@ abbrev pub textBy : (Hole → Option (List ℕ)) → Option Code → ℕ → Opt
 textBy shown none form = none
 textBy shown (some c) form = filledBy (formOf (c .forms) form) (three (shown (c .h1)) (shown (c .h2)) (shown (c .h3)))
 
-abbrev pub pickText : Bool → Option (List ℕ) → Option (List ℕ) → Option (List ℕ)
-pickText true a b = a
-pickText false a b = b
-
 -- the text, or none: "code and form unknown to validate.rs, node or owner not on the tape, letter over 127, or the node lacks what the text needs"
 unfoldable pub messageText : List ℕ → List ℕ → List ℕ → Asked → Option (List ℕ)
-messageText table s t q = pickText (ltb (q .node) (count t)) (textBy (shown table s t q) (codeOf allTexts (q .code)) (q .form)) none
+messageText table s t q = pick (ltb (q .node) (count t)) (textBy (shown table s t q) (codeOf allTexts (q .code)) (q .form)) none

@@ -9,6 +9,7 @@ use Rattle.tape.specs.Reading.{Refusal, orElse}
 use Rattle.definition.specs.Outcome.{Lent, of1, of2, of3, ofTape, of9}
 use Rattle.buffer.specs.Over.{over}
 use Rattle.messages.specs.Message.{Asked, messageText}
+use Rattle.text.specs.Pick.{pick}
 
 -- a document, with nothing else lent
 abbrev pub document : List ℕ → List ℕ → List ℕ → Lent
@@ -25,13 +26,9 @@ pub data Told : Type 0 where
   laid : ℕ → Told
 
 -- 13: "Message list too short; place: length needed."
-abbrev pub pickTold : Bool → Told → Told → Told
-pickTold true a b = a
-pickTold false a b = b
-
 abbrev pub byRoom : Option (List ℕ) → ℕ → Told
 byRoom none room = refused (record { number = 12; place = 0 })
-byRoom (some text) room = pickTold (ltb room (length text)) (refused (record { number = 13; place = length text })) (laid (length text))
+byRoom (some text) room = pick (ltb room (length text)) (refused (record { number = 13; place = length text })) (laid (length text))
 
 abbrev pub toldBy : Option Refusal → Option (List ℕ) → ℕ → Told
 toldBy (some r) text room = refused r
@@ -41,14 +38,10 @@ abbrev pub told : List ℕ → List ℕ → List ℕ → Asked → List ℕ → 
 told table s t q out = toldBy (firstNine table s t) (messageText table s t q) (length out)
 
 -- "from the list's start, with their length; bytes beyond are untouched"; a refusal writes nothing
-abbrev pub pickBytes : Bool → List ℕ → List ℕ → List ℕ
-pickBytes true a b = a
-pickBytes false a b = b
-
 abbrev pub bytesBy : Option Refusal → Option (List ℕ) → List ℕ → List ℕ
 bytesBy (some r) text out = out
 bytesBy none none out = out
-bytesBy none (some text) out = pickBytes (ltb (length out) (length text)) out (over out 0 text)
+bytesBy none (some text) out = pick (ltb (length out) (length text)) out (over out 0 text)
 
 abbrev pub bytesAfter : List ℕ → List ℕ → List ℕ → Asked → List ℕ → List ℕ
 bytesAfter table s t q out = bytesBy (firstNine table s t) (messageText table s t q) out

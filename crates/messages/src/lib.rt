@@ -8,14 +8,14 @@ ghost use mathlib.Core.Option.{none};
 ghost use Prim.Native.Nat.{ℕ, _-_, _<_, _≤_};
 ghost use lib.Dec.{eqb};
 ghost use lib.ListN.{length, getD, take};
-ghost use Rattle.text.specs.Pick.{either};
+ghost use Rattle.text.specs.Pick.{either, pick};
 ghost use Rattle.tape.specs.Nodes.{count, kindAt, nodeAt};
 ghost use Rattle.tape.specs.Forest.{Accepted};
 ghost use Rattle.table.specs.Entries.{Indexed};
 ghost use Rattle.cursor.specs.Names.{nameOf};
 ghost use Rattle.cursor.specs.Info.{infoAt};
 ghost use Rattle.cursor.specs.Inner.{Spanned};
-ghost use Rattle.numbers.specs.Label.{labelOf, numbered, pickList};
+ghost use Rattle.numbers.specs.Label.{labelOf, numbered};
 ghost use Rattle.definition.specs.Milestones.{endsIn};
 ghost use Rattle.buffer.specs.Decimal.{decimal};
 ghost use Rattle.messages.specs.Message.{letter, unitOf, messageText};
@@ -58,7 +58,7 @@ fn name_shown<'a, 'b, 'c>(
     code: u64,
 ) -> &'a [u8]
     requires { ⌜ (Indexed (now table) (now words) entries) × Spanned (now source) (now tape) i ⌝ }
-    ensures { λ r. ⌜ now r ≡ pickList (isTables code) (nameOr (now (table .entry)) (infoAt (now (table .entry)) (now (tape .entry)) i)) (nameOf (nodeAt (now (source .entry)) (now (tape .entry)) i .text)) ⌝ }
+    ensures { λ r. ⌜ now r ≡ pick (isTables code) (nameOr (now (table .entry)) (infoAt (now (table .entry)) (now (tape .entry)) i)) (nameOf (nodeAt (now (source .entry)) (now (tape .entry)) i .text)) ⌝ }
 {
     if !shows_entry(code) {
         return cursor::marker_name(source, tape, i);
@@ -79,7 +79,7 @@ fn label_shown<'a, 'b, 'c, 'd>(
     i: usize,
 ) -> &'a [u8]
     requires { ⌜ Readable (now table) (now words) entries (now source) (now tape) i ⌝ }
-    ensures { λ r. ⌜ now r ≡ pickList (numbered (kindAt (now (tape .entry)) i)) (labelOf (infoAt (now (table .entry)) (now (tape .entry)) i) (nodeAt (now (source .entry)) (now (tape .entry)) i .text)) [] ⌝ }
+    ensures { λ r. ⌜ now r ≡ pick (numbered (kindAt (now (tape .entry)) i)) (labelOf (infoAt (now (table .entry)) (now (tape .entry)) i) (nodeAt (now (source .entry)) (now (tape .entry)) i .text)) [] ⌝ }
 {
     if !numbers::is_numbered(tape::kind_at(tape, i)) {
         return &source[..0];

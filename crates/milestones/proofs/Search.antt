@@ -6,14 +6,14 @@ use mathlib.Core.Path.{_≡_, refl, sym, ap, _∙_}
 use mathlib.Core.Bool.{Bool, true, false}
 use mathlib.Core.List.{List, [], _∷_}
 use lib.ListN.{getD}
-use Rattle.text.specs.Pick.{either}
+use Rattle.text.specs.Pick.{either, pick}
 use Rattle.tape.specs.Nodes.{Node, nodeAt}
 use Rattle.table.specs.Bytes.{equal}
-use Rattle.definition.specs.Milestones.{baseOf, sameBase, waits, pickNodes, without}
+use Rattle.definition.specs.Milestones.{baseOf, sameBase, waits, without}
 use Rattle.state.specs.Running.{starts, Opens}
 use Rattle.definition.specs.Outcome.{noStart}
 use Rattle.definition.specs.declared.OpenStart.{OpenStart}
-use Rattle.milestones.specs.Inner.{Measured, pickFound, nearestIn}
+use Rattle.milestones.specs.Inner.{Measured, nearestIn}
 use Rattle.milestones.specs.declared.Found.{Found}
 use Rattle.milestones.specs.declared.Found.the-variants.{At, Nothing}
 
@@ -24,7 +24,7 @@ module _ (s t : List ℕ) (opens : List OpenStart) (j : ℕ) (base : List ℕ) w
   nowhere h = let e : j ≡ 0 = omega arith in rw e
 
   module _ (h : 0 < j) where
-    turn : nearestIn s t opens j base ≡ pickFound (equal (baseOf (nodeAt s t (getD opens (j - 1) noStart .node))) base) (At (j - 1)) (nearestIn s t opens (j - 1) base)
+    turn : nearestIn s t opens j base ≡ pick (equal (baseOf (nodeAt s t (getD opens (j - 1) noStart .node))) base) (At (j - 1)) (nearestIn s t opens (j - 1) base)
     unfolding nearestIn
     turn = let e : j ≡ suc (j - 1) = omega arith in ap (λ (n : ℕ). nearestIn s t opens n base) e
 
@@ -51,7 +51,7 @@ module _ (s t : List ℕ) (opens : List OpenStart) (base : List ℕ) where
   found-inside zero at e = nothing-at at e
   found-inside (suc k) at e = go (equal (baseOf (nodeAt s t (getD opens k noStart .node))) base) e (found-inside k at)
     where
-      go : (b : Bool) → pickFound b (At k) (nearestIn s t opens k base) ≡ At at → (nearestIn s t opens k base ≡ At at → at < k) → at < suc k
+      go : (b : Bool) → pick b (At k) (nearestIn s t opens k base) ≡ At at → (nearestIn s t opens k base ≡ At at → at < k) → at < suc k
       go true h f = let z : k ≡ at = cc in omega arith
       go false h f = let z = f h in omega arith
 
@@ -61,7 +61,7 @@ module _ (s t : List ℕ) (opens : List OpenStart) (x : Node) where
   waits-found zero = refl
   waits-found (suc k) = go (sameBase (nodeAt s t (getD opens k noStart .node)) x) (waits-found k)
     where
-      go : (b : Bool) → waits x (starts s t opens k) ≡ isFound (nearestIn s t opens k (baseOf x)) → either b (waits x (starts s t opens k)) ≡ isFound (pickFound b (At k) (nearestIn s t opens k (baseOf x)))
+      go : (b : Bool) → waits x (starts s t opens k) ≡ isFound (nearestIn s t opens k (baseOf x)) → either b (waits x (starts s t opens k)) ≡ isFound (pick b (At k) (nearestIn s t opens k (baseOf x)))
       go true h = refl
       go false h = h
 
@@ -71,7 +71,7 @@ module _ (s t : List ℕ) (opens : List OpenStart) (x : Node) where
   none-taken zero e = refl
   none-taken (suc k) e = go (sameBase (nodeAt s t (getD opens k noStart .node)) x) e (none-taken k)
     where
-      go : (b : Bool) → pickFound b (At k) (nearestIn s t opens k (baseOf x)) ≡ Nothing → (nearestIn s t opens k (baseOf x) ≡ Nothing → without x (starts s t opens k) ≡ starts s t opens k) → pickNodes b (starts s t opens k) (nodeAt s t (getD opens k noStart .node) ∷ without x (starts s t opens k)) ≡ nodeAt s t (getD opens k noStart .node) ∷ starts s t opens k
+      go : (b : Bool) → pick b (At k) (nearestIn s t opens k (baseOf x)) ≡ Nothing → (nearestIn s t opens k (baseOf x) ≡ Nothing → without x (starts s t opens k) ≡ starts s t opens k) → pick b (starts s t opens k) (nodeAt s t (getD opens k noStart .node) ∷ without x (starts s t opens k)) ≡ nodeAt s t (getD opens k noStart .node) ∷ starts s t opens k
       go true h f = nothing-at k (sym h)
       go false h f = ap (λ (ys : List Node). nodeAt s t (getD opens k noStart .node) ∷ ys) (f h)
 
@@ -94,12 +94,12 @@ module _ (s t : List ℕ) (opens opens′ : List OpenStart) (at : ℕ) where
   unfolding without starts nearestIn
   one-taken x zero g e = go (sameBase (nodeAt s t (getD opens 0 noStart .node)) x) e
     where
-      go : (b : Bool) → pickFound b (At 0) Nothing ≡ At at → pickNodes b [] (nodeAt s t (getD opens 0 noStart .node) ∷ []) ≡ []
+      go : (b : Bool) → pick b (At 0) Nothing ≡ At at → pick b [] (nodeAt s t (getD opens 0 noStart .node) ∷ []) ≡ []
       go true h = refl
       go false h = nothing-at at h
   one-taken x (suc n) g e = go (sameBase (nodeAt s t (getD opens (suc n) noStart .node)) x) e (one-taken x n (fewer n g))
     where
-      go : (b : Bool) → pickFound b (At (suc n)) (nearestIn s t opens (suc n) (baseOf x)) ≡ At at → (nearestIn s t opens (suc n) (baseOf x) ≡ At at → without x (starts s t opens (suc n)) ≡ starts s t opens′ n) → pickNodes b (starts s t opens (suc n)) (nodeAt s t (getD opens (suc n) noStart .node) ∷ without x (starts s t opens (suc n))) ≡ starts s t opens′ (suc n)
+      go : (b : Bool) → pick b (At (suc n)) (nearestIn s t opens (suc n) (baseOf x)) ≡ At at → (nearestIn s t opens (suc n) (baseOf x) ≡ At at → without x (starts s t opens (suc n)) ≡ starts s t opens′ n) → pick b (starts s t opens (suc n)) (nodeAt s t (getD opens (suc n) noStart .node) ∷ without x (starts s t opens (suc n))) ≡ starts s t opens′ (suc n)
       go true h f = let z : suc n ≡ at = cc in sym (same-starts (suc n) (suc n) g (omega arith))
       go false h f =
           let l = found-inside s t opens (baseOf x) (suc n) at h in

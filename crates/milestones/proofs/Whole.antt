@@ -6,7 +6,7 @@ use mathlib.Core.Path.{_≡_, refl, sym, ap, subst, _∙_}
 use mathlib.Core.Bool.{Bool, true, false, not}
 use mathlib.Core.List.{List, [], _∷_, append-nil}
 use lib.ListN.{length, take, drop, set}
-use Rattle.text.specs.Pick.{both}
+use Rattle.text.specs.Pick.{both, pick}
 use Rattle.tape.specs.Nodes.{Node, nodeAt}
 use Rattle.table.specs.Entries.{Entry}
 use Rattle.cursor.specs.Inner.{Spanned}
@@ -14,7 +14,7 @@ use Rattle.findings.specs.Finding.{Finding}
 use Rattle.findings.specs.declared.Counts.{Counts}
 use Rattle.findings.specs.Written.{counted, overlay, only, Wrote, Room}
 use Rattle.definition.specs.Checks.{given, when, error}
-use Rattle.definition.specs.Milestones.{isStart, isMilestone, baseOf, waits, milestoneChecks, pickNodes, openAfter, without, withOpen, afterMilestone}
+use Rattle.definition.specs.Milestones.{isStart, isMilestone, baseOf, waits, milestoneChecks, openAfter, without, withOpen, afterMilestone}
 use Rattle.definition.specs.declared.OpenStart.{OpenStart}
 use Rattle.state.specs.Running.{starts, stateOf, countsOf, withCounts, Opens}
 use Rattle.state.specs.declared.Record.{Record}
@@ -79,7 +79,7 @@ module _ (e : Entry) (s t : List ℕ) (i : ℕ) (opens : List OpenStart) (l : Li
         verses = st .verses;
       }
 
-  stepped : (opens′ : List OpenStart) (n : ℕ) → starts s t opens′ n ≡ pickNodes (isMilestone e x) (openAfter (isStart x) x (starts s t opens (r .«open»))) (starts s t opens (r .«open»)) → Opens s t opens′ n → n ≤ r .«open» + 1 → Stepped e s t i opens r opens′ (withOpens r n)
+  stepped : (opens′ : List OpenStart) (n : ℕ) → starts s t opens′ n ≡ pick (isMilestone e x) (openAfter (isStart x) x (starts s t opens (r .«open»))) (starts s t opens (r .«open»)) → Opens s t opens′ n → n ≤ r .«open» + 1 → Stepped e s t i opens r opens′ (withOpens r n)
   unfolding afterMilestone
   stepped opens′ n p o′ h =
       record {

@@ -5,7 +5,7 @@ use mathlib.Core.Bool.{Bool, true, false}
 use mathlib.Core.List.{List, [], _∷_, _++_}
 use lib.Dec.{eqb}
 use lib.ListN.{length, getD, set, take, drop}
-use Rattle.text.specs.Pick.{both, either}
+use Rattle.text.specs.Pick.{both, either, pick}
 use Rattle.tape.specs.Nodes.{nodeAt}
 use Rattle.table.specs.Bytes.{equal}
 use Rattle.table.specs.Entries.{Entry}
@@ -37,14 +37,10 @@ pub record Measured (s t : List ℕ) (node len : ℕ) : Type 0 where
   pub spanned : Spanned s t node
   pub is : len ≡ length (baseOf (nodeAt s t node))
 
-abbrev pub pickFound : Bool → Found → Found → Found
-pickFound true a b = a
-pickFound false a b = b
-
 -- the latest of the first k entries with the base
 unfoldable pub nearestIn : List ℕ → List ℕ → List OpenStart → ℕ → List ℕ → Found
 nearestIn s t opens zero base = Nothing
-nearestIn s t opens (suc k) base = pickFound (equal (baseOf (nodeAt s t (getD opens k noStart .node))) base) (At k) (nearestIn s t opens k base)
+nearestIn s t opens (suc k) base = pick (equal (baseOf (nodeAt s t (getD opens k noStart .node))) base) (At k) (nearestIn s t opens k base)
 
 -- the later ones of the first k entries each moved down by one, from an entry on
 unfoldable pub removed : List OpenStart → ℕ → ℕ → List OpenStart

@@ -10,7 +10,6 @@ use native.Mathlib.Numerals.{add-one}
 use native.Mathlib.Omega.{arith}
 use lib.ListN.{length, getD, set, take, drop, length-set, drop-of-length-le}
 use lib.Seq.{take-suc, take-set-le, getD-set-same, drop-cons}
-use Rattle.text.specs.Pick.{pickNat}
 use Rattle.tape.specs.Nodes.{count, kindAt}
 use Rattle.tape.specs.Reading.{Refusal, refuse, onlyIf, orElse, firstBad}
 use Rattle.tape.specs.Forest.{Accepted}
@@ -18,16 +17,17 @@ use Rattle.cursor.specs.Inner.{Spanned}
 use Rattle.cursor.proofs.Around.{spanned}
 use Rattle.numbers.specs.Label.{numbered, badLabel}
 use Rattle.numbers.specs.Inner.{keptIf, numbersIn, firstAmong}
+use Rattle.text.specs.Pick.{pick}
 
 -- one node more is written behind those that are kept, and kept or not
-kept-turn : (x : Bool) (found : List ℕ) (k i : ℕ) (l : List ℕ) → k < length found → take (k + pickNat x 1 0) (set found k i) ++ l ≡ take k found ++ keptIf x i l
+kept-turn : (x : Bool) (found : List ℕ) (k i : ℕ) (l : List ℕ) → k < length found → take (k + pick x 1 0) (set found k i) ++ l ≡ take k found ++ keptIf x i l
 kept-turn false found k i l h = rw (add-zero, take-set-le k found k i (omega arith))
 kept-turn true found k i l h =
     let e = take-suc (set found k i) k 0 (rw length-set (omega arith)) in
     rw (add-one, e, take-set-le k found k i (omega arith), getD-set-same found k i 0 h, append-assoc)
 
 pub gathered : (t found : List ℕ) (k i to : ℕ) (x : Bool) → k < length found → i < to → x ≡ numbered (kindAt t i)
-    → take (k + pickNat x 1 0) (set found k i) ++ numbersIn t (i + 1) (to - (i + 1)) ≡ take k found ++ numbersIn t i (to - i)
+    → take (k + pick x 1 0) (set found k i) ++ numbersIn t (i + 1) (to - (i + 1)) ≡ take k found ++ numbersIn t i (to - i)
 unfolding numbersIn
 gathered t found k i to x h l e =
     let n : to - i ≡ suc (to - (i + 1)) = omega arith in

@@ -13,7 +13,7 @@ use borrow.Author.Tests.{not-true, not-false, lt-ltb, le-ltb}
 use lib.Dec.{ltb}
 use lib.ListN.{length, getD, take, drop, length-take, length-drop}
 use lib.Seq.{length-take-le, take-add, drop-at, drop-drop, getD-take, getD-drop}
-use Rattle.text.specs.Pick.{both, cut, end, within}
+use Rattle.text.specs.Pick.{both, cut, end, within, pick}
 use Rattle.text.specs.Utf8.{decode}
 use Rattle.text.specs.Blank.{blank}
 use Rattle.text.specs.Characters.{find, starts}
@@ -37,7 +37,7 @@ use Rattle.cursor.specs.Inner.{Named}
 use Rattle.cursor.proofs.Named.{one-hit, one-miss, is-plain, name-cut, name-solid}
 use Rattle.numbers.specs.declared.LabelSpan.{LabelSpan}
 use Rattle.numbers.specs.Inner.{splitAt, Labelled, LabelledBy, Usual}
-use Rattle.numbers.specs.Label.{baseLen, isGlued, pickList, labelOf, splits, numbered, badLabel, labelRefusal}
+use Rattle.numbers.specs.Label.{baseLen, isGlued, labelOf, splits, numbered, badLabel, labelRefusal}
 
 pub base-own : (m : Info) (name : List ℕ) → m ≡ info.Missing → length name ≡ baseLen (infoOf m) name
 base-own m name h = rw h refl
@@ -72,7 +72,7 @@ module _ (s : List ℕ) (at : NameSpan) (base : ℕ) (named : Named s at) where
   longer : (v : Bool) → ltb base (length name) ≡ v → v ≡ ltb base (length (nameOf s))
   longer v h = sym h ∙ ap (λ (x : List ℕ). ltb base (length x)) (name-cut s at named)
 
-  label-by : (v : Bool) (l : List ℕ) → ltb base (length name) ≡ v → l ≡ pickList v (drop base name) (cut (secondWord s) s) → l ≡ pickList (ltb base (length (nameOf s))) (drop base (nameOf s)) (cut (secondWord s) s)
+  label-by : (v : Bool) (l : List ℕ) → ltb base (length name) ≡ v → l ≡ pick v (drop base name) (cut (secondWord s) s) → l ≡ pick (ltb base (length (nameOf s))) (drop base (nameOf s)) (cut (secondWord s) s)
   label-by v l h e = e ∙ rw (longer v h, name-cut s at named)
 
   pub in-name : base < length name → LabelledBy base s (record { start = at .start + base; end = at .end; glued = true })

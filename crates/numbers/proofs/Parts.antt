@@ -9,7 +9,7 @@ use native.Mathlib.Omega.{arith}
 use borrow.Author.Tests.{lt-ltb, le-ltb, ltb-true, ne-eqb}
 use lib.Dec.{leb, eqb}
 use lib.ListN.{length, take, drop, getD}
-use Rattle.text.specs.Pick.{both, pickNat, pickOption, within, cut}
+use Rattle.text.specs.Pick.{both, within, cut, pick}
 use Rattle.text.specs.declared.Parsed.{Parsed}
 use Rattle.text.specs.declared.Parsed.the-variants as parsed
 use Rattle.text.specs.Characters.{findByte}
@@ -20,7 +20,7 @@ use Rattle.text.proofs.Cuts.{rest-all}
 use Rattle.numbers.specs.declared.Suffix.{Suffix}
 use Rattle.numbers.specs.declared.Suffix.the-variants.{Letter, None}
 use Rattle.numbers.specs.declared.VersePart.{VersePart}
-use Rattle.numbers.specs.Verse.{Position, Readable, letterOf, withLetter, digitsEnd, partOf, versePart, verseEnd, next, nextBy, noEarlier, otherNumber, inSequence, pickBool, suffixOf, positionOf, letterLow}
+use Rattle.numbers.specs.Verse.{Position, Readable, letterOf, withLetter, digitsEnd, partOf, versePart, verseEnd, next, nextBy, noEarlier, otherNumber, inSequence, suffixOf, positionOf, letterLow}
 
 -- the order of letters
 pub letters : (e a : Suffix) (x y : ℕ) → e ≡ Letter x → a ≡ Letter y → leb x y ≡ noEarlier (suffixOf e) (suffixOf a)
@@ -34,7 +34,7 @@ pub lettered : (e l : Suffix) (b n m : ℕ) (v : Bool) → e ≡ None → l ≡ 
 lettered e l b n m v p q h = rw p (rw q (rw h refl))
 
 -- the sequence, by whether the numbers are equal
-pub sequence : (e a : VersePart) (v x : Bool) → eqb (a .num) (e .num) ≡ v → x ≡ pickBool v (noEarlier (suffixOf (e .suffix)) (suffixOf (a .suffix))) (otherNumber (suffixOf (e .suffix)) (e .num) (suffixOf (a .suffix)) (a .num)) → x ≡ inSequence (positionOf e) (positionOf a)
+pub sequence : (e a : VersePart) (v x : Bool) → eqb (a .num) (e .num) ≡ v → x ≡ pick v (noEarlier (suffixOf (e .suffix)) (suffixOf (a .suffix))) (otherNumber (suffixOf (e .suffix)) (e .num) (suffixOf (a .suffix)) (a .num)) → x ≡ inSequence (positionOf e) (positionOf a)
 unfolding inSequence
 sequence e a v x h y = rw h y
 
@@ -51,9 +51,9 @@ pub no-letter : (s : List ℕ) → length s ≡ 0 → none ≡ letterOf s
 no-letter [] h = refl
 no-letter (b ∷ s) h = absurd (omega (arith, h))
 
-pub letter-by : (s : List ℕ) (x v : Bool) → (length s ≡ 0 → ⊥) → x ≡ within 0x61 0x7A (getD s 0 0) → x ≡ v → pickOption v (some (getD s 0 0)) none ≡ letterOf s
+pub letter-by : (s : List ℕ) (x v : Bool) → (length s ≡ 0 → ⊥) → x ≡ within 0x61 0x7A (getD s 0 0) → x ≡ v → pick v (some (getD s 0 0)) none ≡ letterOf s
 letter-by [] x v l e h = absurd (l refl)
-letter-by (b ∷ s) x v l e h = ap (λ (t : Bool). pickOption t (some b) none) (sym h ∙ e)
+letter-by (b ∷ s) x v l e h = ap (λ (t : Bool). pick t (some b) none) (sym h ∙ e)
 
 -- a run of digits has no `+` before it
 no-plus : (b : ℕ) → digit b ≡ true → eqb b 0x2B ≡ false
@@ -64,7 +64,7 @@ unfolding findByte number.parsed digits
 digits-parsed [] = refl
 digits-parsed (b ∷ t) = go (digit b) refl
   where
-    go : (v : Bool) → digit b ≡ v → number.parsed (take (pickNat (not v) 0 (suc (digitsEnd t))) (b ∷ t)) ≡ digits (take (pickNat (not v) 0 (suc (digitsEnd t))) (b ∷ t))
+    go : (v : Bool) → digit b ≡ v → number.parsed (take (pick (not v) 0 (suc (digitsEnd t))) (b ∷ t)) ≡ digits (take (pick (not v) 0 (suc (digitsEnd t))) (b ∷ t))
     go true h = rw (no-plus b h) refl
     go false h = refl
 

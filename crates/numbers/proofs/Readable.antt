@@ -9,13 +9,13 @@ use native.Mathlib.Omega.{arith}
 use borrow.Author.Tests.{lt-ltb, leb-true}
 use lib.Dec.{leb}
 use lib.ListN.{take, drop}
-use Rattle.text.specs.Pick.{both, pickOption, within, cut}
+use Rattle.text.specs.Pick.{both, within, cut, pick}
 use Rattle.text.specs.Words.{trimStart}
 use Rattle.text.specs.Number.{allDigits, valueFrom, digits, digitsFrom}
 use Rattle.text.proofs.Rows.{both-right, within-hi}
 use Rattle.numbers.specs.Verse.{Position, Readable, letterOf, letterLow, withLetter, digitsEnd, partOf, versePart, endStart, verseEnd}
 
-picked : (c : Bool) (v n : ℕ) → pickOption c (some v) none ≡ some n → (c ≡ true) × (v ≡ n)
+picked : (c : Bool) (v n : ℕ) → pick c (some v) none ≡ some n → (c ≡ true) × (v ≡ n)
 picked true v n h = (refl, Option·some-injective v n h)
 picked false v n h = absurd (Option·none-ne-some n h)
 
@@ -31,7 +31,7 @@ low-letter : (s : List ℕ) → letterLow (letterOf s) ≡ true
 low-letter [] = refl
 low-letter (b ∷ s) = go (within 0x61 0x7A b) refl
   where
-    go : (v : Bool) → within 0x61 0x7A b ≡ v → letterLow (pickOption v (some b) none) ≡ true
+    go : (v : Bool) → within 0x61 0x7A b ≡ v → letterLow (pick v (some b) none) ≡ true
     go true h = let l = within-hi 0x61 0x7A b h in lt-ltb b 255 (omega arith)
     go false h = refl
 

@@ -6,7 +6,7 @@ use mathlib.Core.List.{List, [], _∷_}
 use mathlib.Core.Option.{Option, none}
 use lib.Dec.{ltb}
 use lib.ListN.{length, getD, take, drop}
-use Rattle.text.specs.Pick.{both, within, cut}
+use Rattle.text.specs.Pick.{both, within, cut, pick}
 use Rattle.text.specs.Characters.{starts}
 use Rattle.tape.specs.Nodes.{kindAt}
 use Rattle.tape.specs.Reading.{Refusal, refuse, onlyIf, orElse}
@@ -14,7 +14,7 @@ use Rattle.table.specs.Entries.{Entry}
 use Rattle.cursor.specs.Names.{nameOf}
 use Rattle.numbers.specs.declared.LabelSpan.{LabelSpan}
 use Rattle.text.specs.Words.{secondWord}
-use Rattle.numbers.specs.Label.{isGlued, labelOf, pickList, numbered}
+use Rattle.numbers.specs.Label.{isGlued, labelOf, numbered}
 
 -- the name is longer, and that length splits a character of it
 abbrev pub splitAt : List ℕ → ℕ → Bool
@@ -30,7 +30,7 @@ pub record Labelled (e : Option Entry) (s : List ℕ) (r : LabelSpan) : Type 0 w
 -- the same where the table's name has so many bytes
 pub record LabelledBy (base : ℕ) (s : List ℕ) (r : LabelSpan) : Type 0 where
   pub is-glued : r .glued ≡ ltb base (length (nameOf s))
-  pub is-label : take (r .end - r .start) (drop (r .start) s) ≡ pickList (ltb base (length (nameOf s))) (drop base (nameOf s)) (cut (secondWord s) s)
+  pub is-label : take (r .end - r .start) (drop (r .start) s) ≡ pick (ltb base (length (nameOf s))) (drop base (nameOf s)) (cut (secondWord s) s)
   pub ordered : r .start ≤ r .end
   pub inside : r .end ≤ length s
 

@@ -5,7 +5,7 @@ use mathlib.Core.List.{List}
 use mathlib.Core.Option.{Option, some, none}
 use lib.Dec.{eqb, ltb}
 use lib.ListN.{length, drop}
-use Rattle.text.specs.Pick.{both, either, cut}
+use Rattle.text.specs.Pick.{both, either, cut, pick}
 use Rattle.text.specs.Characters.{starts}
 use Rattle.text.specs.Words.{secondWord}
 use Rattle.tape.specs.Nodes.{count, kindAt, span}
@@ -25,13 +25,9 @@ baseLen (some e) name = e .name .len
 abbrev pub isGlued : Option Entry → List ℕ → Bool
 isGlued e name = ltb (baseLen e name) (length name)
 
-abbrev pub pickList : Bool → List ℕ → List ℕ → List ℕ
-pickList true a b = a
-pickList false a b = b
-
 -- of a node's entry and its text
 unfoldable pub labelOf : Option Entry → List ℕ → List ℕ
-labelOf e text = pickList (isGlued e (nameOf text)) (drop (baseLen e (nameOf text)) (nameOf text)) (cut (secondWord text) text)
+labelOf e text = pick (isGlued e (nameOf text)) (drop (baseLen e (nameOf text)) (nameOf text)) (cut (secondWord text) text)
 
 -- "longer than its table name and the cut splits a character"
 unfoldable pub splits : Option Entry → List ℕ → Bool

@@ -6,7 +6,7 @@ use mathlib.Core.Option.{Option, some, none}
 use mathlib.Core.Path.{_≡_}
 use lib.Dec.{leb, eqb, ltb}
 use lib.ListN.{length, take, drop}
-use Rattle.text.specs.Pick.{both, pickNat, pickOption, within, cut}
+use Rattle.text.specs.Pick.{both, within, cut, pick}
 use Rattle.text.specs.Characters.{findByte}
 use Rattle.text.specs.Words.{trimStart}
 use Rattle.text.specs.Number.{digit, digits}
@@ -23,7 +23,7 @@ pub record Position : Type 0 where
 -- "then one ASCII lower-case letter if next"
 abbrev pub letterOf : List ℕ → Option ℕ
 letterOf [] = none
-letterOf (b ∷ s) = pickOption (within 0x61 0x7A b) (some b) none
+letterOf (b ∷ s) = pick (within 0x61 0x7A b) (some b) none
 
 abbrev pub withLetter : Option ℕ → Option ℕ → Option Position
 withLetter none l = none
@@ -43,7 +43,7 @@ versePart s = partOf (cut (trimStart s) s)
 
 -- the byte after the first `-`, or the start
 abbrev pub endStart : List ℕ → ℕ
-endStart s = pickNat (ltb (findByte (eqb 0x2D) s) (length s)) (findByte (eqb 0x2D) s + 1) 0
+endStart s = pick (ltb (findByte (eqb 0x2D) s) (length s)) (findByte (eqb 0x2D) s + 1) 0
 
 -- "The end is read after the first `-`, else the start serves."
 unfoldable pub verseEnd : List ℕ → Option Position
@@ -69,13 +69,9 @@ otherNumber (some a) e l n = eqb n (e + 1)
 otherNumber none e none n = false
 otherNumber none e (some b) n = both (leb 1 n) (eqb (n + 1) e)
 
-abbrev pub pickBool : Bool → Bool → Bool → Bool
-pickBool true a b = a
-pickBool false a b = b
-
 -- "Sequence as `is_valid_verse_sequence`": the expected position, and the one that stands there
 unfoldable pub inSequence : Position → Position → Bool
-inSequence e a = pickBool (eqb (a .number) (e .number)) (noEarlier (e .letter) (a .letter)) (otherNumber (e .letter) (e .number) (a .letter) (a .number))
+inSequence e a = pick (eqb (a .number) (e .number)) (noEarlier (e .letter) (a .letter)) (otherNumber (e .letter) (e .number) (a .letter) (a .number))
 
 -- what the code's values say
 abbrev pub suffixOf : Suffix → Option ℕ

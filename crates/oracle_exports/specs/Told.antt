@@ -3,7 +3,7 @@ use Prim.Native.Nat.{ℕ, zero, suc}
 use mathlib.Core.Bool.{Bool, true, false}
 use mathlib.Core.Option.{Option, some, none}
 use lib.Dec.{leb, ltb}
-use Rattle.text.specs.Pick.{both}
+use Rattle.text.specs.Pick.{both, pick}
 use Rattle.numbers.specs.Verse.{Position, next}
 use Rattle.rows.specs.Cells.{Range}
 
@@ -30,13 +30,9 @@ positionTold n (suc b) = record { number = n; letter = some (suc b) }
 abbrev pub low : ℕ → Bool
 low n = leb n 4294967296
 
-abbrev pub pickPosition : Bool → Position → Position → Position
-pickPosition true a b = a
-pickPosition false a b = b
-
 -- the position after the one that is told, where a label can have that one and a letter has a byte after it; else itself
 abbrev pub nextTold : ℕ → ℕ → Position
-nextTold n b = pickPosition (both (leb n 4294967295) (ltb b 255)) (next (positionTold n b)) (positionTold n b)
+nextTold n b = pick (both (leb n 4294967295) (ltb b 255)) (next (positionTold n b)) (positionTold n b)
 
 -- the first and the last column of a cell
 abbrev pub startTold : Option Range → ℕ

@@ -8,14 +8,14 @@ use mathlib.Core.Option.{Option, some, none}
 use native.Mathlib.Omega.{arith}
 use borrow.Author.Tests.{lt-ltb, le-ltb, not-true, not-false}
 use lib.ListN.{length, getD, take, drop}
-use Rattle.text.specs.Pick.{either, pickNat}
+use Rattle.text.specs.Pick.{either, pick}
 use Rattle.text.specs.Number.{parsed, numberOf}
 use Rattle.text.specs.declared.Parsed.{Parsed}
 use Rattle.text.specs.declared.Parsed.the-variants.{Value}
 use Rattle.text.proofs.Cuts.{rest-all}
 use Rattle.table.specs.Bytes.{starting}
 use Rattle.table.proofs.Words.{starts-long}
-use Rattle.rows.specs.Cells.{Range, isCell, isAligned, afterLetters, pair, pickRange, hyphen, columnsIn, cellColumns}
+use Rattle.rows.specs.Cells.{Range, isCell, isAligned, afterLetters, pair, hyphen, columnsIn, cellColumns}
 
 pub short-plain : (s : List ℕ) → length s ≤ 2 → false ≡ isAligned s
 short-plain [] h = refl
@@ -29,8 +29,8 @@ aligned-long (a ∷ []) h = absurd (false≢true h)
 aligned-long (a ∷ b ∷ []) h = absurd (false≢true h)
 aligned-long (a ∷ b ∷ c ∷ s) h = omega arith
 
-pub letters-cut : (s : List ℕ) (x v : Bool) → x ≡ isAligned s → x ≡ v → take (length s - pickNat v 3 2) (drop (pickNat v 3 2) s) ≡ afterLetters s
-letters-cut s x v e h = rest-all s (pickNat v 3 2) ∙ ap (λ (w : Bool). drop (pickNat w 3 2) s) (sym h ∙ e)
+pub letters-cut : (s : List ℕ) (x v : Bool) → x ≡ isAligned s → x ≡ v → take (length s - pick v 3 2) (drop (pick v 3 2) s) ≡ afterLetters s
+letters-cut s x v e h = rest-all s (pick v 3 2) ∙ ap (λ (w : Bool). drop (pick w 3 2) s) (sym h ∙ e)
 
 -- a cell's name has two letters at least
 pub cell-long : (s : List ℕ) → isCell s ≡ true → 2 ≤ length s

@@ -5,7 +5,7 @@ use mathlib.Core.List.{List, [], _∷_}
 use mathlib.Core.Option.{Option, some, none}
 use lib.Dec.{eqb, ltb}
 use lib.ListN.{length, getD, take, drop}
-use Rattle.text.specs.Pick.{either, pickNat}
+use Rattle.text.specs.Pick.{either, pick}
 use Rattle.text.specs.Characters.{findByte}
 use Rattle.text.specs.Number.{parsed}
 use Rattle.table.specs.Bytes.{starting}
@@ -28,16 +28,12 @@ isAligned name = either (eqb (getD name 2 0) 0x72) (eqb (getD name 2 0) 0x63)
 
 -- what stands after the name's letters
 abbrev pub afterLetters : List ℕ → List ℕ
-afterLetters name = drop (pickNat (isAligned name) 3 2) name
+afterLetters name = drop (pick (isAligned name) 3 2) name
 
 abbrev pub pair : Option ℕ → Option ℕ → Option Range
 pair none b = none
 pair (some a) none = none
 pair (some a) (some b) = some (record { start = a; end = b })
-
-abbrev pub pickRange : Bool → Option Range → Option Range → Option Range
-pickRange true a b = a
-pickRange false a b = b
 
 -- where the first `-` stands, or the length
 abbrev pub hyphen : List ℕ → ℕ
@@ -45,11 +41,11 @@ hyphen s = findByte (eqb 0x2D) s
 
 -- "`tc1`→(1,1), `tcr1-2`→(1,2)"
 unfoldable pub columnsIn : List ℕ → Option Range
-columnsIn s = pickRange (ltb (hyphen s) (length s)) (pair (parsed (take (hyphen s) s)) (parsed (drop (hyphen s + 1) s))) (pair (parsed s) (parsed s))
+columnsIn s = pick (ltb (hyphen s) (length s)) (pair (parsed (take (hyphen s) s)) (parsed (drop (hyphen s + 1) s))) (pair (parsed s) (parsed s))
 
 -- "`None` if it isn't a numbered table cell"
 unfoldable pub cellColumns : List ℕ → Option Range
-cellColumns name = pickRange (isCell name) (columnsIn (afterLetters name)) none
+cellColumns name = pick (isCell name) (columnsIn (afterLetters name)) none
 
 -- what the answer says
 abbrev pub rangeOf : Columns → Range

@@ -9,7 +9,8 @@ use Rattle.tape.specs.Forest.{Forest, end, leaf, node}
 use Rattle.cursor.specs.Names.{nameOf}
 use Rattle.findings.specs.Finding.{Finding}
 use Rattle.findings.specs.Written.{only}
-use Rattle.rows.specs.Cells.{Range, pickRange, cellColumns}
+use Rattle.rows.specs.Cells.{Range, cellColumns}
+use Rattle.text.specs.Pick.{pick}
 
 -- InvalidTableColumnSequence: "expected, found"
 abbrev pub outOfOrder : Node → ℕ → ℕ → Finding
@@ -27,7 +28,7 @@ outOfOrder x expected found =
 
 -- the columns of a node: of a marker, by its name as written
 abbrev pub cellIn : Node → Option Range
-cellIn x = pickRange (isOpen (x .kind)) (cellColumns (nameOf (x .text))) none
+cellIn x = pick (isOpen (x .kind)) (cellColumns (nameOf (x .text))) none
 
 -- what is found of a cell, and of the cells after it, by the column that is expected there
 abbrev pub byColumns : Option Range → Node → ℕ → (ℕ → List Finding) → List Finding

@@ -12,7 +12,7 @@ use lib.Dec.{eqb, ltb}
 use lib.ListN.{length, getD, take, drop, length-drop}
 use lib.Seq.{take-length, length-take-le, drop-drop}
 use borrow.Author.Tests.{eq-eqb, ne-eqb, ltb-true, ltb-false, eqb-true, eqb-false}
-use Rattle.text.specs.Pick.{both, pickNat}
+use Rattle.text.specs.Pick.{both, pick}
 use Rattle.text.specs.Scans.{fourBytes, eightBytes}
 use Rattle.text.proofs.Rows.{both-false, both-true, both-left, both-right, place}
 use Rattle.table.specs.Bytes.{equal, all, starting}
@@ -136,7 +136,7 @@ module _ (s : List ℕ) (r : ℕ) (p : Small s) (is : r ≡ headOf s) where
       rest : both (all (λ (b : ℕ). ltb b 256) h) (ltb 0 (eightBytes h 0)) ≡ true
       rest = both-right (eqb (length h) 8) _ e
 
-      go : (t : Bool) → ltb (length s) 8 ≡ t → eqb (eightBytes h 0) (pickNat t 0 (eightBytes s 0)) ≡ starting h s
+      go : (t : Bool) → ltb (length s) 8 ≡ t → eqb (eightBytes h 0) (pick t 0 (eightBytes s 0)) ≡ starting h s
       go true f =
           let some : 0 < eightBytes h 0 = ltb-true 0 (eightBytes h 0) (both-right (all (λ (b : ℕ). ltb b 256) h) _ rest) in
           ne-eqb (eightBytes h 0) 0 (omega arith) ∙ starts-short h s (omega (arith, long, ltb-true (length s) 8 f))
@@ -152,6 +152,6 @@ module _ (s : List ℕ) (r : ℕ) (p : Small s) (is : r ≡ headOf s) where
         long = λ some. go (ltb (length s) 8) refl is some;
       }
     where
-      go : (t : Bool) → ltb (length s) 8 ≡ t → r ≡ pickNat t 0 (eightBytes s 0) → 0 < r → 8 ≤ length s
+      go : (t : Bool) → ltb (length s) 8 ≡ t → r ≡ pick t 0 (eightBytes s 0) → 0 < r → 8 ≤ length s
       go true f g h = absurd (omega arith)
       go false f g h = ltb-false (length s) 8 f

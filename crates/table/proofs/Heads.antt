@@ -11,7 +11,7 @@ use lib.Dec.{eqb, leb, ltb, leb·suc-suc}
 use lib.ListN.{length, getD, take, drop, take-append-drop, List·getD-eq-default}
 use lib.Seq.{length-take-le}
 use borrow.Author.Tests.{lt-ltb, le-leb, lt-leb, eq-eqb, ne-eqb, eqb-true, eqb-false, not-true}
-use Rattle.text.specs.Pick.{both, within, pickOption}
+use Rattle.text.specs.Pick.{both, within, pick}
 use Rattle.text.specs.Characters.{findByte}
 use Rattle.text.specs.Scans.{eightBytes}
 use Rattle.text.proofs.Chars.{byte-le}
@@ -115,7 +115,7 @@ module _ (n : ℕ) (l : List ℕ) where
   unfolding codeFrom
   word-past k w ws h e = go (ltb (width l) (length l)) (equal w (take (width l) l)) (word-fills w l h ∙ e)
     where
-      go : (t u : Bool) → both t u ≡ false → stepBy t (pickOption u (some k) (codeFrom (suc k) ws (take (width l) l))) (n + width l + 1) ≡ stepBy t (codeFrom (suc k) ws (take (width l) l)) (n + width l + 1)
+      go : (t u : Bool) → both t u ≡ false → stepBy t (pick u (some k) (codeFrom (suc k) ws (take (width l) l))) (n + width l + 1) ≡ stepBy t (codeFrom (suc k) ws (take (width l) l)) (n + width l + 1)
       go true true f = absurd (false≢true (sym f))
       go true false f = refl
       go false u f = refl
@@ -173,7 +173,7 @@ module _ (l : List ℕ) (r : ℕ) (is : r ≡ findByte unnamed l) where
   name-not : eqb (getD l r 0) 10 ≡ false → step.Bad ≡ stepWith nameOf 5 l
   name-not e = go (ltb (width l) (length l)) (within 1 16 (length (take (width l) l))) (all nameByte (take (width l) l)) (name-fills l .0 ∙ rw is at e)
     where
-      go : (t u v : Bool) → both t v ≡ false → step.Bad ≡ stepBy t (pickOption (both u v) (some (length (take (width l) l))) none) (5 + width l + 1)
+      go : (t u v : Bool) → both t v ≡ false → step.Bad ≡ stepBy t (pick (both u v) (some (length (take (width l) l))) none) (5 + width l + 1)
       go true true true f = absurd (false≢true (sym f))
       go true false v f = refl
       go true true false f = refl
@@ -186,7 +186,7 @@ module _ (l : List ℕ) (r : ℕ) (is : r ≡ findByte unnamed l) where
   name-other h = name-not (ne-eqb (getD l r 0) 10 h)
 
   module _ (h : getD l r 0 ≡ 10) where
-    name-there : (t : Bool) → within 1 16 r ≡ t → stepBy true (pickOption t (some r) none) (r + 6) ≡ stepWith nameOf 5 l
+    name-there : (t : Bool) → within 1 16 r ≡ t → stepBy true (pick t (some r) none) (r + 6) ≡ stepWith nameOf 5 l
     name-there t e =
         let f : eqb (getD l (findByte unnamed l) 0) 10 ≡ true = rw is at (eq-eqb (getD l r 0) 10 h) in
         let g = name-fills l .0 ∙ f in
@@ -197,7 +197,7 @@ module _ (l : List ℕ) (r : ℕ) (is : r ≡ findByte unnamed l) where
         let next : 5 + r + 1 ≡ r + 6 = omega arith in
         rw (ends, named, size, wide, next, e) (go t)
       where
-        go : (t : Bool) → stepBy true (pickOption t (some r) none) (r + 6) ≡ stepBy true (pickOption (both t true) (some r) none) (r + 6)
+        go : (t : Bool) → stepBy true (pick t (some r) none) (r + 6) ≡ stepBy true (pick (both t true) (some r) none) (r + 6)
         go true = refl
         go false = refl
 

@@ -11,10 +11,10 @@ use native.Mathlib.Omega.{arith}
 use lib.Dec.{eqb}
 use lib.ListN.{length}
 use borrow.Author.Tests.{eqb-false, ne-eqb}
-use Rattle.text.specs.Pick.{pickOption}
 use Rattle.text.proofs.Rows.{both-left, both-right}
 use Rattle.table.specs.Lines.{Line, lines, goodLine, badFrom, badTable}
 use Rattle.table.specs.Conditions.{goodFrom, NumberOne}
+use Rattle.text.specs.Pick.{pick}
 
 -- the same of the lines from number k on
 record Bad (k : ℕ) (ls : List Line) (p : ℕ) : Type 0 where
@@ -38,12 +38,12 @@ tells : (end k : ℕ) (ls : List Line) (p : ℕ) → badFrom end k ls ≡ some p
 unfolding badFrom goodFrom
 tells end k [] p e = go (eqb (k % 3) 0) refl e
   where
-    go : (t : Bool) → eqb (k % 3) 0 ≡ t → pickOption t none (some end) ≡ some p → Bad k [] p ⊎ Open end k [] p
+    go : (t : Bool) → eqb (k % 3) 0 ≡ t → pick t none (some end) ≡ some p → Bad k [] p ⊎ Open end k [] p
     go true f e = let z : _≡_ {A = ℕ} 0 1 = cc in absurd (omega arith)
     go false f e = let z : end ≡ p = cc in inr (record { good = refl; unfinished = λ y. eqb-false (k % 3) 0 f (rw (add-zero k) at y); place = z })
 tells end k (l ∷ ls) p e = go (goodLine k l) refl e (tells end (suc k) ls p)
   where
-    go : (t : Bool) → goodLine k l ≡ t → pickOption t (badFrom end (suc k) ls) (some (l .at)) ≡ some p → (badFrom end (suc k) ls ≡ some p → Bad (suc k) ls p ⊎ Open end (suc k) ls p) → Bad k (l ∷ ls) p ⊎ Open end k (l ∷ ls) p
+    go : (t : Bool) → goodLine k l ≡ t → pick t (badFrom end (suc k) ls) (some (l .at)) ≡ some p → (badFrom end (suc k) ls ≡ some p → Bad (suc k) ls p ⊎ Open end (suc k) ls p) → Bad k (l ∷ ls) p ⊎ Open end k (l ∷ ls) p
     go true f e ih =
         ⊎-elim
         (λ r. inl (record {

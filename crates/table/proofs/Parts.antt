@@ -11,7 +11,6 @@ use lib.Dec.{eqb, ltb, leb·suc-suc}
 use lib.ListN.{length, take, drop, length-drop, drop-of-length-le}
 use lib.Seq.{drop-drop}
 use borrow.Author.Tests.{lt-ltb, eq-eqb, ne-eqb, eqb-true, eqb-false}
-use Rattle.text.specs.Pick.{pickNat}
 use Rattle.text.specs.Characters.{findByte}
 use Rattle.text.proofs.Chars.{found-le}
 use Rattle.text.proofs.Cuts.{rest-all}
@@ -20,6 +19,7 @@ use Rattle.table.specs.Lines.{Line, lines, onFirst, lineBy}
 use Rattle.table.specs.Books.{codeFrom}
 use Rattle.table.specs.Inner.{onWord, wordsOf}
 use Rattle.table.proofs.Words.{code-hit, code-miss, code-none}
+use Rattle.text.specs.Pick.{pick}
 
 flip : (a b : ℕ) → eqb a b ≡ eqb b a
 flip a b = go (eqb b a) refl
@@ -52,7 +52,7 @@ lines-cons at (b ∷ s) h = rw (flip b 10) (go (eqb 10 b) (in-front at b s (line
   where
     go : (t : Bool) → onFirst at b (lines (suc at) s) ≡ record { at = at; body = b ∷ take (width s) s; ended = ltb (suc (width s)) (suc (length s)) } ∷ lines (at + suc (width s) + 1) (drop (suc (width s) + 1) (b ∷ s)) →
         lineBy t at b (lines (suc at) s) ≡
-        record { at = at; body = take (pickNat t 0 (suc (width s))) (b ∷ s); ended = ltb (pickNat t 0 (suc (width s))) (suc (length s)) } ∷ lines (at + pickNat t 0 (suc (width s)) + 1) (drop (pickNat t 0 (suc (width s)) + 1) (b ∷ s))
+        record { at = at; body = take (pick t 0 (suc (width s))) (b ∷ s); ended = ltb (pick t 0 (suc (width s))) (suc (length s)) } ∷ lines (at + pick t 0 (suc (width s)) + 1) (drop (pick t 0 (suc (width s)) + 1) (b ∷ s))
     go true e =
         let n : at + 0 + 1 ≡ suc at = omega arith in
         rw (n, lt-ltb 0 (suc (length s)) (omega arith))

@@ -10,9 +10,9 @@ use Rattle.table.specs.declared.Category.the-variants.{Other}
 use Rattle.table.specs.declared.TextRole.the-variants.{Boundary}
 use Rattle.table.specs.declared.DefaultAttribute.the-variants.{Lemma, Gloss, Href, Loc, LinkHref, Id, Who, NoDefault}
 use Rattle.table.specs.Entries.{categoryOf, roleOf}
-use Rattle.text.specs.Pick.{either, pickOption}
+use Rattle.text.specs.Pick.{either, pick}
 use Rattle.table.specs.Bytes.{equal, oneOf, starting}
-use Rattle.table.specs.Names.{lemmaNames, rb, xt, ref, jmp, periph, qt, pickDefault, defaultOf}
+use Rattle.table.specs.Names.{lemmaNames, rb, xt, ref, jmp, periph, qt, defaultOf}
 use Rattle.table.specs.Books.{codeFrom}
 use Rattle.table.specs.Inner.{attributeAt, attributeBy, categoryAt, roleAt}
 
@@ -69,8 +69,8 @@ unfoldable pub owners : List (List ℕ)
 owners = (119 ∷ []) ∷ (119 ∷ 97 ∷ []) ∷ (119 ∷ 103 ∷ []) ∷ (119 ∷ 104 ∷ []) ∷ rb ∷ xt ∷ ref ∷ jmp ∷ periph ∷ []
 
 default-by : (a b c d e f g h i q : Bool) →
-    pickDefault (either a (either b (either c (either d false)))) Lemma (pickDefault e Gloss (pickDefault f Href (pickDefault g Loc (pickDefault h LinkHref (pickDefault i Id (pickDefault q Who NoDefault)))))) ≡
-    attributeBy (pickOption a (some 0) (pickOption b (some 1) (pickOption c (some 2) (pickOption d (some 3) (pickOption e (some 4) (pickOption f (some 5) (pickOption g (some 6) (pickOption h (some 7) (pickOption i (some 8) none))))))))) q
+    pick (either a (either b (either c (either d false)))) Lemma (pick e Gloss (pick f Href (pick g Loc (pick h LinkHref (pick i Id (pick q Who NoDefault)))))) ≡
+    attributeBy (pick a (some 0) (pick b (some 1) (pick c (some 2) (pick d (some 3) (pick e (some 4) (pick f (some 5) (pick g (some 6) (pick h (some 7) (pick i (some 8) none))))))))) q
 default-by true b c d e f g h i q = refl
 default-by false true c d e f g h i q = refl
 default-by false false true d e f g h i q = refl

@@ -9,17 +9,17 @@ use lib.Dec.{eqb, ltb}
 use lib.ListN.{length, getD, take}
 use lib.Seq.{take-suc, take-length, length-take-le}
 use borrow.Author.Tests.{lt-ltb, le-ltb, eq-eqb, ne-eqb}
-use Rattle.text.specs.Pick.{both, pickNat}
+use Rattle.text.specs.Pick.{both, pick}
 use Rattle.text.specs.Number.{digit}
 use Rattle.table.specs.Names.{undigited, keepBefore, tailOff, strippedLength}
 
 -- one more byte at the end
-one-more : (l : List ℕ) (b : ℕ) → undigited (l ++ (b ∷ [])) ≡ pickNat (digit b) (undigited l) (suc (length l))
+one-more : (l : List ℕ) (b : ℕ) → undigited (l ++ (b ∷ [])) ≡ pick (digit b) (undigited l) (suc (length l))
 unfolding undigited
 one-more [] b = refl
 one-more (x ∷ l) b = rw (one-more l b) (go (digit b))
   where
-    go : (t : Bool) → keepBefore (digit x) (pickNat t (undigited l) (suc (length l))) ≡ pickNat t (keepBefore (digit x) (undigited l)) (suc (suc (length l)))
+    go : (t : Bool) → keepBefore (digit x) (pick t (undigited l) (suc (length l))) ≡ pick t (keepBefore (digit x) (undigited l)) (suc (suc (length l)))
     go true = refl
     go false = refl
 
@@ -68,7 +68,7 @@ module _ (s : List ℕ) (i : ℕ) (e : i ≡ undigited (take (length s) s)) wher
 pub tail-le : (s : List ℕ) → tailOff s ≤ length s
 tail-le s = go (both (ltb (undigited s) (length s)) (both (ltb 0 (undigited s)) (eqb (getD s (undigited s - 1) 0) 45)))
   where
-    go : (t : Bool) → pickNat t (undigited s - 1) (length s) ≤ length s
+    go : (t : Bool) → pick t (undigited s - 1) (length s) ≤ length s
     go true = omega (arith, undigited-le s)
     go false = omega arith
 
@@ -93,6 +93,6 @@ pub stripped-le : (s : List ℕ) → strippedLength s ≤ length s
 unfolding strippedLength
 stripped-le s = go (both (ltb 0 (undigited (take (tailOff s) s))) (ltb (undigited (take (tailOff s) s)) (tailOff s)))
   where
-    go : (t : Bool) → pickNat t (undigited (take (tailOff s) s)) (length s) ≤ length s
+    go : (t : Bool) → pick t (undigited (take (tailOff s) s)) (length s) ≤ length s
     go true = let z = tail-le s in omega (arith, undigited-le (take (tailOff s) s), length-take-le (tailOff s) s (tail-le s))
     go false = omega arith

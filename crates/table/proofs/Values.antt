@@ -9,7 +9,7 @@ use native.Mathlib.Omega.{arith}
 use lib.Dec.{leb}
 use lib.ListN.{length}
 use borrow.Author.Tests.{leb-true}
-use Rattle.text.specs.Pick.{both, within, pickOption}
+use Rattle.text.specs.Pick.{both, within, pick}
 use Rattle.text.proofs.Rows.{both-left, within-lo, within-hi}
 use Rattle.table.specs.Bytes.{all, starting, beyond}
 use Rattle.table.specs.Lines.{nameKey, nameByte, goodBody, categoryKey, categories, roleKey, roles}
@@ -19,14 +19,14 @@ use Rattle.table.specs.Inner.{known, nameOf, keyed, lineValue}
 use Rattle.table.proofs.Words.{starts-long, one-of, every, one-passes, found}
 
 -- a line is good exactly if it says something
-known-pick : (t : Bool) (n : ℕ) → t ≡ known (pickOption t (some n) none)
+known-pick : (t : Bool) (n : ℕ) → t ≡ known (pick t (some n) none)
 known-pick true n = refl
 known-pick false n = refl
 
 keyed-known : (key : List ℕ) (value : List ℕ → Option ℕ) (s : List ℕ) (t : Bool) → t ≡ known (value (beyond key s)) → both (starting key s) t ≡ known (keyed key value s)
 keyed-known key value s t e = go (starting key s)
   where
-    go : (u : Bool) → both u t ≡ known (pickOption u (value (beyond key s)) none)
+    go : (u : Bool) → both u t ≡ known (pick u (value (beyond key s)) none)
     go true = e
     go false = refl
 
@@ -35,7 +35,7 @@ good-known zero s = let b = beyond nameKey s in keyed-known nameKey nameOf s _ (
 good-known (suc zero) s = keyed-known categoryKey (codeFrom 0 categories) s _ (one-of categories (beyond categoryKey s) 0)
 good-known (suc (suc j)) s = keyed-known roleKey (codeFrom 0 roles) s _ (one-of roles (beyond roleKey s) 0)
 
-pick-says : (t : Bool) (o : Option ℕ) (v : ℕ) → pickOption t o none ≡ some v → (t ≡ true) × (o ≡ some v)
+pick-says : (t : Bool) (o : Option ℕ) (v : ℕ) → pick t o none ≡ some v → (t ≡ true) × (o ≡ some v)
 pick-says true o v e = (refl, e)
 pick-says false o v e = let z : _≡_ {A = ℕ} 0 1 = cc in absurd (omega arith)
 

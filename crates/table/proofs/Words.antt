@@ -11,7 +11,7 @@ use lib.Dec.{eqb}
 use lib.ListN.{length, getD, take, drop, length-take, length-drop, drop-of-length-le}
 use lib.Seq.{drop-drop}
 use borrow.Author.Tests.{eq-eqb, ne-eqb, eqb-true}
-use Rattle.text.specs.Pick.{both, either, pickNat, pickOption}
+use Rattle.text.specs.Pick.{both, either, pick}
 use Rattle.text.proofs.Rows.{both-left, both-right, place}
 use Rattle.table.specs.Bytes.{equal, oneOf, starting, beyond}
 use Rattle.table.specs.Entries.{position}
@@ -75,7 +75,7 @@ unfolding oneOf codeFrom
 one-of [] s k = refl
 one-of (w ∷ ws) s k = go (equal w s) (one-of ws s (suc k))
   where
-    go : (t : Bool) → oneOf ws s ≡ known (codeFrom (suc k) ws s) → either t (oneOf ws s) ≡ known (pickOption t (some k) (codeFrom (suc k) ws s))
+    go : (t : Bool) → oneOf ws s ≡ known (codeFrom (suc k) ws s) → either t (oneOf ws s) ≡ known (pick t (some k) (codeFrom (suc k) ws s))
     go true e = refl
     go false e = e
 
@@ -113,8 +113,8 @@ unfolding oneOf codeFrom position
 found [] s k p e = let z : _≡_ {A = ℕ} 0 1 = cc in absurd (omega arith)
 found (w ∷ ws) s k p e = let g = go (equal w s) e (found ws s (suc k) p) in record { is = g .0; inside = g .1; there = g .2 }
   where
-    go : (t : Bool) → pickOption t (some k) (codeFrom (suc k) ws s) ≡ some p → (codeFrom (suc k) ws s ≡ some p → At ws s (suc k) p) →
-        (p ≡ k + pickNat t 0 (suc (position ws s))) × (p < k + suc (length ws)) × (either t (oneOf ws s) ≡ true)
+    go : (t : Bool) → pick t (some k) (codeFrom (suc k) ws s) ≡ some p → (codeFrom (suc k) ws s ≡ some p → At ws s (suc k) p) →
+        (p ≡ k + pick t 0 (suc (position ws s))) × (p < k + suc (length ws)) × (either t (oneOf ws s) ≡ true)
     go true e ih = let z : k ≡ p = cc in (omega arith, omega arith, refl)
     go false e ih = let a = ih e in (omega arith, omega arith, a .there)
 

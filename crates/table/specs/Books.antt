@@ -2,10 +2,10 @@
 use Prim.Native.Nat.{ℕ, suc}
 use mathlib.Core.List.{List, [], _∷_}
 use mathlib.Core.Option.{Option, some, none}
-use Rattle.text.specs.Pick.{pickOption}
 use Rattle.table.specs.Bytes.{equal}
 use Rattle.table.specs.declared.Book.{Book}
 use Rattle.table.specs.declared.Book.the-variants as book
+use Rattle.text.specs.Pick.{pick}
 
 -- GEN EXO LEV NUM DEU JOS JDG RUT 1SA 2SA 1KI 2KI 1CH
 -- 2CH EZR NEH EST JOB PSA PRO ECC SNG ISA JER LAM EZK
@@ -139,7 +139,7 @@ codes =
 -- the position of the first code that equals the list, counted from k
 unfoldable pub codeFrom : ℕ → List (List ℕ) → List ℕ → Option ℕ
 codeFrom k [] s = none
-codeFrom k (c ∷ cs) s = pickOption (equal c s) (some k) (codeFrom (suc k) cs s)
+codeFrom k (c ∷ cs) s = pick (equal c s) (some k) (codeFrom (suc k) cs s)
 
 unfoldable pub bookOf : List ℕ → Option ℕ
 bookOf s = codeFrom 0 codes s

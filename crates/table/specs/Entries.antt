@@ -5,7 +5,7 @@ use mathlib.Core.Bool.{Bool, true, false}
 use mathlib.Core.List.{List, [], _∷_}
 use mathlib.Core.Option.{Option, some, none}
 use lib.ListN.{length, getD}
-use Rattle.text.specs.Pick.{Part, pickNat}
+use Rattle.text.specs.Pick.{Part, pick}
 use Rattle.table.specs.Bytes.{equal, beyond}
 use Rattle.table.specs.Lines.{Line, lines, categories, roles, categoryKey, roleKey}
 use Rattle.table.specs.declared.Category.{Category}
@@ -21,7 +21,7 @@ use Rattle.table.specs.declared.Layout.the-variants as layout
 -- how many words stand before the first that equals the list
 unfoldable pub position : List (List ℕ) → List ℕ → ℕ
 position [] s = 0
-position (w ∷ ws) s = pickNat (equal w s) 0 (suc (position ws s))
+position (w ∷ ws) s = pick (equal w s) 0 (suc (position ws s))
 
 -- an entry: where its name stands in the table, and the positions of its category and its role in the lists of document 01
 pub record Entry : Type 0 where

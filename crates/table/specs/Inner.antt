@@ -6,7 +6,7 @@ use mathlib.Core.List.{List, [], _∷_}
 use mathlib.Core.Option.{Option, some, none}
 use lib.Dec.{eqb, ltb}
 use lib.ListN.{length, take, drop}
-use Rattle.text.specs.Pick.{both, within, pickNat, pickOption}
+use Rattle.text.specs.Pick.{both, within, pick}
 use Rattle.text.specs.Scans.{eightBytes}
 use Rattle.text.specs.Characters.{findByte}
 use Rattle.table.specs.Bytes.{all, starting, beyond}
@@ -24,7 +24,7 @@ use Rattle.table.specs.declared.Category.{Category}
 use Rattle.table.specs.declared.Category.the-variants.{Identification, Chapter, Verse, Paragraph, Character, Note, Milestone, Other}
 use Rattle.table.specs.declared.TextRole.{TextRole}
 use Rattle.table.specs.declared.TextRole.the-variants.{Content, Excluded, Boundary}
-use Rattle.table.specs.Names.{strippedLength, glued, named, pickDefault}
+use Rattle.table.specs.Names.{strippedLength, glued, named}
 use Rattle.table.specs.Books.{codeFrom}
 
 -- the words of a list in which byte 10 ends each
@@ -46,11 +46,11 @@ triples (a ∷ b ∷ c ∷ l) = (a ∷ b ∷ c ∷ []) ∷ triples l
 
 -- what a good line says behind its key: the name's length, or the position of the word among the words
 abbrev pub nameOf : List ℕ → Option ℕ
-nameOf s = pickOption (both (within 1 16 (length s)) (all nameByte s)) (some (length s)) none
+nameOf s = pick (both (within 1 16 (length s)) (all nameByte s)) (some (length s)) none
 
 -- what a line says that begins with a key
 abbrev pub keyed : List ℕ → (List ℕ → Option ℕ) → List ℕ → Option ℕ
-keyed key value s = pickOption (starting key s) (value (beyond key s)) none
+keyed key value s = pick (starting key s) (value (beyond key s)) none
 
 abbrev pub lineValue : ℕ → List ℕ → Option ℕ
 lineValue zero s = keyed nameKey nameOf s
@@ -89,7 +89,7 @@ pastOf step.Bad = 0
 
 -- the first eight bytes as a number, or 0 where there are fewer
 abbrev pub headOf : List ℕ → ℕ
-headOf s = pickNat (ltb (length s) 8) 0 (eightBytes s 0)
+headOf s = pick (ltb (length s) 8) 0 (eightBytes s 0)
 
 -- what follows a key that a text begins with, or nothing
 abbrev pub behindBy : Bool → List ℕ → List ℕ
@@ -128,7 +128,7 @@ attributeAt (suc (suc (suc (suc (suc (suc (suc (suc k)))))))) = Id
 
 abbrev pub attributeBy : Option ℕ → Bool → DefaultAttribute
 attributeBy (some p) q = attributeAt p
-attributeBy none q = pickDefault q Who NoDefault
+attributeBy none q = pick q Who NoDefault
 
 -- the category and the role at a position of their lists
 abbrev pub categoryAt : ℕ → Category
@@ -148,7 +148,7 @@ roleAt (suc (suc k)) = Boundary
 
 -- the second and the third way to look a name up
 abbrev pub stripped : List ℕ → List ℕ → Option ℕ
-stripped t s = pickOption (ltb (strippedLength s) (length s)) (named t (take (strippedLength s) s)) none
+stripped t s = pick (ltb (strippedLength s) (length s)) (named t (take (strippedLength s) s)) none
 
 abbrev pub unglued : List ℕ → List ℕ → Option ℕ
-unglued t s = pickOption (glued s) (named t (take 1 s)) none
+unglued t s = pick (glued s) (named t (take 1 s)) none

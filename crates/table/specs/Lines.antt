@@ -6,7 +6,7 @@ use mathlib.Core.List.{List, [], _∷_}
 use mathlib.Core.Option.{Option, some, none}
 use lib.Dec.{eqb, ltb}
 use lib.ListN.{length}
-use Rattle.text.specs.Pick.{both, either, within, pickOption}
+use Rattle.text.specs.Pick.{both, either, within, pick}
 use Rattle.table.specs.Bytes.{all, oneOf, starting, beyond}
 
 -- a line: the place of its first byte, what stands in it, and whether a byte 10 ends it
@@ -86,8 +86,8 @@ goodLine k l = both (ltb k 1536) (both (l .ended) (goodBody (k % 3) (l .body)))
 
 -- the place of the first bad line from line number k on; where there is none, the end of the text if a triple is unfinished
 unfoldable pub badFrom : ℕ → ℕ → List Line → Option ℕ
-badFrom end k [] = pickOption (eqb (k % 3) 0) none (some end)
-badFrom end k (l ∷ ls) = pickOption (goodLine k l) (badFrom end (suc k) ls) (some (l .at))
+badFrom end k [] = pick (eqb (k % 3) 0) none (some end)
+badFrom end k (l ∷ ls) = pick (goodLine k l) (badFrom end (suc k) ls) (some (l .at))
 
 -- number 1's place, or none
 unfoldable pub badTable : List ℕ → Option ℕ

@@ -6,7 +6,7 @@ use mathlib.Core.List.{List, [], _∷_}
 use mathlib.Core.Option.{Option, some, none}
 use lib.Dec.{eqb, ltb}
 use lib.ListN.{length, getD, take}
-use Rattle.text.specs.Pick.{both, either, pickNat, pickOption, cut}
+use Rattle.text.specs.Pick.{both, either, cut, pick}
 use Rattle.text.specs.Number.{digit}
 use Rattle.table.specs.Bytes.{equal, oneOf, starting}
 use Rattle.table.specs.Entries.{Entry, entries}
@@ -18,14 +18,14 @@ use Rattle.table.specs.declared.DefaultAttribute.the-variants.{Lemma, Gl
 -- the number of the first entry that has the name, counted from k
 unfoldable pub namedFrom : List ℕ → ℕ → List Entry → List ℕ → Option ℕ
 namedFrom t k [] s = none
-namedFrom t k (e ∷ es) s = pickOption (equal (cut (e .name) t) s) (some k) (namedFrom t (suc k) es s)
+namedFrom t k (e ∷ es) s = pick (equal (cut (e .name) t) s) (some k) (namedFrom t (suc k) es s)
 
 abbrev pub named : List ℕ → List ℕ → Option ℕ
 named t s = namedFrom t 0 (entries t) s
 
 -- of a byte, and how many bytes are left of what follows it when the digits at its end are taken off
 abbrev pub keepBefore : Bool → ℕ → ℕ
-keepBefore isDigit zero = pickNat isDigit 0 1
+keepBefore isDigit zero = pick isDigit 0 1
 keepBefore isDigit (suc k) = suc (suc k)
 
 -- how many bytes are left of the list when the digits at its end are taken off
@@ -36,11 +36,11 @@ undigited (b ∷ s) = keepBefore (digit b) (undigited s)
 -- the length without a tail of a hyphen and digits: "Optional `-<digits>` (column-span tail)"
 abbrev pub tailOff : List ℕ → ℕ
 tailOff s =
-    pickNat (both (ltb (undigited s) (length s)) (both (ltb 0 (undigited s)) (eqb (getD s (undigited s - 1) 0) 45))) (undigited s - 1) (length s)
+    pick (both (ltb (undigited s) (length s)) (both (ltb 0 (undigited s)) (eqb (getD s (undigited s - 1) 0) 45))) (undigited s - 1) (length s)
 
 -- the Rust's `strip_level_suffix`: the length of what is left. "Only treat it as a suffix if a non-empty base remains."
 abbrev pub strippedBy : ℕ → ℕ → ℕ → ℕ
-strippedBy base end whole = pickNat (both (ltb 0 base) (ltb base end)) base whole
+strippedBy base end whole = pick (both (ltb 0 base) (ltb base end)) base whole
 
 unfoldable pub strippedLength : List ℕ → ℕ
 strippedLength s = strippedBy (undigited (take (tailOff s) s)) (tailOff s) (length s)
@@ -56,8 +56,8 @@ glued s = both (ltb 1 (length s)) (both (either (eqb (getD s 0 0) 118) (eqb (get
 unfoldable pub lookedUp : List ℕ → List ℕ → Option ℕ
 lookedUp t s =
     orElse (named t s)
-    (orElse (pickOption (ltb (strippedLength s) (length s)) (named t (take (strippedLength s) s)) none)
-    (pickOption (glued s) (named t (take 1 s)) none))
+    (orElse (pick (ltb (strippedLength s) (length s)) (named t (take (strippedLength s) s)) none)
+    (pick (glued s) (named t (take 1 s)) none))
 
 abbrev pub foundOf : Lookup → Option ℕ
 foundOf (lookup.Found m) = some (m .0)
@@ -90,20 +90,16 @@ periph = 112 ∷ 101 ∷ 114 ∷ 105 ∷ 112 ∷ 104 ∷ []
 abbrev pub qt : List ℕ
 qt = 113 ∷ 116 ∷ []
 
-abbrev pub pickDefault : Bool → DefaultAttribute → DefaultAttribute → DefaultAttribute
-pickDefault true a b = a
-pickDefault false a b = b
-
 -- the Rust's `default_attribute`: the attribute that a marker's bare value sets
 unfoldable pub defaultOf : List ℕ → DefaultAttribute
 defaultOf s =
-    pickDefault (oneOf lemmaNames s) Lemma
-    (pickDefault (equal rb s) Gloss
-    (pickDefault (equal xt s) Href
-    (pickDefault (equal ref s) Loc
-    (pickDefault (equal jmp s) LinkHref
-    (pickDefault (equal periph s) Id
-    (pickDefault (starting qt s) Who NoDefault))))))
+    pick (oneOf lemmaNames s) Lemma
+    (pick (equal rb s) Gloss
+    (pick (equal xt s) Href
+    (pick (equal ref s) Loc
+    (pick (equal jmp s) LinkHref
+    (pick (equal periph s) Id
+    (pick (starting qt s) Who NoDefault))))))
 
 -- FRT, INT, BAK, OTH, CNC, GLO, TDX, NDX: the Rust's `is_front_matter_code`
 unfoldable pub frontMatter : List (List ℕ)

@@ -12,12 +12,12 @@ use lib.Dec.{eqb}
 use lib.ListN.{length, getD, set, replicate, length-set, length-replicate, getD-replicate}
 use lib.Seq.{getD-set-same, getD-set-other, set-out, ext-getD}
 use borrow.Author.Tests.{eq-eqb, ne-eqb}
-use Rattle.text.specs.Pick.{pickNat}
 use Rattle.buffer.specs.Over.{over}
 use Rattle.buffer.proofs.Over.{length-over, over-again, set-over, getD-over}
 use Rattle.buffer.proofs.Laying.{Laying, laying-first}
 use Rattle.findings.specs.Finding.{codes}
 use Rattle.tally.specs.Tally.{codeAt, whole, withCode, countsFrom, tallyOf}
+use Rattle.text.specs.Pick.{pick}
 
 -- one count more cleared
 pub clear-on : (l₀ l : List ℕ) (c : ℕ) → Laying (replicate codes 0) l₀ 0 l c → c < codes → c < length l → Laying (replicate codes 0) l₀ 0 (set l c 0) (c + 1)
@@ -39,18 +39,18 @@ unfolding withCode
 code-few l c zero = omega arith
 code-few l c (suc n) = test (eqb (codeAt l n) c) (code-few l c n)
   where
-    test : (b : Bool) → withCode l c n ≤ n → pickNat b 1 0 + withCode l c n ≤ suc n
+    test : (b : Bool) → withCode l c n ≤ n → pick b 1 0 + withCode l c n ≤ suc n
     test true h = omega arith
     test false h = omega arith
 
 -- the count of one record's code goes up, and no other
 one-more : (l yet : List ℕ) (k c b : ℕ) → b ≡ suc (withCode l (codeAt l k) k) → codeAt l k < length yet → getD yet c 0 ≡ withCode l c k → getD (set yet (codeAt l k) b) c 0 ≡ withCode l c (k + 1)
 unfolding withCode
-one-more l yet k c b e h g = rw (add-one k) (pick (ℕ-discrete c (codeAt l k)))
+one-more l yet k c b e h g = rw (add-one k) (choose (ℕ-discrete c (codeAt l k)))
   where
-    pick : Dec (c ≡ codeAt l k) → getD (set yet (codeAt l k) b) c 0 ≡ pickNat (eqb (codeAt l k) c) 1 0 + withCode l c k
-    pick (yes z) = rw (z, getD-set-same yet (codeAt l k) b 0 h, eq-eqb (codeAt l k) (codeAt l k) refl) (omega arith)
-    pick (no z) = rw (getD-set-other yet (codeAt l k) c b 0 z, ne-eqb (codeAt l k) c (λ q. z (sym q))) (omega arith)
+    choose : Dec (c ≡ codeAt l k) → getD (set yet (codeAt l k) b) c 0 ≡ pick (eqb (codeAt l k) c) 1 0 + withCode l c k
+    choose (yes z) = rw (z, getD-set-same yet (codeAt l k) b 0 h, eq-eqb (codeAt l k) (codeAt l k) refl) (omega arith)
+    choose (no z) = rw (getD-set-other yet (codeAt l k) c b 0 z, ne-eqb (codeAt l k) c (λ q. z (sym q))) (omega arith)
 
 -- the counts of the first k records are laid over the list
 pub record Counting (l out₀ out : List ℕ) (k : ℕ) : Type 0 where

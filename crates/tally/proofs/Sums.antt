@@ -9,23 +9,23 @@ use mathlib.Core.List.{List}
 use mathlib.Core.Option.{none}
 use lib.Dec.{eqb, ltb}
 use borrow.Author.Tests.{eq-eqb, ne-eqb, lt-ltb, le-ltb}
-use Rattle.text.specs.Pick.{pickNat}
 use Rattle.findings.specs.Finding.{codes}
 use Rattle.tally.specs.Tally.{codeAt, whole, tallyRefusal, withCode, countsFrom, tallyOf, sum}
 use Rattle.tally.proofs.Records.{known}
+use Rattle.text.specs.Pick.{pick}
 
 -- how many of the first k records have a code below c
 unfoldable below : List ℕ → ℕ → ℕ → ℕ
 below l c zero = 0
-below l c (suc k) = pickNat (ltb (codeAt l k) c) 1 0 + below l c k
+below l c (suc k) = pick (ltb (codeAt l k) c) 1 0 + below l c k
 
-at-or-below : (d c : ℕ) → pickNat (eqb d c) 1 0 + pickNat (ltb d c) 1 0 ≡ pickNat (ltb d (suc c)) 1 0
-at-or-below d c = pick (decLt d c) (decLt c d)
+at-or-below : (d c : ℕ) → pick (eqb d c) 1 0 + pick (ltb d c) 1 0 ≡ pick (ltb d (suc c)) 1 0
+at-or-below d c = choose (decLt d c) (decLt c d)
   where
-    pick : Dec (d < c) → Dec (c < d) → pickNat (eqb d c) 1 0 + pickNat (ltb d c) 1 0 ≡ pickNat (ltb d (suc c)) 1 0
-    pick (yes h) k = rw (ne-eqb d c (omega arith), lt-ltb d c h, lt-ltb d (suc c) (omega arith))
-    pick (no h) (yes k) = rw (ne-eqb d c (omega arith), le-ltb d c (omega arith), le-ltb d (suc c) (omega arith))
-    pick (no h) (no k) = rw (eq-eqb d c (omega arith), le-ltb d c (omega arith), lt-ltb d (suc c) (omega arith))
+    choose : Dec (d < c) → Dec (c < d) → pick (eqb d c) 1 0 + pick (ltb d c) 1 0 ≡ pick (ltb d (suc c)) 1 0
+    choose (yes h) k = rw (ne-eqb d c (omega arith), lt-ltb d c h, lt-ltb d (suc c) (omega arith))
+    choose (no h) (yes k) = rw (ne-eqb d c (omega arith), le-ltb d c (omega arith), le-ltb d (suc c) (omega arith))
+    choose (no h) (no k) = rw (eq-eqb d c (omega arith), le-ltb d c (omega arith), lt-ltb d (suc c) (omega arith))
 
 one-code : (l : List ℕ) (c k : ℕ) → withCode l c k + below l c k ≡ below l (suc c) k
 unfolding withCode below

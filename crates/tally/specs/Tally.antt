@@ -5,10 +5,9 @@ use mathlib.Core.List.{List, [], _∷_}
 use mathlib.Core.Option.{Option, none}
 use lib.Dec.{eqb, ltb}
 use lib.ListN.{length, getD}
-use Rattle.text.specs.Pick.{either, pickNat}
+use Rattle.text.specs.Pick.{either, pick}
 use Rattle.tape.specs.Reading.{Refusal, refuse, onlyIf, orElse, firstBad, isNone}
 use Rattle.findings.specs.Finding.{codes}
-use Rattle.findings.specs.Written.{pickWords}
 use Rattle.buffer.specs.Over.{over}
 use Rattle.tally.specs.declared.Tallied.{Tallied}
 use Rattle.tally.specs.declared.Tallied.the-variants.{Counted, Refused}
@@ -35,7 +34,7 @@ tallyRefusal l = orElse (firstBad 11 (badRecord l) 0 (whole l)) (onlyIf (not (eq
 -- how many of the first n records have the code
 unfoldable pub withCode : List ℕ → ℕ → ℕ → ℕ
 withCode l c zero = 0
-withCode l c (suc n) = pickNat (eqb (codeAt l n) c) 1 0 + withCode l c n
+withCode l c (suc n) = pick (eqb (codeAt l n) c) 1 0 + withCode l c n
 
 -- the counts by code, from the code c on, n of them
 unfoldable pub countsFrom : List ℕ → ℕ → ℕ → List ℕ
@@ -47,7 +46,7 @@ tallyOf l = countsFrom l 0 codes
 
 -- the lent list after it: as it was after a refusal, else the counts laid over it as far as there is room
 abbrev pub countsAfter : List ℕ → List ℕ → List ℕ
-countsAfter l out = pickWords (isNone (tallyRefusal l)) (over out 0 (tallyOf l)) out
+countsAfter l out = pick (isNone (tallyRefusal l)) (over out 0 (tallyOf l)) out
 
 -- what the answer says
 abbrev pub answerOf : Tallied → Option Refusal

@@ -13,9 +13,9 @@ use mathlib.Core.Option.{Option, some, none}
 use lib.Dec.{ltb, eqb}
 use lib.ListN.{length}
 use borrow.Author.Tests.{lt-ltb, le-ltb, eq-eqb, ne-eqb, ltb-true, ltb-false, eqb-true, eqb-false, not-true, not-false}
-use Rattle.text.specs.Pick.{both, either}
+use Rattle.text.specs.Pick.{both, either, pick}
 use Rattle.tape.specs.Nodes.{count, kindAt, linkAt, isOpen, isClose}
-use Rattle.tape.specs.Reading.{Refusal, refuse, onlyIf, orElse, firstBad, isNone, badLength, badKind, badSpan, opensTo, goodRoot, Step, go, stop, pickStep, opened, closed, step, resume, ended, read, tapeRefusal}
+use Rattle.tape.specs.Reading.{Refusal, refuse, onlyIf, orElse, firstBad, isNone, badLength, badKind, badSpan, opensTo, goodRoot, Step, go, stop, opened, closed, step, resume, ended, read, tapeRefusal}
 use Rattle.tape.specs.Forest.{Nested, done, one, inner, Accepted}
 use Rattle.tape.proofs.Nest.{nested-le, close-no-open}
 use Rattle.tape.proofs.Machine.{read-step}
@@ -38,12 +38,12 @@ module _ (t : List ℕ) (i : ℕ) (s′ : List ℕ) where
   closes : (s : List ℕ) → isClose (kindAt t i) ≡ true → closed (linkAt t 0) i s ≡ go s′ → Came t i s s′
   closes [] k e = test (eqb i (linkAt t 0)) refl e
     where
-      test : (b : Bool) → eqb i (linkAt t 0) ≡ b → pickStep b (go []) (stop 7) ≡ go s′ → Came t i [] s′
+      test : (b : Bool) → eqb i (linkAt t 0) ≡ b → pick b (go []) (stop 7) ≡ go s′ → Came t i [] s′
       test true q e = let z : s′ ≡ [] = cc in by-root k refl z (eqb-true i (linkAt t 0) q)
       test false q e = stopped 7 s′ e
   closes (x ∷ s) k e = test (eqb i x) refl e
     where
-      test : (b : Bool) → eqb i x ≡ b → pickStep b (go s) (stop 7) ≡ go s′ → Came t i (x ∷ s) s′
+      test : (b : Bool) → eqb i x ≡ b → pick b (go s) (stop 7) ≡ go s′ → Came t i (x ∷ s) s′
       test true q e = let h = eqb-true i x q in let z : s ≡ s′ = cc in by-close k (cc)
       test false q e = stopped 7 s′ e
 
@@ -51,7 +51,7 @@ module _ (t : List ℕ) (i : ℕ) (s′ : List ℕ) where
   unfolding step
   came s e = test (isOpen (kindAt t i)) (isClose (kindAt t i)) (ltb (length s) 64) refl refl refl e
     where
-      test : (a b c : Bool) → isOpen (kindAt t i) ≡ a → isClose (kindAt t i) ≡ b → ltb (length s) 64 ≡ c → pickStep a (pickStep c (go (linkAt t i ∷ s)) (stop 8)) (pickStep b (closed (linkAt t 0) i s) (go s)) ≡ go s′ → Came t i s s′
+      test : (a b c : Bool) → isOpen (kindAt t i) ≡ a → isClose (kindAt t i) ≡ b → ltb (length s) 64 ≡ c → pick a (pick c (go (linkAt t i ∷ s)) (stop 8)) (pick b (closed (linkAt t 0) i s) (go s)) ≡ go s′ → Came t i s s′
       test true b true p q r e = let z : linkAt t i ∷ s ≡ s′ = cc in by-open p (ltb-true (length s) 64 r) z
       test true b false p q r e = stopped 8 s′ e
       test false true c p q r e = closes s q e

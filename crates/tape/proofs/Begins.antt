@@ -57,25 +57,25 @@ pub record ClosedBy (t : List ℕ) (a i : ℕ) : Type 0 where
 
 pub nested-close : {t : List ℕ} {d a b : ℕ} → Nested t d a b → (i : ℕ) → a ≤ i → i < b → isClose (kindAt t i) ≡ true → ClosedBy t a i
 nested-close (done e) i g l q = absurd (omega arith)
-nested-close {t} {d} {a} {b} (one h z r) i g l q = pick (ℕ-discrete a i) (λ k. nested-close r i k l q)
+nested-close {t} {d} {a} {b} (one h z r) i g l q = choose (ℕ-discrete a i) (λ k. nested-close r i k l q)
   where
-    pick : Dec (a ≡ i) → (a + 1 ≤ i → ClosedBy t (a + 1) i) → ClosedBy t a i
-    pick (yes x) later = absurd (false≢true (sym z ∙ rw x q))
-    pick (no x) later =
+    choose : Dec (a ≡ i) → (a + 1 ≤ i → ClosedBy t (a + 1) i) → ClosedBy t a i
+    choose (yes x) later = absurd (false≢true (sym z ∙ rw x q))
+    choose (no x) later =
         let w = later (omega arith) in
         let f = w .from in
         record { opener = w .opener; from = omega arith; earlier = w .earlier; opens = w .opens; links = w .links }
 nested-close {t} {a} {b} (inner {d} h z c r) i g l q =
-    pick (ℕ-discrete a i) (decLt i (linkAt t a)) (ℕ-discrete i (linkAt t a)) (nested-le c) (nested-le r) (λ j k. nested-close c i j k q) (λ k. nested-close r i k l q)
+    choose (ℕ-discrete a i) (decLt i (linkAt t a)) (ℕ-discrete i (linkAt t a)) (nested-le c) (nested-le r) (λ j k. nested-close c i j k q) (λ k. nested-close r i k l q)
   where
-    pick : Dec (a ≡ i) → Dec (i < linkAt t a) → Dec (i ≡ linkAt t a) → a + 1 ≤ linkAt t a → linkAt t a + 1 ≤ b → (a + 1 ≤ i → i < linkAt t a → ClosedBy t (a + 1) i) → (linkAt t a + 1 ≤ i → ClosedBy t (linkAt t a + 1) i) → ClosedBy t a i
-    pick (yes x) u v m n f k = absurd (false≢true (sym (close-no-open (kindAt t a) (rw x q)) ∙ h))
-    pick (no x) (yes u) v m n f k =
+    choose : Dec (a ≡ i) → Dec (i < linkAt t a) → Dec (i ≡ linkAt t a) → a + 1 ≤ linkAt t a → linkAt t a + 1 ≤ b → (a + 1 ≤ i → i < linkAt t a → ClosedBy t (a + 1) i) → (linkAt t a + 1 ≤ i → ClosedBy t (linkAt t a + 1) i) → ClosedBy t a i
+    choose (yes x) u v m n f k = absurd (false≢true (sym (close-no-open (kindAt t a) (rw x q)) ∙ h))
+    choose (no x) (yes u) v m n f k =
         let w = f (omega arith) u in
         let y = w .from in
         record { opener = w .opener; from = omega arith; earlier = w .earlier; opens = w .opens; links = w .links }
-    pick (no x) (no u) (yes v) m n f k = record { opener = a; from = omega arith; earlier = omega arith; opens = h; links = sym v }
-    pick (no x) (no u) (no v) m n f k =
+    choose (no x) (no u) (yes v) m n f k = record { opener = a; from = omega arith; earlier = omega arith; opens = h; links = sym v }
+    choose (no x) (no u) (no v) m n f k =
         let w = k (omega arith) in
         let y = w .from in
         record { opener = w .opener; from = omega arith; earlier = w .earlier; opens = w .opens; links = w .links }
@@ -114,11 +114,11 @@ module _ (s t s′ t′ : List ℕ) (short : Accepted s t) (long : Accepted s′
     where
       go : (linkAt t′ 0 ≡ count t′) ⊎ ((linkAt t′ 0 + 1 ≡ count t′) × (isClose (kindAt t′ (linkAt t′ 0)) ≡ true)) → (linkAt t′ 0 + 1 ≡ count t′ → (i : ℕ) → 1 ≤ i → i < count t′ → isOpen (kindAt t′ i) ≡ true → linkAt t′ i ≡ linkAt t′ 0 → ⊥) → m ≤ linkAt t′ 0
       go (inl e) alone = let l = alike .longer in omega arith
-      go (inr e) alone = pick (decLt (linkAt t′ 0) m)
+      go (inr e) alone = choose (decLt (linkAt t′ 0) m)
         where
-          pick : Dec (linkAt t′ 0 < m) → m ≤ linkAt t′ 0
-          pick (no x) = omega arith
-          pick (yes x) =
+          choose : Dec (linkAt t′ 0 < m) → m ≤ linkAt t′ 0
+          choose (no x) = omega arith
+          choose (yes x) =
               let h = nested-le (long .nested) in
               let w = nested-close beginning (linkAt t′ 0) h x (e .1) in
               absurd (alone (e .0) (w .opener) (w .from) (omega (arith, w .earlier, e .0)) (w .opens) (w .links))

@@ -12,9 +12,10 @@ use lib.Dec.{ltb, eqb}
 use lib.ListN.{length}
 use borrow.Author.Tests.{eq-eqb, ne-eqb}
 use Rattle.tape.specs.Nodes.{kindAt, linkAt, isOpen, isClose}
-use Rattle.tape.specs.Reading.{Refusal, refuse, Step, go, stop, pickStep, opened, closed, step, resume, read}
+use Rattle.tape.specs.Reading.{Refusal, refuse, Step, go, stop, opened, closed, step, resume, read}
 use Rattle.tape.specs.Inner.{stacked, met, says, held, Known, Opened, Closed, Stepped, Held}
 use Rattle.tape.specs.declared.Reading.{Reading}
+use Rattle.text.specs.Pick.{pick}
 
 -- a step stops with 7 or 8
 abbrev pub Odd : Step → Type 0
@@ -22,32 +23,32 @@ Odd (go awaited) = Unit {0}
 Odd (stop number) = (number ≡ 7) ⊎ (number ≡ 8)
 
 opened-odd : (link : ℕ) (awaited : List ℕ) → Odd (opened link awaited)
-opened-odd link awaited = pick (ltb (length awaited) 64)
+opened-odd link awaited = choose (ltb (length awaited) 64)
   where
-    pick : (b : Bool) → Odd (pickStep b (go (link ∷ awaited)) (stop 8))
-    pick true = tt
-    pick false = inr refl
+    choose : (b : Bool) → Odd (pick b (go (link ∷ awaited)) (stop 8))
+    choose true = tt
+    choose false = inr refl
 
 closed-odd : (root i : ℕ) (awaited : List ℕ) → Odd (closed root i awaited)
-closed-odd root i [] = pick (eqb i root)
+closed-odd root i [] = choose (eqb i root)
   where
-    pick : (b : Bool) → Odd (pickStep b (go []) (stop 7))
-    pick true = tt
-    pick false = inl refl
-closed-odd root i (link ∷ awaited) = pick (eqb i link)
+    choose : (b : Bool) → Odd (pick b (go []) (stop 7))
+    choose true = tt
+    choose false = inl refl
+closed-odd root i (link ∷ awaited) = choose (eqb i link)
   where
-    pick : (b : Bool) → Odd (pickStep b (go awaited) (stop 7))
-    pick true = tt
-    pick false = inl refl
+    choose : (b : Bool) → Odd (pick b (go awaited) (stop 7))
+    choose true = tt
+    choose false = inl refl
 
 pub step-odd : (t : List ℕ) (i : ℕ) (awaited : List ℕ) → Odd (step t i awaited)
 unfolding step
-step-odd t i awaited = pick (isOpen (kindAt t i)) (isClose (kindAt t i))
+step-odd t i awaited = choose (isOpen (kindAt t i)) (isClose (kindAt t i))
   where
-    pick : (a b : Bool) → Odd (pickStep a (opened (linkAt t i) awaited) (pickStep b (closed (linkAt t 0) i awaited) (go awaited)))
-    pick true b = opened-odd (linkAt t i) awaited
-    pick false true = closed-odd (linkAt t 0) i awaited
-    pick false false = tt
+    choose : (a b : Bool) → Odd (pick a (opened (linkAt t i) awaited) (pick b (closed (linkAt t 0) i awaited) (go awaited)))
+    choose true b = opened-odd (linkAt t i) awaited
+    choose false true = closed-odd (linkAt t 0) i awaited
+    choose false false = tt
 
 known-of : (x : Step) (i : ℕ) (stack : List ℕ) (q : Reading) → Odd x → held x i stack q → Known (q .number)
 known-of (go awaited) i stack q o h = inl (h .0)

@@ -11,7 +11,7 @@ use lib.Dec.{eqb}
 use lib.ListN.{length}
 use borrow.Author.Tests.{eqb-true}
 use Rattle.tape.specs.Nodes.{Node, nodeAt, nodes, kindAt, linkAt, isOpen, isClose}
-use Rattle.tape.specs.Forest.{Forest, end, leaf, node, followed, before, runs, innermost, forest, pickN, nextAt, Nested, done, one, inner}
+use Rattle.tape.specs.Forest.{Forest, end, leaf, node, followed, before, runs, innermost, forest, nextAt, Nested, done, one, inner}
 
 pub close-no-open : (k : ℕ) → isClose k ≡ true → isOpen k ≡ false
 close-no-open k e = go (eqb k 1) refl
@@ -179,20 +179,20 @@ pub record Children (t : List ℕ) (i b : ℕ) : Type 0 where
 
 pub nested-inside : {t : List ℕ} {d a b : ℕ} → Nested t d a b → (i : ℕ) → a ≤ i → i < b → isOpen (kindAt t i) ≡ true → Children t i b
 nested-inside (done e) i g l q = absurd (omega arith)
-nested-inside {t} {d} {a} {b} (one h z r) i g l q = pick (ℕ-discrete a i) (λ k. nested-inside r i k l q)
+nested-inside {t} {d} {a} {b} (one h z r) i g l q = choose (ℕ-discrete a i) (λ k. nested-inside r i k l q)
   where
-    pick : Dec (a ≡ i) → (a + 1 ≤ i → Children t i b) → Children t i b
-    pick (yes x) later = absurd (false≢true (sym h ∙ rw x q))
-    pick (no x) later = later (omega arith)
+    choose : Dec (a ≡ i) → (a + 1 ≤ i → Children t i b) → Children t i b
+    choose (yes x) later = absurd (false≢true (sym h ∙ rw x q))
+    choose (no x) later = later (omega arith)
 nested-inside {t} {a} {b} (inner {d} h z c r) i g l q =
-    pick (ℕ-discrete a i) (decLt i (linkAt t a)) (ℕ-discrete i (linkAt t a)) (nested-le c) (nested-le r) (λ j k. nested-inside c i j k q) (λ k. nested-inside r i k l q)
+    choose (ℕ-discrete a i) (decLt i (linkAt t a)) (ℕ-discrete i (linkAt t a)) (nested-le c) (nested-le r) (λ j k. nested-inside c i j k q) (λ k. nested-inside r i k l q)
   where
-    pick : Dec (a ≡ i) → Dec (i < linkAt t a) → Dec (i ≡ linkAt t a) → a + 1 ≤ linkAt t a → linkAt t a + 1 ≤ b → (a + 1 ≤ i → i < linkAt t a → Children t i (linkAt t a)) → (linkAt t a + 1 ≤ i → Children t i b) → Children t i b
-    pick (yes x) u v m n f k =
+    choose : Dec (a ≡ i) → Dec (i < linkAt t a) → Dec (i ≡ linkAt t a) → a + 1 ≤ linkAt t a → linkAt t a + 1 ≤ b → (a + 1 ≤ i → i < linkAt t a → Children t i (linkAt t a)) → (linkAt t a + 1 ≤ i → Children t i b) → Children t i b
+    choose (yes x) u v m n f k =
         subst (λ (j : ℕ). Children t j b) x (record { depth = d; later = omega arith; within = omega arith; nested = c })
-    pick (no x) (yes u) v m n f k =
+    choose (no x) (yes u) v m n f k =
         let w = f (omega arith) u in
         let y = w .within in
         record { depth = w .depth; later = w .later; within = omega arith; nested = w .nested }
-    pick (no x) (no u) (yes v) m n f k = absurd (false≢true (sym (close-no-open (kindAt t (linkAt t a)) z) ∙ rw (← v) q))
-    pick (no x) (no u) (no v) m n f k = k (omega arith)
+    choose (no x) (no u) (yes v) m n f k = absurd (false≢true (sym (close-no-open (kindAt t (linkAt t a)) z) ∙ rw (← v) q))
+    choose (no x) (no u) (no v) m n f k = k (omega arith)

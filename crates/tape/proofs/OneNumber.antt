@@ -64,22 +64,22 @@ module _ (number : ℕ) (bad : ℕ → Bool) where
           (f .0, record { from = omega arith; below = omega arith; is = w .is; earlier = earlier here (w .earlier) })
         where
           earlier : bad a ≡ false → AllGood bad (suc a) (r .place) → AllGood bad a (r .place)
-          earlier here good i g l = pick (ℕ-discrete i a)
+          earlier here good i g l = choose (ℕ-discrete i a)
             where
-              pick : Dec (i ≡ a) → bad i ≡ false
-              pick (yes z) = rw z here
-              pick (no z) = good i (omega arith) l
+              choose : Dec (i ≡ a) → bad i ≡ false
+              choose (yes z) = rw z here
+              choose (no z) = good i (omega arith) l
 
   pub none-of : (n a : ℕ) → firstBad number bad a n ≡ none → AllGood bad a (a + n)
   unfolding firstBad
   none-of zero a e i g l = absurd (omega arith)
   none-of (suc n) a e i g l =
       let h = neither (onlyIf (bad a) (refuse number a)) (firstBad number bad (suc a) n) e in
-      pick (ℕ-discrete i a) (only-not (bad a) number a (h .0)) (none-of n (suc a) (h .1))
+      choose (ℕ-discrete i a) (only-not (bad a) number a (h .0)) (none-of n (suc a) (h .1))
     where
-      pick : Dec (i ≡ a) → bad a ≡ false → AllGood bad (suc a) (suc a + n) → bad i ≡ false
-      pick (yes z) here good = rw z here
-      pick (no z) here good = good i (omega arith) (omega arith)
+      choose : Dec (i ≡ a) → bad a ≡ false → AllGood bad (suc a) (suc a + n) → bad i ≡ false
+      choose (yes z) here good = rw z here
+      choose (no z) here good = good i (omega arith) (omega arith)
 
   pub all-none : (n a : ℕ) → AllGood bad a (a + n) → firstBad number bad a n ≡ none
   unfolding firstBad
@@ -89,11 +89,11 @@ module _ (number : ℕ) (bad : ℕ → Bool) where
   pub first-is : (n a place : ℕ) → First bad a (a + n) place → firstBad number bad a n ≡ refuse number place
   unfolding firstBad
   first-is zero a place f = let g = f .from in let l = f .below in absurd (omega arith)
-  first-is (suc n) a place f = pick (ℕ-discrete a place) (first-is n (suc a) place)
+  first-is (suc n) a place f = choose (ℕ-discrete a place) (first-is n (suc a) place)
     where
-      pick : Dec (a ≡ place) → (First bad (suc a) (suc a + n) place → firstBad number bad (suc a) n ≡ refuse number place) → orElse (onlyIf (bad a) (refuse number a)) (firstBad number bad (suc a) n) ≡ refuse number place
-      pick (yes z) later = rw (z, f .is)
-      pick (no z) later =
+      choose : Dec (a ≡ place) → (First bad (suc a) (suc a + n) place → firstBad number bad (suc a) n ≡ refuse number place) → orElse (onlyIf (bad a) (refuse number a)) (firstBad number bad (suc a) n) ≡ refuse number place
+      choose (yes z) later = rw (z, f .is)
+      choose (no z) later =
           let g = f .from in
           let l = f .below in
           rw (f .earlier a (omega arith) (omega arith)) (later (record { from = omega arith; below = omega arith; is = f .is; earlier = λ i h k. f .earlier i (omega arith) k }))
@@ -360,11 +360,11 @@ module _ (s t : List ℕ) where
     where
       go : (linkAt t 0 ≡ n) ⊎ ((linkAt t 0 + 1 ≡ n) × (isClose (kindAt t (linkAt t 0)) ≡ true)) → 1 ≤ n → 1 ≤ linkAt t 0
       go (inl z) h = omega arith
-      go (inr z) h = pick (ℕ-discrete (linkAt t 0) 0)
+      go (inr z) h = choose (ℕ-discrete (linkAt t 0) 0)
         where
-          pick : Dec (linkAt t 0 ≡ 0) → 1 ≤ linkAt t 0
-          pick (no x) = omega arith
-          pick (yes x) = absurd (false≢true (sym (let r = eqb-true (kindAt t 0) 0 (not-false _ k) in rw (x, r)) ∙ z .1))
+          choose : Dec (linkAt t 0 ≡ 0) → 1 ≤ linkAt t 0
+          choose (no x) = omega arith
+          choose (yes x) = absurd (false≢true (sym (let r = eqb-true (kindAt t 0) 0 (not-false _ k) in rw (x, r)) ∙ z .1))
 
   -- a tape is accepted exactly if it reads as a forest
   pub accepted : (tapeRefusal s t ≡ none) ↔ Accepted s t

@@ -13,7 +13,7 @@ use lib.Dec.{eqb}
 use lib.ListN.{length, getD, set, drop, length-set, length-drop}
 use lib.Seq.{getD-set-other}
 use borrow.Author.Tests.{eqb-true, eqb-false, ne-eqb, not-false}
-use Rattle.text.specs.Pick.{both, either, within, pickNat}
+use Rattle.text.specs.Pick.{both, either, within, pick}
 use Rattle.tape.specs.Nodes.{count, kindAt, linkAt, isOpen, isClose}
 use Rattle.tape.specs.Reading.{firstBad, badKind, badSpan, opensTo, goodRoot, go, step, read}
 use Rattle.tape.specs.Inner.{Sized, stacked, rootBy, fromOne, Clear, Apart, Paired}
@@ -132,7 +132,7 @@ module _ (t : List ℕ) (n root : ℕ) (stack : List ℕ) (depth i : ℕ) (g : P
   abbrev fails : Bool → Bool → Bool
   fails opens closes = (closes && not (eqb (getD stack depth 0) i)) || (opens && eqb depth 64)
 
-  turned : (opens closes : Bool) → isOpen (kindAt t i) ≡ opens → isClose (kindAt t i) ≡ closes → fails opens closes ≡ false → Turned t n root stack depth i (linkAt t i) (pickNat opens 1 0) (pickNat closes 1 0)
+  turned : (opens closes : Bool) → isOpen (kindAt t i) ≡ opens → isClose (kindAt t i) ≡ closes → fails opens closes ≡ false → Turned t n root stack depth i (linkAt t i) (pick opens 1 0) (pick closes 1 0)
   turned true true o c e = absurd (false≢true (sym (close-no-open (kindAt t i) c) ∙ o))
   turned true false o c e =
       let z : depth + 1 - 0 ≡ depth + 1 = omega arith in
@@ -146,19 +146,19 @@ module _ (t : List ℕ) (n root : ℕ) (stack : List ℕ) (depth i : ℕ) (g : P
       let z : depth + 0 - 0 ≡ depth = omega arith in
       record { enough = omega arith; again = rw z (at-other o c) }
 
-  pub pairing-turn : (kind link : ℕ) (closes : Bool) (up down : ℕ) → kind ≡ kindAt t i → link ≡ linkAt t i → closes ≡ isClose kind → up ≡ pickNat (eqb kind 1) 1 0 → down ≡ pickNat closes 1 0 → ((closes && not (eqb (getD stack depth 0) i)) || (eqb kind 1 && eqb depth 64)) ≡ false → Turned t n root stack depth i link up down
+  pub pairing-turn : (kind link : ℕ) (closes : Bool) (up down : ℕ) → kind ≡ kindAt t i → link ≡ linkAt t i → closes ≡ isClose kind → up ≡ pick (eqb kind 1) 1 0 → down ≡ pick closes 1 0 → ((closes && not (eqb (getD stack depth 0) i)) || (eqb kind 1 && eqb depth 64)) ≡ false → Turned t n root stack depth i link up down
   pairing-turn kind link closes up down k l c u d e = rw (u, d, c, k, l) (turned (isOpen (kindAt t i)) (isClose (kindAt t i)) refl refl (rw (c, k) at e))
 
 -- the root's link, where no open is known to have it, and the rest
 module _ (s t : List ℕ) (n root : ℕ) (size : Sized t n) (link : root ≡ linkAt t 0) (good : rootBy root n (isClose (kindAt t root)) false ≡ true) where
   root-place : (root ≡ n) ⊎ ((root + 1 ≡ n) × (isClose (kindAt t root) ≡ true))
-  root-place = pick (eqb root n) (eqb (root + 1) n) (isClose (kindAt t root)) refl refl refl good
+  root-place = choose (eqb root n) (eqb (root + 1) n) (isClose (kindAt t root)) refl refl refl good
     where
-      pick : (a b x : Bool) → eqb root n ≡ a → eqb (root + 1) n ≡ b → isClose (kindAt t root) ≡ x → either a (both b (both x true)) ≡ true → (root ≡ n) ⊎ ((root + 1 ≡ n) × (isClose (kindAt t root) ≡ true))
-      pick true b x p q u e = inl (eqb-true root n p)
-      pick false true true p q u e = inr (eqb-true (root + 1) n q, u)
-      pick false true false p q u e = absurd (false≢true e)
-      pick false false x p q u e = absurd (false≢true e)
+      choose : (a b x : Bool) → eqb root n ≡ a → eqb (root + 1) n ≡ b → isClose (kindAt t root) ≡ x → either a (both b (both x true)) ≡ true → (root ≡ n) ⊎ ((root + 1 ≡ n) × (isClose (kindAt t root) ≡ true))
+      choose true b x p q u e = inl (eqb-true root n p)
+      choose false true true p q u e = inr (eqb-true (root + 1) n q, u)
+      choose false true false p q u e = absurd (false≢true e)
+      choose false false x p q u e = absurd (false≢true e)
 
   pub root-inside : root ≤ count t
   root-inside = rw (count-is t n size) (below root-place)
@@ -176,11 +176,11 @@ module _ (s t : List ℕ) (n root : ℕ) (size : Sized t n) (link : root ≡ lin
       rw (c .kinds, c .spans, root-good) (sym (p .reading) ∙ rw z)
 
   pub settled : Clear s t n 1 → Paired t (count t) root (1 + (root - 1)) [] → fromOne s t n ≡ none
-  settled c p = pick root-place (ℕ-discrete root 0) (rw (count-is t n size) at p)
+  settled c p = choose root-place (ℕ-discrete root 0) (rw (count-is t n size) at p)
     where
-      pick : (root ≡ n) ⊎ ((root + 1 ≡ n) × (isClose (kindAt t root) ≡ true)) → Dec (root ≡ 0) → Paired t n root (1 + (root - 1)) [] → fromOne s t n ≡ none
-      pick (inl e) d w = ended-at (1 + (root - 1)) (omega arith) w c
-      pick (inr e) (yes d) w = ended-at (1 + (root - 1)) (omega (arith, e .0)) w c
-      pick (inr e) (no d) w =
+      choose : (root ≡ n) ⊎ ((root + 1 ≡ n) × (isClose (kindAt t root) ≡ true)) → Dec (root ≡ 0) → Paired t n root (1 + (root - 1)) [] → fromOne s t n ≡ none
+      choose (inl e) d w = ended-at (1 + (root - 1)) (omega arith) w c
+      choose (inr e) (yes d) w = ended-at (1 + (root - 1)) (omega (arith, e .0)) w c
+      choose (inr e) (no d) w =
           let y : 1 + (root - 1) ≡ root = omega arith in
           ended-at (root + 1) (omega (arith, e .0)) (paired-on t n root root [] [] (rw y at w) (omega (arith, e .0)) (λ x. (no-open t n root root (close-no-open (kindAt t root) (e .1)), x)) (step-root t root (e .1) link)) c

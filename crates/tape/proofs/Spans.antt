@@ -8,7 +8,7 @@ use native.Mathlib.Omega.{arith}
 use lib.Dec.{leb, eqb, ltb}
 use lib.ListN.{length, getD}
 use borrow.Author.Tests.{lt-ltb, le-ltb, eq-eqb, eqb-true, eqb-false, leb-true, not-true, not-false}
-use Rattle.text.specs.Pick.{both, either, within, pickNat}
+use Rattle.text.specs.Pick.{both, either, within, pick}
 use Rattle.text.specs.Characters.{starts}
 use Rattle.text.proofs.Boundary.{at-zero, past-end, inside}
 use Rattle.tape.specs.Nodes.{startAt, lenAt}
@@ -61,6 +61,6 @@ pub after-found : (s t : List ℕ) (i first : ℕ) → (first ≡ 0 → ⊥) →
 after-found s t i zero h = absurd (h refl)
 after-found s t i (suc place) h = refl
 
-pub after-new : (s t : List ℕ) (i first : ℕ) (x : Bool) → first ≡ 0 → x ≡ badSpan s t i → pickNat x i 0 ≡ spanAfter s t i first
-after-new s t i zero x h e = ap (λ (b : Bool). pickNat b i 0) e
+pub after-new : (s t : List ℕ) (i first : ℕ) (x : Bool) → first ≡ 0 → x ≡ badSpan s t i → pick x i 0 ≡ spanAfter s t i first
+after-new s t i zero x h e = ap (λ (b : Bool). pick b i 0) e
 after-new s t i (suc place) x h e = absurd (omega arith)

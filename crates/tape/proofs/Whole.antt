@@ -11,7 +11,7 @@ use native.Mathlib.Omega.{arith}
 use lib.Dec.{eqb, ltb, leb}
 use lib.ListN.{length, replicate, length-replicate}
 use borrow.Author.Tests.{eq-eqb, ne-eqb, lt-ltb, le-ltb, le-leb, lt-leb, leb-true, leb-false}
-use Rattle.text.specs.Pick.{both, either, within, pickNat}
+use Rattle.text.specs.Pick.{both, either, within, pick}
 use Rattle.tape.specs.Nodes.{count, kindAt, linkAt, isClose}
 use Rattle.tape.specs.Reading.{Refusal, refuse, onlyIf, orElse, firstBad, isNone, badLength, badKind, badSpan, opensTo, goodRoot, ended, read, tapeRefusal, refusalOf}
 use Rattle.tape.specs.Inner.{Sized, stacked, met, metSpan, spanAfter, says, Known, Stepped, rootBy, leftOpen, lastly, fromOne}
@@ -40,7 +40,7 @@ span-on : (s t : List ℕ) (i span : ℕ) (rest : Option Refusal) → 1 ≤ i �
 span-on s t i (suc place) rest h = refl
 span-on s t i zero rest h = go (badSpan s t i) i h
   where
-    go : (b : Bool) (i : ℕ) → 1 ≤ i → metSpan (pickNat b i 0) rest ≡ orElse (onlyIf b (refuse 6 i)) rest
+    go : (b : Bool) (i : ℕ) → 1 ≤ i → metSpan (pick b i 0) rest ≡ orElse (onlyIf b (refuse 6 i)) rest
     go true zero h = absurd (omega arith)
     go true (suc i) h = refl
     go false i h = refl

@@ -5,6 +5,7 @@ use mathlib.Core.Bool.{Bool, true, false}
 use mathlib.Core.List.{List, [], _∷_}
 use Rattle.tape.specs.Nodes.{Node, nodes, kindAt, linkAt, isOpen, isClose, count}
 use Rattle.tape.specs.Reading.{badLength, badKind, badSpan, goodRoot}
+use Rattle.text.specs.Pick.{pick}
 
 -- a run of siblings: none; a leaf, and those after it; an open node with its children, and those after its close
 pub data Forest : Type 0 where
@@ -41,12 +42,8 @@ abbrev pub forest : List ℕ → List ℕ → ℕ → ℕ → Forest
 forest s t a b = innermost (runs (nodes s t a (b - a)))
 
 -- the node after the one at a, with all below it
-abbrev pub pickN : Bool → ℕ → ℕ → ℕ
-pickN true x y = x
-pickN false x y = y
-
 abbrev pub nextAt : List ℕ → ℕ → ℕ
-nextAt t a = pickN (isOpen (kindAt t a)) (linkAt t a + 1) (a + 1)
+nextAt t a = pick (isOpen (kindAt t a)) (linkAt t a + 1) (a + 1)
 
 -- the nodes from a up to b nest properly, at most d deep, and each open's link is its close
 pub data Nested (t : List ℕ) : ℕ → ℕ → ℕ → Type 0 where

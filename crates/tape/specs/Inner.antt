@@ -7,7 +7,7 @@ use mathlib.Core.Logic.{_⊎_}
 use mathlib.Core.Option.{Option, some, none}
 use lib.Dec.{eqb}
 use lib.ListN.{length, getD}
-use Rattle.text.specs.Pick.{both, either, pickNat}
+use Rattle.text.specs.Pick.{both, either, pick}
 use Rattle.tape.specs.Nodes.{count, kindAt, linkAt, isClose}
 use Rattle.tape.specs.Reading.{Refusal, refuse, onlyIf, orElse, firstBad, badKind, badSpan, opensTo, goodRoot, read, Step, go, stop, opened, closed}
 use Rattle.tape.specs.declared.TapeCheck.{TapeCheck}
@@ -35,7 +35,7 @@ metSpan zero rest = rest
 metSpan (suc place) rest = refuse 6 (suc place)
 
 abbrev pub spanAfter : List ℕ → List ℕ → ℕ → ℕ → ℕ
-spanAfter s t i zero = pickNat (badSpan s t i) i 0
+spanAfter s t i zero = pick (badSpan s t i) i 0
 spanAfter s t i (suc place) = suc place
 
 -- what the reading says of the nodes from i on, with the rest of the tape to read

@@ -5,7 +5,7 @@ use mathlib.Core.List.{List, [], _∷_}
 use mathlib.Core.Option.{Option, some, none}
 use lib.Dec.{eqb, ltb}
 use lib.ListN.{length}
-use Rattle.text.specs.Pick.{both, either, within}
+use Rattle.text.specs.Pick.{both, either, within, pick}
 use Rattle.text.specs.Characters.{starts}
 use Rattle.tape.specs.Nodes.{count, kindAt, startAt, lenAt, linkAt, isClose, isOpen}
 use Rattle.tape.specs.declared.TapeCheck.{TapeCheck}
@@ -66,23 +66,19 @@ pub data Step : Type 0 where
   go : List ℕ → Step
   stop : ℕ → Step
 
-abbrev pub pickStep : Bool → Step → Step → Step
-pickStep true a b = a
-pickStep false a b = b
-
 -- one node more opened, where its link is awaited
 abbrev pub opened : ℕ → List ℕ → Step
-opened link awaited = pickStep (ltb (length awaited) 64) (go (link ∷ awaited)) (stop 8)
+opened link awaited = pick (ltb (length awaited) 64) (go (link ∷ awaited)) (stop 8)
 
 -- the innermost open closed, or the root
 abbrev pub closed : ℕ → ℕ → List ℕ → Step
-closed root i [] = pickStep (eqb i root) (go []) (stop 7)
-closed root i (link ∷ awaited) = pickStep (eqb i link) (go awaited) (stop 7)
+closed root i [] = pick (eqb i root) (go []) (stop 7)
+closed root i (link ∷ awaited) = pick (eqb i link) (go awaited) (stop 7)
 
 unfoldable pub step : List ℕ → ℕ → List ℕ → Step
 step t i awaited =
-    pickStep (isOpen (kindAt t i)) (opened (linkAt t i) awaited)
-    (pickStep (isClose (kindAt t i)) (closed (linkAt t 0) i awaited) (go awaited))
+    pick (isOpen (kindAt t i)) (opened (linkAt t i) awaited)
+    (pick (isClose (kindAt t i)) (closed (linkAt t 0) i awaited) (go awaited))
 
 abbrev pub resume : Step → ℕ → (List ℕ → Option Refusal) → Option Refusal
 resume (go awaited) i rest = rest awaited

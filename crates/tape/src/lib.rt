@@ -5,7 +5,7 @@ ghost use mathlib.Core.List.{[]};
 ghost use mathlib.Core.Option.{none};
 ghost use Prim.Native.Nat.{_+_, _-_, _<_, _≤_};
 ghost use lib.ListN.{length};
-ghost use Rattle.text.specs.Pick.{either, within, pickNat};
+ghost use Rattle.text.specs.Pick.{either, within, pick};
 ghost use Rattle.text.specs.Characters.{starts};
 ghost use Rattle.tape.specs.Nodes.{count, half, word, kindAt, markerAt, startAt, lenAt, linkAt, isClose, kindOf};
 ghost use Rattle.tape.specs.Reading.{badSpan, opensTo, refusalOf, tapeRefusal};
@@ -376,7 +376,7 @@ fn are_clear(source: &[u8], tape: &[u8], n: usize) -> bool
 }
 
 pub fn one_if(b: bool) -> usize
-    ensures { λ r. ⌜ (r ≡ pickNat b 1 0) × (r ≤ 1) ⌝ }
+    ensures { λ r. ⌜ (r ≡ pick b 1 0) × (r ≤ 1) ⌝ }
 {
     if b { 1 } else { 0 }
 }

@@ -11,6 +11,7 @@ use Rattle.messages.specs.Message.{Asked, messageText}
 use Rattle.messages.specs.Told.{firstNine}
 use Rattle.telling.specs.declared.Texts as declared
 use Rattle.telling.specs.declared.Texts.the-variants as answer
+use Rattle.text.specs.Pick.{pick}
 
 -- what record k of a list asks for
 abbrev pub askedAt : List ℕ → ℕ → Asked
@@ -27,13 +28,9 @@ askedAt l k =
 abbrev pub whole : List ℕ → ℕ
 whole l = length l / 8
 
-abbrev pub pickTexts : Bool → List (List ℕ) → List (List ℕ) → List (List ℕ)
-pickTexts true a b = a
-pickTexts false a b = b
-
 abbrev pub fitting : Option (List ℕ) → ℕ → (ℕ → List (List ℕ)) → List (List ℕ)
 fitting none room rest = []
-fitting (some x) room rest = pickTexts (ltb room (length x)) [] (x ∷ rest (room - length x))
+fitting (some x) room rest = pick (ltb room (length x)) [] (x ∷ rest (room - length x))
 
 -- the texts of n records from the k-th on, up to the first that has none, or no room
 unfoldable pub textsFrom : (ℕ → Option (List ℕ)) → ℕ → ℕ → ℕ → List (List ℕ)
@@ -60,13 +57,9 @@ pub data Told : Type 0 where
   all : ℕ → ℕ → Told
   stopped : ℕ → ℕ → Refusal → Told
 
-abbrev pub pickTold : Bool → Told → Told → Told
-pickTold true a b = a
-pickTold false a b = b
-
 abbrev pub toldBy : (ℕ → Option (List ℕ)) → ℕ → List (List ℕ) → Told
 toldBy text n ts =
-    pickTold (eqb (length ts) n) (all (length ts) (length (joined ts))) (stopped (length ts) (length (joined ts)) (turnedBack (text (length ts))))
+    pick (eqb (length ts) n) (all (length ts) (length (joined ts))) (stopped (length ts) (length (joined ts)) (turnedBack (text (length ts))))
 
 abbrev pub textAt : List ℕ → List ℕ → List ℕ → List ℕ → ℕ → Option (List ℕ)
 textAt table s t l k = messageText table s t (askedAt l k)

@@ -8,7 +8,7 @@ use native.Mathlib.Nat.{add-zero, not-suc-le-zero, le-refl}
 use native.Mathlib.Omega.{arith}
 use lib.ListN.{length, getD, drop, length-drop, drop-of-length-le}
 use lib.Seq.{drop-drop}
-use Rattle.text.specs.Pick.{same, pickNat}
+use Rattle.text.specs.Pick.{same, pick}
 use Rattle.text.specs.declared.Decoded.{Decoded}
 use Rattle.text.specs.Utf8.{decode}
 use Rattle.text.specs.Blank.{blank}
@@ -85,7 +85,7 @@ unfolding findByte
 byte-le p [] = le-refl 0
 byte-le p (b ∷ s) = go (p b) (byte-le p s)
   where
-    go : (t : Bool) → findByte p s ≤ length s → pickNat t 0 (suc (findByte p s)) ≤ suc (length s)
+    go : (t : Bool) → findByte p s ≤ length s → pick t 0 (suc (findByte p s)) ≤ suc (length s)
     go true h = omega arith
     go false h = omega arith
 

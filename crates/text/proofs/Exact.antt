@@ -12,7 +12,7 @@ use lib.Dec.{leb}
 use lib.ListN.{length, getD, take, drop, length-append, length-drop, take-append-drop}
 use lib.Seq.{drop-append-seam, take-append-seam, drop-drop, take-add, length-take-le}
 use borrow.Author.Tests.{leb-true}
-use Rattle.text.specs.Pick.{Range, both, pickNat, within}
+use Rattle.text.specs.Pick.{Range, both, within, pick}
 use Rattle.text.specs.Utf8.{begins, widthBy, table, widthOf, scan, firstIllFormed, fits, Made, nothing, more, FirstIllFormed}
 use Rattle.text.proofs.Induction.{by-length}
 use Rattle.text.proofs.Rows.{both-left, both-right, width-le, row-long, row-begins}
@@ -51,7 +51,7 @@ unfolding widthBy
 found-by [] s h = absurd (not-suc-le-zero h)
 found-by (row ∷ rows) s h = go (begins row s) refl h (found-by rows s)
   where
-    go : (t : Bool) → begins row s ≡ t → 0 < pickNat t (length row) (widthBy rows s) → (0 < widthBy rows s → Found rows s (widthBy rows s)) → Found (row ∷ rows) s (pickNat t (length row) (widthBy rows s))
+    go : (t : Bool) → begins row s ≡ t → 0 < pick t (length row) (widthBy rows s) → (0 < widthBy rows s → Found rows s (widthBy rows s)) → Found (row ∷ rows) s (pick t (length row) (widthBy rows s))
     go true e l later = record { row = row; is-row = List·Memᴰ·head refl; begins-so = e; long = refl }
     go false e l later =
         let f = later l in

@@ -11,7 +11,7 @@ use lib.Dec.{leb, eqb}
 use lib.ListN.{length, getD, take, drop, length-drop}
 use lib.Seq.{getD-take}
 use borrow.Author.Tests.{ne-eqb, lt-leb}
-use Rattle.text.specs.Pick.{Range, span, both, pickNat, within}
+use Rattle.text.specs.Pick.{Range, span, both, within, pick}
 use Rattle.text.specs.declared.Decoded.{Decoded}
 use Rattle.text.specs.Utf8.{begins, table, widthOf, fits, decoded, decode}
 use Rattle.text.specs.Number.{digit}
@@ -152,7 +152,7 @@ module _ (p : ℕ → Bool) (flat : (c d : ℕ) → 0x80 ≤ c → 0x80 ≤ d �
   find-step (b ∷ s) ih =
       rw (chars-cons (b ∷ s) (decode (b ∷ s) .width) (omega arith) refl, alike-code b s) (go (decode (b ∷ s) .width) (p b) refl refl)
     where
-      go : (w : ℕ) (t : Bool) → w ≡ decode (b ∷ s) .width → p b ≡ t → findByte p (b ∷ s) ≡ pickNat t 0 (w + find p (drop w (b ∷ s)))
+      go : (w : ℕ) (t : Bool) → w ≡ decode (b ∷ s) .width → p b ≡ t → findByte p (b ∷ s) ≡ pick t 0 (w + find p (drop w (b ∷ s)))
       go w true z e = at-once b s e
       go w false z e =
           let d = decode-width (b ∷ s) (omega arith) in

@@ -11,7 +11,6 @@ use lib.Dec.{eqb}
 use lib.ListN.{length, drop, length-drop, drop-of-length-le}
 use lib.Seq.{drop-drop}
 use borrow.Author.Tests.{eq-eqb, ne-eqb, not-true}
-use Rattle.text.specs.Pick.{pickNat}
 use Rattle.text.specs.Utf8.{decode}
 use Rattle.text.specs.Blank.{blank}
 use Rattle.text.specs.Characters.{chars, before, find}
@@ -20,6 +19,7 @@ use Rattle.text.proofs.Induction.{by-length}
 use Rattle.text.proofs.Chars.{chars-nil, chars-cons, chars-at, in-text, past, stops, ends}
 use Rattle.text.proofs.Decode.{decode-width}
 use Rattle.text.proofs.Kept.{find-le}
+use Rattle.text.specs.Pick.{pick}
 
 -- a search that ends inside the text ends at a character that passes
 module _ (p : ℕ → Bool) where
@@ -33,10 +33,10 @@ module _ (p : ℕ → Bool) where
       let l = b ∷ s in
       let w = decode l .width in
       let d = decode-width l (omega arith) in
-      let e : find p l ≡ pickNat (p (decode l .cp)) 0 (w + find p (drop w l)) = rw (chars-cons l w (omega arith) refl) in
+      let e : find p l ≡ pick (p (decode l .cp)) 0 (w + find p (drop w l)) = rw (chars-cons l w (omega arith) refl) in
       go w (p (decode l .cp)) refl e (d .0) (rw e at h)
     where
-      go : (w : ℕ) (t : Bool) → p (decode (b ∷ s) .cp) ≡ t → find p (b ∷ s) ≡ pickNat t 0 (w + find p (drop w (b ∷ s))) → 0 < w → pickNat t 0 (w + find p (drop w (b ∷ s))) < length (b ∷ s) → p (decode (drop (find p (b ∷ s)) (b ∷ s)) .cp) ≡ true
+      go : (w : ℕ) (t : Bool) → p (decode (b ∷ s) .cp) ≡ t → find p (b ∷ s) ≡ pick t 0 (w + find p (drop w (b ∷ s))) → 0 < w → pick t 0 (w + find p (drop w (b ∷ s))) < length (b ∷ s) → p (decode (drop (find p (b ∷ s)) (b ∷ s)) .cp) ≡ true
       go w true y e d h = rw e y
       go w false y e d h = rw (e, ← drop-drop (find p (drop w (b ∷ s))) w (b ∷ s)) (ih (drop w (b ∷ s)) (omega (arith, length-drop w (b ∷ s))) (omega (arith, length-drop w (b ∷ s))))
 

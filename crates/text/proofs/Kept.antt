@@ -11,7 +11,7 @@ use lib.Dec.{leb}
 use lib.ListN.{length, getD, take, drop, length-drop, length-append, drop-of-length-le, List·getD-append}
 use lib.Seq.{drop-append-le, take-suc, take-length, length-take-le}
 use borrow.Author.Tests.{lt-leb, leb-true, leb-false}
-use Rattle.text.specs.Pick.{Range, span, both, pickNat, within}
+use Rattle.text.specs.Pick.{Range, span, both, within, pick}
 use Rattle.text.specs.declared.Decoded.{Decoded}
 use Rattle.text.specs.Utf8.{begins, table, widthBy, widthOf, decoded, decode}
 use Rattle.text.specs.Blank.{blank}
@@ -105,7 +105,7 @@ unfolding before widths
 before-le p [] = zero-le
 before-le p (c ∷ cs) = go (p (c .cp)) (before-le p cs)
   where
-    go : (t : Bool) → before p cs ≤ widths cs → pickNat t 0 (c .width + before p cs) ≤ c .width + widths cs
+    go : (t : Bool) → before p cs ≤ widths cs → pick t 0 (c .width + before p cs) ≤ c .width + widths cs
     go true h = zero-le
     go false h = omega arith
 

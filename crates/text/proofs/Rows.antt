@@ -11,7 +11,7 @@ use lib.Dec.{leb, ltb}
 use lib.ListN.{length, getD, drop, length-drop}
 use lib.Seq.{drop-cons}
 use borrow.Author.Tests.{le-leb, lt-leb, ltb-true, leb-true}
-use Rattle.text.specs.Pick.{Range, span, both, pickNat, within}
+use Rattle.text.specs.Pick.{Range, span, both, within, pick}
 use Rattle.text.specs.Utf8.{begins, widthBy, table, widthOf}
 
 pub both-false : (a : Bool) → both a false ≡ false
@@ -73,7 +73,7 @@ begins-short rs s at h = go (begins rs (drop at s)) refl
     go true e = absurd (omega (arith, begun rs (drop at s) e, length-drop at s))
     go false e = refl
 
-pick-le : (t : Bool) (a b n : ℕ) → (t ≡ true → a ≤ n) → b ≤ n → pickNat t a b ≤ n
+pick-le : (t : Bool) (a b n : ℕ) → (t ≡ true → a ≤ n) → b ≤ n → pick t a b ≤ n
 pick-le true a b n h k = h refl
 pick-le false a b n h k = k
 
@@ -113,11 +113,11 @@ unfolding sized
 row-short row m = within-hi 1 4 (length row) (every-in sized table row table-sized m)
 
 -- the width that a test picks
-pub picked : (w n : ℕ) (t : Bool) → w ≡ pickNat t n 0 → not t ≡ false → w ≡ n
+pub picked : (w n : ℕ) (t : Bool) → w ≡ pick t n 0 → not t ≡ false → w ≡ n
 picked w n true e y = e
 picked w n false e y = absurd (false≢true (sym y))
 
-pub unpicked : (w n : ℕ) (t : Bool) → w ≡ pickNat t n 0 → not t ≡ true → w ≡ 0
+pub unpicked : (w n : ℕ) (t : Bool) → w ≡ pick t n 0 → not t ≡ true → w ≡ 0
 unpicked w n true e y = absurd (false≢true y)
 unpicked w n false e y = e
 
@@ -131,7 +131,7 @@ module _ (r : Range) (rs : List Range) (rows : List (List Range)) (b : ℕ) (s :
   unfolding widthBy begins
   over h = rw (lt-leb b (r .hi) h, both-false (leb (r .lo) b))
 
-  fits : r .lo ≤ b → b ≤ r .hi → widthBy rows (b ∷ s) ≡ 0 → widthBy ((r ∷ rs) ∷ rows) (b ∷ s) ≡ pickNat (begins rs s) (suc (length rs)) 0
+  fits : r .lo ≤ b → b ≤ r .hi → widthBy rows (b ∷ s) ≡ 0 → widthBy ((r ∷ rs) ∷ rows) (b ∷ s) ≡ pick (begins rs s) (suc (length rs)) 0
   unfolding widthBy begins
   fits h k e = rw (le-leb (r .lo) b h, le-leb b (r .hi) k, e)
 
@@ -182,7 +182,7 @@ above-in h ((q ∷ qs) ∷ rows) r rs e (List·Memᴰ·head p) =
     rw (← same) (ltb-true h (q .lo) (both-left (ltb h (q .lo)) (above h rows) e))
 above-in h ((q ∷ qs) ∷ rows) r rs e (List·Memᴰ·tail m) = above-in h rows r rs (both-right (ltb h (q .lo)) (above h rows) e) m
 
-row-among : (rows : List (List Range)) (r : Range) (rs : List Range) (b : ℕ) (s : List ℕ) → rising rows ≡ true → List·Memᴰ (r ∷ rs) rows → r .lo ≤ b → b ≤ r .hi → widthBy rows (b ∷ s) ≡ pickNat (begins rs s) (suc (length rs)) 0
+row-among : (rows : List (List Range)) (r : Range) (rs : List Range) (b : ℕ) (s : List ℕ) → rising rows ≡ true → List·Memᴰ (r ∷ rs) rows → r .lo ≤ b → b ≤ r .hi → widthBy rows (b ∷ s) ≡ pick (begins rs s) (suc (length rs)) 0
 unfolding rising
 row-among ([] ∷ rows) r rs b s e m g h = absurd (false≢true e)
 row-among ((q ∷ qs) ∷ rows) r rs b s e (List·Memᴰ·head p) g h =
@@ -195,7 +195,7 @@ row-among ((q ∷ qs) ∷ rows) r rs b s e (List·Memᴰ·tail m) g h =
     over q qs rows b s (omega arith) ∙ row-among rows r rs b s (both-right (above (q .hi) rows) (rising rows) e) m g h
 
 -- a first byte in the first range of a row
-pub row-in : (r : Range) (rs : List Range) (b : ℕ) (s : List ℕ) → List·Memᴰ (r ∷ rs) table → r .lo ≤ b → b ≤ r .hi → widthOf (b ∷ s) ≡ pickNat (begins rs s) (suc (length rs)) 0
+pub row-in : (r : Range) (rs : List Range) (b : ℕ) (s : List ℕ) → List·Memᴰ (r ∷ rs) table → r .lo ≤ b → b ≤ r .hi → widthOf (b ∷ s) ≡ pick (begins rs s) (suc (length rs)) 0
 unfolding widthOf
 row-in r rs b s m g h = row-among table r rs b s table-rises m g h
 
@@ -221,7 +221,7 @@ module _ (s : List ℕ) (at : ℕ) (h : at < length s) where
   abbrev b : ℕ
   b = getD s at 0
 
-  pub row-at : (k : ℕ) (r : Range) (rs : List Range) → k < 9 → rowOf k ≡ r ∷ rs → r .lo ≤ b → b ≤ r .hi → widthOf (drop at s) ≡ pickNat (begins rs (drop (at + 1) s)) (suc (length rs)) 0
+  pub row-at : (k : ℕ) (r : Range) (rs : List Range) → k < 9 → rowOf k ≡ r ∷ rs → r .lo ≤ b → b ≤ r .hi → widthOf (drop at s) ≡ pick (begins rs (drop (at + 1) s)) (suc (length rs)) 0
   unfolding table
   row-at k r rs l e g t =
       let m : List·Memᴰ (r ∷ rs) table = rw e at (row-there table k l) in

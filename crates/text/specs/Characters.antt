@@ -4,7 +4,7 @@ use mathlib.Core.Bool.{Bool, true, false, not}
 use mathlib.Core.List.{List, [], _∷_}
 use lib.Dec.{leb, eqb}
 use lib.ListN.{length, getD}
-use Rattle.text.specs.Pick.{both, either, pickNat, within}
+use Rattle.text.specs.Pick.{both, either, within, pick}
 use Rattle.text.specs.declared.Decoded.{Decoded}
 use Rattle.text.specs.Utf8.{decode}
 
@@ -20,7 +20,7 @@ chars s = charsPast 0 s
 -- how many bytes the characters take that stand before the first whose code point passes the test; all of them where none does
 unfoldable pub before : (ℕ → Bool) → List Decoded → ℕ
 before p [] = 0
-before p (c ∷ cs) = pickNat (p (c .cp)) 0 (c .width + before p cs)
+before p (c ∷ cs) = pick (p (c .cp)) 0 (c .width + before p cs)
 
 -- the Rust's `find` of a character, with `unwrap_or(len)`
 abbrev pub find : (ℕ → Bool) → List ℕ → ℕ
@@ -29,7 +29,7 @@ find p s = before p (chars s)
 -- how many bytes stand before the first byte that passes the test; all of them where none does
 unfoldable pub findByte : (ℕ → Bool) → List ℕ → ℕ
 findByte p [] = 0
-findByte p (b ∷ s) = pickNat (p b) 0 (suc (findByte p s))
+findByte p (b ∷ s) = pick (p b) 0 (suc (findByte p s))
 
 -- the place lies between two characters, before the first or after the last: some first characters take just that many bytes
 unfoldable pub between : List Decoded → ℕ → Bool

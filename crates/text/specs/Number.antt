@@ -4,7 +4,7 @@ use mathlib.Core.Bool.{Bool, true, false, not}
 use mathlib.Core.List.{List, [], _∷_}
 use mathlib.Core.Option.{Option, some, none}
 use lib.Dec.{leb, eqb}
-use Rattle.text.specs.Pick.{both, pickOption, within}
+use Rattle.text.specs.Pick.{both, within, pick}
 use Rattle.text.specs.declared.Parsed.{Parsed}
 use Rattle.text.specs.declared.Parsed.the-variants.{Value, NotANumber}
 
@@ -23,7 +23,7 @@ valueFrom n (b ∷ s) = valueFrom (n * 10 + (b - 0x30)) s
 
 -- the digits behind the number n, if they are digits and their number is at most the limit
 unfoldable pub digitsFrom : ℕ → List ℕ → Option ℕ
-digitsFrom n s = pickOption (both (allDigits s) (leb (valueFrom n s) 4294967295)) (some (valueFrom n s)) none
+digitsFrom n s = pick (both (allDigits s) (leb (valueFrom n s) 4294967295)) (some (valueFrom n s)) none
 
 unfoldable pub digits : List ℕ → Option ℕ
 digits [] = none
@@ -32,7 +32,7 @@ digits (b ∷ s) = digitsFrom 0 (b ∷ s)
 -- 0x2B is `+`
 unfoldable pub parsed : List ℕ → Option ℕ
 parsed [] = none
-parsed (b ∷ s) = pickOption (eqb b 0x2B) (digits s) (digits (b ∷ s))
+parsed (b ∷ s) = pick (eqb b 0x2B) (digits s) (digits (b ∷ s))
 
 -- what the answer of `parse` says
 abbrev pub numberOf : Parsed → Option ℕ

@@ -1,4 +1,4 @@
--- Ranges of numbers, tests on numbers, and a choice between two values by a test.
+-- Ranges of numbers, tests on numbers, and the choice between two values by a test, for every crate.
 use Prim.Native.Nat.{ℕ, _+_}
 use mathlib.Core.Bool.{Bool, true, false, not}
 use mathlib.Core.List.{List, [], _∷_}
@@ -27,13 +27,10 @@ abbrev pub same : Bool → Bool → Bool
 same true b = b
 same false b = not b
 
-abbrev pub pickNat : Bool → ℕ → ℕ → ℕ
-pickNat true a b = a
-pickNat false a b = b
-
-abbrev pub pickOption : Bool → Option ℕ → Option ℕ → Option ℕ
-pickOption true a b = a
-pickOption false a b = b
+-- the first where the test holds, else the second
+abbrev pub pick : {A : Type 0} → Bool → A → A → A
+pick true a b = a
+pick false a b = b
 
 -- the number lies between the two ends, both included
 abbrev pub within : ℕ → ℕ → ℕ → Bool

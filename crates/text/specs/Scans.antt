@@ -5,7 +5,7 @@ use mathlib.Core.Bool.{Bool}
 use mathlib.Core.List.{List}
 use lib.Dec.{eqb}
 use lib.ListN.{length, getD, drop}
-use Rattle.text.specs.Pick.{same, pickNat}
+use Rattle.text.specs.Pick.{same, pick}
 use Rattle.text.specs.Utf8.{widthOf, scan}
 use Rattle.text.specs.Blank.{blank}
 
@@ -21,10 +21,10 @@ pub record Led (s : List ℕ) (at lo hi : ℕ) : Type 0 where
 
 -- the lowest and the highest second byte, in the rows of Table 3-7 that begin with E0 to F4
 abbrev pub secondLow : ℕ → ℕ
-secondLow b = pickNat (eqb b 0xE0) 0xA0 (pickNat (eqb b 0xF0) 0x90 0x80)
+secondLow b = pick (eqb b 0xE0) 0xA0 (pick (eqb b 0xF0) 0x90 0x80)
 
 abbrev pub secondHigh : ℕ → ℕ
-secondHigh b = pickNat (eqb b 0xED) 0x9F (pickNat (eqb b 0xF4) 0x8F 0xBF)
+secondHigh b = pick (eqb b 0xED) 0x9F (pick (eqb b 0xF4) 0x8F 0xBF)
 
 -- a scan passes r bytes at a place, or none, where an ill-formed sequence begins
 pub record Passed (s : List ℕ) (at r : ℕ) : Type 0 where

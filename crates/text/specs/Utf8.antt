@@ -5,7 +5,7 @@ use mathlib.Core.Bool.{Bool, true, false}
 use mathlib.Core.List.{List, [], _∷_, _++_, List·Memᴰ}
 use mathlib.Core.Option.{Option, some, none}
 use lib.ListN.{length, getD, take, drop}
-use Rattle.text.specs.Pick.{Range, span, both, pickNat, within}
+use Rattle.text.specs.Pick.{Range, span, both, within, pick}
 use Rattle.text.specs.declared.Decoded.{Decoded}
 use Rattle.text.specs.declared.Utf8.{Utf8}
 use Rattle.text.specs.declared.Utf8.the-variants.{WellFormed, IllFormed}
@@ -33,7 +33,7 @@ begins (r ∷ rs) (b ∷ s) = both (within (r .lo) (r .hi) b) (begins rs s)
 -- how long the sequence is that the list begins with, by the first of the rows that it fits; 0 where it fits none
 unfoldable pub widthBy : List (List Range) → List ℕ → ℕ
 widthBy [] s = 0
-widthBy (row ∷ rows) s = pickNat (begins row s) (length row) (widthBy rows s)
+widthBy (row ∷ rows) s = pick (begins row s) (length row) (widthBy rows s)
 
 unfoldable pub widthOf : List ℕ → ℕ
 widthOf s = widthBy table s

@@ -5,7 +5,7 @@ ghost use mathlib.Core.Bool.{true, not};
 ghost use mathlib.Core.List.{_∷_, []};
 ghost use lib.Dec.{eqb};
 ghost use lib.ListN.{length, drop, getD, take};
-ghost use Rattle.text.specs.Pick.{span, pickNat, within, same, cut};
+ghost use Rattle.text.specs.Pick.{span, within, same, cut, pick};
 ghost use Rattle.text.specs.Utf8.{begins, widthOf, firstIllFormed, placeOf, replacement, decode};
 ghost use Rattle.text.specs.Blank.{blank};
 ghost use Rattle.text.specs.Characters.{chars, before, find, findByte, starts};
@@ -100,7 +100,7 @@ fn second_high(b: u8) -> u8
 // Whether the first byte, from 80 to DF, begins a sequence of two bytes; one of no other length.
 fn two_at(s: &[u8], at: usize) -> bool
     requires { ⌜ Led (now s) at 0x80 0xDF ⌝ }
-    ensures { λ r. ⌜ widthOf (drop at (now (s .entry))) ≡ pickNat r 2 0 ⌝ }
+    ensures { λ r. ⌜ widthOf (drop at (now (s .entry))) ≡ pick r 2 0 ⌝ }
 {
     if s[at] < 0xC2 {
         return false;
@@ -111,7 +111,7 @@ fn two_at(s: &[u8], at: usize) -> bool
 // Whether the first byte, from E0 to EF, begins a sequence of three bytes; one of no other length.
 fn three_at(s: &[u8], at: usize) -> bool
     requires { ⌜ Led (now s) at 0xE0 0xEF ⌝ }
-    ensures { λ r. ⌜ widthOf (drop at (now (s .entry))) ≡ pickNat r 3 0 ⌝ }
+    ensures { λ r. ⌜ widthOf (drop at (now (s .entry))) ≡ pick r 3 0 ⌝ }
 {
     let b = s[at];
     three(s, at + 1, second_low(b), second_high(b))
@@ -120,7 +120,7 @@ fn three_at(s: &[u8], at: usize) -> bool
 // Whether the first byte, from F0 on, begins a sequence of four bytes; one of no other length.
 fn four_at(s: &[u8], at: usize) -> bool
     requires { ⌜ Led (now s) at 0xF0 0xFF ⌝ }
-    ensures { λ r. ⌜ widthOf (drop at (now (s .entry))) ≡ pickNat r 4 0 ⌝ }
+    ensures { λ r. ⌜ widthOf (drop at (now (s .entry))) ≡ pick r 4 0 ⌝ }
 {
     let b = s[at];
     if 0xF4 < b {

@@ -2,10 +2,7 @@
 use Prim.Native.Nat.{ℕ, _+_, _-_}
 use mathlib.Core.Bool.{Bool, true, false}
 use lib.Dec.{leb}
-
-abbrev pub pick : Bool → ℕ → ℕ → ℕ
-pick true a b = a
-pick false a b = b
+use Rattle.text.specs.Pick.{pick}
 
 -- the value of a digit, 0 to 9 and A to F; 16 for any other byte
 abbrev pub hexDigit : ℕ → ℕ

@@ -17,7 +17,6 @@ use Rattle.cursor.specs.Steps.{pastNode}
 use Rattle.cursor.proofs.Runs.{forest-at-leaf, forest-at-open}
 use Rattle.findings.proofs.Overlay.{wrote-none}
 use Rattle.numbers.specs.Label.{numbered}
-use Rattle.numbers.specs.Verse.{pickBool}
 use Rattle.definition.specs.State.{State}
 use Rattle.definition.specs.State as state
 use Rattle.definition.specs.Checks.{given, leafTold}
@@ -28,6 +27,7 @@ use Rattle.state.specs.Running.{stateOf, countsOf}
 use Rattle.state.specs.declared.Record.{Record}
 use Rattle.marker_checks.specs.Skip.{onlyTexts}
 use Rattle.walk.specs.Walking.{nowhere, walkAt, Ready, Walked, canSkipChildren}
+use Rattle.text.specs.Pick.{pick}
 
 -- the test, a node at a time
 module _ (s t : List ℕ) (i to : ℕ) (run : Run s t i to) (more : i < to) where
@@ -35,7 +35,7 @@ module _ (s t : List ℕ) (i to : ℕ) (run : Run s t i to) (more : i < to) wher
   unfolding canSkipChildren
   skipped-marker e = sym (ap canSkipChildren (forest-at-open s t i to run more (eq-eqb (kindAt t i) 1 e)))
 
-  at-leaf : (kindAt t i ≡ 1 → ⊥) → canSkipChildren (forest s t i to) ≡ pickBool (numbered (kindAt t i)) false (canSkipChildren (forest s t (pastNode t i) to))
+  at-leaf : (kindAt t i ≡ 1 → ⊥) → canSkipChildren (forest s t i to) ≡ pick (numbered (kindAt t i)) false (canSkipChildren (forest s t (pastNode t i) to))
   unfolding canSkipChildren
   at-leaf n = ap canSkipChildren (forest-at-leaf s t i to run more (ne-eqb (kindAt t i) 1 n))
 
@@ -70,7 +70,7 @@ unfolding canSkipChildren walk leafTold given
 skipped-walk table o end st h = refl
 skipped-walk table o (leaf x r) st h = go (numbered (x .kind)) refl h (λ q. skipped-walk table o r st q)
   where
-    go : (v : Bool) → numbered (x .kind) ≡ v → pickBool v false (canSkipChildren r) ≡ true → (canSkipChildren r ≡ true → walk table o none r st ≡ still st) → walk table o none (leaf x r) st ≡ still st
+    go : (v : Bool) → numbered (x .kind) ≡ v → pick v false (canSkipChildren r) ≡ true → (canSkipChildren r ≡ true → walk table o none r st ≡ still st) → walk table o none (leaf x r) st ≡ still st
     go true e h rest = absurd (false≢true h)
     go false e h rest = let k = either-false (eqb (x .kind) 3) (eqb (x .kind) 4) e in rw (k .0, k .1) (rest h)
 skipped-walk table o (node x c r) st h = absurd (false≢true h)

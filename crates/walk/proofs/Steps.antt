@@ -9,7 +9,7 @@ use mathlib.Core.Option.{Option, some, none}
 use lib.Dec.{eqb}
 use lib.ListN.{length}
 use borrow.Author.Tests.{eq-eqb, ne-eqb}
-use Rattle.text.specs.Pick.{either, pickNat}
+use Rattle.text.specs.Pick.{either, pick}
 use Rattle.tape.specs.Nodes.{Node, count, nodeAt, kindAt, linkAt, isOpen}
 use Rattle.tape.specs.Forest.{Forest, end, leaf, node, followed, forest, Nested, done, Accepted}
 use Rattle.tape.proofs.Nest.{nested-join, nested-le, forest-join, forest-done}
@@ -18,7 +18,7 @@ use Rattle.cursor.specs.Inner.{Run, Spanned}
 use Rattle.cursor.specs.Info.{infoAt}
 use Rattle.cursor.specs.Steps.{pastNode, holdsNodes}
 use Rattle.cursor.proofs.Runs.{one-nested, rest-nested, one-leaf, one-open, forest-at-leaf, forest-at-open, past-later, past-inside}
-use Rattle.numbers.specs.Label.{pickList, numbered}
+use Rattle.numbers.specs.Label.{numbered}
 use Rattle.findings.specs.Finding.{Finding}
 use Rattle.findings.specs.Written.{Room}
 use Rattle.attachment.specs.Attached.{starts, attachedNumbers}
@@ -26,7 +26,7 @@ use Rattle.attachment.specs.declared.Attached.{Attached}
 use Rattle.definition.specs.State.{State, Anchor, past, Told}
 use Rattle.definition.specs.State as state
 use Rattle.definition.specs.Checks.{entryOf, leafTold}
-use Rattle.definition.specs.Walk.{leafAnchor, pickAnchor, openTold, inside, before, after, thenWalk, byEntry, walk}
+use Rattle.definition.specs.Walk.{leafAnchor, openTold, inside, before, after, thenWalk, byEntry, walk}
 use Rattle.definition.specs.Walk as def
 use Rattle.state.specs.Running.{stateOf, countsOf, anchorOf, startsFor, withAnchor, Sane}
 use Rattle.state.specs.declared.Record.{Record}
@@ -80,14 +80,14 @@ module _ (s t : List ℕ) (d i to : ℕ) (ok : Accepted s t) (nested : Nested t 
     pub leaf-anchor : (n : ℕ) → Anchored t d n i → leafAnchor (anchorOf s t n i) (nodeAt s t i) ≡ anchorOf s t (anchorAfter t i n) next
     leaf-anchor n a = go (numbered (kindAt t i)) refl
       where
-        go : (v : Bool) → numbered (kindAt t i) ≡ v → pickAnchor v (some (record { kind = kindAt t i; passed = end })) (past (anchorOf s t n i) (leaf (nodeAt s t i) end)) ≡ anchorOf s t (pickNat v i n) next
+        go : (v : Bool) → numbered (kindAt t i) ≡ v → pick v (some (record { kind = kindAt t i; passed = end })) (past (anchorOf s t n i) (leaf (nodeAt s t i) end)) ≡ anchorOf s t (pick v i n) next
         go true e = sym (anchor-at s t i next from ∙ ap (λ (f : Forest). some (record { kind = kindAt t i; passed = f })) (forest-done s t next next (omega arith)))
         go false e = ap (past (anchorOf s t n i)) (sym (one-leaf s t d i to ok nested from within more leafy)) ∙ anchor-past n a
 
     pub leaf-anchored : (n : ℕ) → Anchored t d n i → Anchored t d (anchorAfter t i n) next
     leaf-anchored n a = go (numbered (kindAt t i)) i refl
       where
-        go : (v : Bool) (j : ℕ) → i ≡ j → Anchored t d (pickNat v j n) next
+        go : (v : Bool) (j : ℕ) → i ≡ j → Anchored t d (pick v j n) next
         go true zero e = absurd (omega arith)
         go true (suc j) e =
             let below : suc j < count t = omega arith in
@@ -99,7 +99,7 @@ module _ (s t : List ℕ) (d i to : ℕ) (ok : Accepted s t) (nested : Nested t 
     unfolding followed
     leaf-starts n given a h = go (numbered (kindAt t i))
       where
-        go : (v : Bool) → pickList v (starts (attachedNumbers (kindAt t i) (forest s t next to))) given ≡ startsFor (anchorOf s t (pickNat v i n) next) (forest s t next to)
+        go : (v : Bool) → pick v (starts (attachedNumbers (kindAt t i) (forest s t next to))) given ≡ startsFor (anchorOf s t (pick v i n) next) (forest s t next to)
         go true = sym (ap (λ (a : Option Anchor). startsFor a (forest s t next to)) (anchor-at s t i next from) ∙ ap (λ (f : Forest). starts (attachedNumbers (kindAt t i) (followed f (forest s t next to)))) (forest-done s t next next (omega arith)))
         go false = h ∙ starts-past n a
 
@@ -138,7 +138,7 @@ module _ (s t : List ℕ) (d n from to : ℕ) (ok : Accepted s t) (nested : Nest
       go nowhere h = absurd (h refl)
       go (behind l r) h = l
 
-  past-some : (b : Bool) (x y : ℕ) → 1 ≤ pickNat b (x + 1) (y + 1)
+  past-some : (b : Bool) (x y : ℕ) → 1 ≤ pick b (x + 1) (y + 1)
   past-some true x y = omega arith
   past-some false x y = omega arith
 

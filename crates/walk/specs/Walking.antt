@@ -12,9 +12,7 @@ use Rattle.cursor.specs.Steps.{pastNode}
 use Rattle.cursor.specs.Inner.{Run, Spanned}
 use Rattle.findings.specs.Finding.{Finding}
 use Rattle.findings.specs.Written.{Wrote, Room}
-use Rattle.text.specs.Pick.{pickNat}
-use Rattle.numbers.specs.Label.{pickList, numbered}
-use Rattle.numbers.specs.Verse.{pickBool}
+use Rattle.numbers.specs.Label.{numbered}
 use Rattle.definition.specs.Checks.{leafTold}
 use Rattle.attachment.specs.Attached.{startsOf, starts, attachedNumbers}
 use Rattle.attachment.specs.declared.Attached.{Attached}
@@ -25,6 +23,7 @@ use Rattle.definition.specs.Walk as def
 use Rattle.definition.specs.declared.OpenStart.{OpenStart}
 use Rattle.state.specs.Running.{stateOf, countsOf, anchorOf, startsFor, Sane, Opens}
 use Rattle.state.specs.declared.Record.{Record}
+use Rattle.text.specs.Pick.{pick}
 
 -- the anchor of a run stands before it among its siblings, which nest at most d deep, or there is none
 pub data Anchored (t : List ℕ) (d : ℕ) : ℕ → ℕ → Type 0 where
@@ -93,7 +92,7 @@ pub record Visitable (s t : List ℕ) (i to : ℕ) (numbers : Attached) (r : Rec
 
 -- a leaf, of which a Chapter or Verse is the new anchor
 abbrev pub anchorAfter : List ℕ → ℕ → ℕ → ℕ
-anchorAfter t i n = pickNat (numbered (kindAt t i)) i n
+anchorAfter t i n = pick (numbered (kindAt t i)) i n
 
 pub record LeafPassed (table s t : List ℕ) (o : state.Around) (i : ℕ) (seen l : List ℕ) (r : Record) (seen′ l′ : List ℕ) (q : Record) : Type 0 where
   pub wrote : Wrote (leafTold table o (stateOf s t seen [] r) (nodeAt s t i) .findings) l (countsOf r) l′ (countsOf q)
@@ -106,7 +105,7 @@ pub record LeafPassed (table s t : List ℕ) (o : state.Around) (i : ℕ) (seen 
 
 -- the numbers attached after a leaf
 abbrev pub numbersAfter : List ℕ → List ℕ → ℕ → ℕ → ℕ → List ℕ → List ℕ
-numbersAfter s t i next to before = pickList (numbered (kindAt t i)) (starts (attachedNumbers (kindAt t i) (forest s t next to))) before
+numbersAfter s t i next to before = pick (numbered (kindAt t i)) (starts (attachedNumbers (kindAt t i) (forest s t next to))) before
 
 -- the entry of a marker, and of no other node
 abbrev pub onlyOpen : Bool → Option Entry → Option Entry
@@ -147,5 +146,5 @@ pub record PassedBy (table s t : List ℕ) (o : state.Around) (i next to : ℕ) 
 -- a run of which the walk says nothing and learns nothing: no marker, no Chapter and no Verse
 unfoldable pub canSkipChildren : Forest → Bool
 canSkipChildren end = true
-canSkipChildren (leaf x r) = pickBool (numbered (x .kind)) false (canSkipChildren r)
+canSkipChildren (leaf x r) = pick (numbered (x .kind)) false (canSkipChildren r)
 canSkipChildren (node x c r) = false

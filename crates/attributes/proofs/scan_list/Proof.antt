@@ -14,11 +14,12 @@ use Rattle.attributes.proofs.Owed.{at, Owing, owing-as, owing-room, owi
 use Rattle.attributes.proofs.Quotes.{unclosed, closed}
 use Rattle.attributes.proofs.Scanning.{key-alone, key-valued, leads-in, unquoted-starts, unquoted-next}
 use Rattle.attributes.proofs.Turns.{Going, going-start, going-on, going-end}
-use Rattle.attributes.specs.Attributes.{between, value, unquoted, scan, keyAlone, unquotedValue, emptyValue, unterminated, pickKinds}
+use Rattle.attributes.specs.Attributes.{between, value, unquoted, scan, keyAlone, unquotedValue, emptyValue, unterminated}
 use Rattle.findings.specs.Finding.{Kind, findingOf}
 use Rattle.text.specs.Characters.{chars}
 use Rattle.attributes.proofs.scan_list.Statement.{statement}
 use Rattle.attributes.proofs.scan_list.Tie as tie
+use Rattle.text.specs.Pick.{pick}
 
 abbrev Inv-scan : tie.InvT-scan
 Inv-scan body w list₀ c₀ i₀ list c i = Going w body list₀ c₀ i list c
@@ -68,7 +69,7 @@ due-unclosed c =
 close-inside : (c : tie.Else3 Inv-scan μ-scan) → c .before .closing-quote .result < length (text (c .before .before .before .before .before .before .before))
 close-inside c = omega (arith, c .before .closing-quote .ensures .inside, c .if3 .left)
 
-due-closed : (c : tie.Else3 Inv-scan μ-scan) → Due (c .before .before .before .before .before .before .before) (pickKinds (eqb (c .before .closing-quote .result) (c .before .before .before .before .before .before .key-end .result + 2)) (emptyValue ∷ []) [] ++ scan between (chars (drop (c .before .closing-quote .result + 1) (text (c .before .before .before .before .before .before .before)))))
+due-closed : (c : tie.Else3 Inv-scan μ-scan) → Due (c .before .before .before .before .before .before .before) (pick (eqb (c .before .closing-quote .result) (c .before .before .before .before .before .before .key-end .result + 2)) (emptyValue ∷ []) [] ++ scan between (chars (drop (c .before .closing-quote .result + 1) (text (c .before .before .before .before .before .before .before)))))
 due-closed c =
     let q = c .before .closing-quote in
     let e = c .before .before in

@@ -7,12 +7,12 @@ use mathlib.Core.List.{List, [], _∷_, _++_}
 use mathlib.Core.Path.{_≡_, ap, _∙_}
 use Rattle.attributes.proofs.Owed.{at, Owing, owing-start, owing-as, owing-room, owing-wrote, owing-end}
 use Rattle.attributes.proofs.Whole.{kinds-none, kinds-scan, kinds-bare}
-use Rattle.attributes.specs.Attributes.{emptyList, noDefault, between, scan, body, pickKinds, hasDefault, attributeKinds}
+use Rattle.attributes.specs.Attributes.{emptyList, noDefault, between, scan, body, hasDefault, attributeKinds}
 use Rattle.cursor.specs.Names.{nameOf}
 use Rattle.findings.specs.Finding.{Kind, findingOf}
 use Rattle.table.specs.Names.{defaultOf}
 use Rattle.text.specs.Characters.{chars}
-use Rattle.text.specs.Pick.{cut}
+use Rattle.text.specs.Pick.{cut, pick}
 use Rattle.text.specs.Words.{trim}
 use Rattle.attributes.proofs.validate_attribute.Statement.{statement}
 use Rattle.attributes.proofs.validate_attribute.Tie as tie
@@ -40,7 +40,7 @@ is-scan c =
     let a = c .before .before .before .before .before .before .before .before .args in
     kinds-scan (nameOf (now (a .marker))) (now (a .text)) (now (c .before .before .before .trim .result)) (is-body (c .before .before .before)) (c .before .before .if1 .left) (c .before .find-byte .result) (c .before .find-byte .ensures) (c .if2 .taken)
 
-due-bare : (c : tie.After-has-default) → Due (c .before .before .before .before .before .before .before .before .before .before .before) (pickKinds (not (c .has-default .result)) (noDefault ∷ []) [] ++ [])
+due-bare : (c : tie.After-has-default) → Due (c .before .before .before .before .before .before .before .before .before .before .before) (pick (not (c .has-default .result)) (noDefault ∷ []) [] ++ [])
 due-bare c =
     let a = c .before .before .before .before .before .before .before .before .before .before .before .args in
     let e = c .before .before .before in

@@ -7,9 +7,9 @@ use mathlib.Core.Option.{some, none}
 use mathlib.Core.Path.{sym, ap, _∙_}
 use native.Mathlib.Omega.{arith}
 use Rattle.cursor.proofs.Around.{next-off, next-by}
-use Rattle.text.specs.Pick.{pickOption}
 use Rattle.cursor.proofs.next_sibling.Statement.{statement}
 use Rattle.cursor.proofs.next_sibling.Tie as tie
+use Rattle.text.specs.Pick.{pick}
 
 past-node-requires : tie.Need-past-node-requires
 past-node-requires c κs = search needs
@@ -32,7 +32,7 @@ returns-2 c =
     let p = c .before .before .before .before .past-node in
     let k = c .before .before .kind-at in
     let x = c .before .is-close in
-    sym (ap (λ (y : Bool). pickOption (not y) (some (p .result)) none) (c .if2 .taken)) ∙ next-by (now (a .tape)) (a .i) (p .result) (p .ensures) (k .result) (x .result) (c .before .before .before .if1 .left) (k .ensures) (x .ensures)
+    sym (ap (λ (y : Bool). pick (not y) (some (p .result)) none) (c .if2 .taken)) ∙ next-by (now (a .tape)) (a .i) (p .result) (p .ensures) (k .result) (x .result) (c .before .before .before .if1 .left) (k .ensures) (x .ensures)
 
 returns-3 : tie.Need-returns-3
 returns-3 c =
@@ -40,7 +40,7 @@ returns-3 c =
     let p = c .before .before .before .before .past-node in
     let k = c .before .before .kind-at in
     let x = c .before .is-close in
-    sym (ap (λ (y : Bool). pickOption (not y) (some (p .result)) none) (c .if2 .left)) ∙ next-by (now (a .tape)) (a .i) (p .result) (p .ensures) (k .result) (x .result) (c .before .before .before .if1 .left) (k .ensures) (x .ensures)
+    sym (ap (λ (y : Bool). pick (not y) (some (p .result)) none) (c .if2 .left)) ∙ next-by (now (a .tape)) (a .i) (p .result) (p .ensures) (k .result) (x .result) (c .before .before .before .if1 .left) (k .ensures) (x .ensures)
 
 pub next-sibling-spec : {M : Type 1} → statement M
 next-sibling-spec =

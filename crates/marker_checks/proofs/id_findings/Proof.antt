@@ -8,7 +8,7 @@ use mathlib.Core.Bool.{not}
 use mathlib.Core.List.{List, []}
 use lib.Dec.{eqb}
 use lib.ListN.{length, drop}
-use Rattle.text.specs.Pick.{both, pickNat}
+use Rattle.text.specs.Pick.{both, pick}
 use Rattle.tape.specs.Nodes.{nodeAt}
 use Rattle.tape.specs.Forest.{forest}
 use Rattle.findings.specs.declared.Counts.{Counts}
@@ -43,10 +43,10 @@ bad c =
     let a = c .before .before .before .before .before .before .before .before .before .before .args in
     both-holds (a .named) (a .named) refl _ _ (not-false _ (c .before .before .before .before .before .before .if1 .left)) (c .is-bad-code .ensures ∙ ap (λ (s : List ℕ). both (not (eqb (length s) 0)) (not (isBook s))) (c .before .before .before .before .before .book-code .ensures))
 
-form : (c : tie.After-code-form) → let a = c .before .before .before .before .before .before .before .before .before .before .before .args in warning (nodeAt [] (now (a .tape)) (a .i)) 5 (c .code-form .result) ≡ warning (nodeAt [] (now (a .tape)) (a .i)) 5 (pickNat (isBook (upper (bookCode (forest (now (a .source)) (now (a .tape)) (a .i + 1) (a .link))))) 0 1)
+form : (c : tie.After-code-form) → let a = c .before .before .before .before .before .before .before .before .before .before .before .args in warning (nodeAt [] (now (a .tape)) (a .i)) 5 (c .code-form .result) ≡ warning (nodeAt [] (now (a .tape)) (a .i)) 5 (pick (isBook (upper (bookCode (forest (now (a .source)) (now (a .tape)) (a .i + 1) (a .link))))) 0 1)
 form c =
     let a = c .before .before .before .before .before .before .before .before .before .before .before .args in
-    ap (warning (nodeAt [] (now (a .tape)) (a .i)) 5) (c .code-form .ensures ∙ ap (λ (s : List ℕ). pickNat (isBook (upper s)) 0 1) (c .before .before .before .before .before .before .book-code .ensures))
+    ap (warning (nodeAt [] (now (a .tape)) (a .i)) 5) (c .code-form .ensures ∙ ap (λ (s : List ℕ). pick (isBook (upper s)) 0 1) (c .before .before .before .before .before .before .book-code .ensures))
 
 returns : tie.Need-returns
 returns c =

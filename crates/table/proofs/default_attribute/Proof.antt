@@ -8,11 +8,12 @@ use mathlib.Core.Path.{_≡_, sym, ap, _∙_}
 use mathlib.Core.Option.{Option, some, none}
 use Rattle.table.specs.Books.{codeFrom}
 use Rattle.table.specs.Bytes.{starting}
-use Rattle.table.specs.Names.{qt, pickDefault, defaultOf}
+use Rattle.table.specs.Names.{qt, defaultOf}
 use Rattle.table.specs.Inner.{valueOf, wordsOf, attributeBy}
 use Rattle.table.proofs.Positions.{owners, default-is}
 use Rattle.table.proofs.default_attribute.Statement.{statement}
 use Rattle.table.proofs.default_attribute.Tie as tie
+use Rattle.text.specs.Pick.{pick}
 
 slice-aggregate-word-in : tie.Need-slice-aggregate-word-in
 slice-aggregate-word-in c = search needs
@@ -42,7 +43,7 @@ returns c =
     let o : some (c .before .before .p .given .0 .0) ≡ codeFrom 0 owners s = sym (ap valueOf (c .before .before .p .given .1)) ∙ c .before .before .before .before .word-in .ensures in
     c .attribute .ensures ∙ ap (λ (x : Option ℕ). attributeBy x (starting qt s)) o ∙ sym (default-is s)
 
-unowned : (c : tie.After-starts-with) (t : Bool) → c .starts-with .result ≡ t → pickDefault t Who NoDefault ≡ defaultOf (now (c .before .before .before .before .before .before .before .args .name))
+unowned : (c : tie.After-starts-with) (t : Bool) → c .starts-with .result ≡ t → pick t Who NoDefault ≡ defaultOf (now (c .before .before .before .before .before .before .before .args .name))
 unfolding owners wordsOf
 unowned c t e =
     let d = c .before .before in

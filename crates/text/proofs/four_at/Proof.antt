@@ -7,9 +7,9 @@ use mathlib.Core.Path.{_≡_, sym, ap, _∙_}
 use native.Mathlib.Omega.{arith}
 use Rattle.text.proofs.Rows.{row-high}
 use Rattle.text.proofs.Second.{four-row}
-use Rattle.text.specs.Pick.{pickNat}
 use Rattle.text.proofs.four_at.Statement.{statement}
 use Rattle.text.proofs.four_at.Tie as tie
+use Rattle.text.specs.Pick.{pick}
 
 shared-slice-read-b : tie.Need-shared-slice-read-b
 shared-slice-read-b c = search needs
@@ -35,7 +35,7 @@ returns-2 : tie.Need-returns-2
 returns-2 c =
     let a = c .before .before .before .before .before .before .args in
     four-row (now (a .s)) (a .at) (omega arith) (omega arith) (omega arith)
-    ∙ ap (λ (t : Bool). pickNat t 4 0) (sym (rw (c .before .before .second-low .ensures, c .before .second-high .ensures) at (c .four .ensures)))
+    ∙ ap (λ (t : Bool). pick t 4 0) (sym (rw (c .before .before .second-low .ensures, c .before .second-high .ensures) at (c .four .ensures)))
 
 pub four-at-spec : {M : Type 1} → statement M
 four-at-spec =

@@ -9,7 +9,7 @@ use mathlib.Core.List.{[], _∷_}
 use mathlib.Core.Path.{_≡_, sym, ap, _∙_}
 use native.Mathlib.Omega.{arith}
 use Rattle.text.proofs.Second.{three-row}
-use Rattle.text.specs.Pick.{span, pickNat}
+use Rattle.text.specs.Pick.{span, pick}
 use Rattle.text.specs.Utf8.{begins}
 use Rattle.text.proofs.three_at.Statement.{statement}
 use Rattle.text.proofs.three_at.Tie as tie
@@ -33,7 +33,7 @@ returns : tie.Need-returns
 returns c =
     let a = c .before .before .before .before .before .args in
     three-row (now (a .s)) (a .at) (omega arith) (omega arith) (omega arith)
-    ∙ ap (λ (t : Bool). pickNat t 3 0) (sym (rw (c .before .before .second-low .ensures, c .before .second-high .ensures) at (c .three .ensures)))
+    ∙ ap (λ (t : Bool). pick t 3 0) (sym (rw (c .before .before .second-low .ensures, c .before .second-high .ensures) at (c .three .ensures)))
 
 pub three-at-spec : {M : Type 1} → statement M
 three-at-spec =

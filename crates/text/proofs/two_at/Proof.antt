@@ -7,7 +7,7 @@ use mathlib.Core.List.{[], _∷_}
 use mathlib.Core.Path.{refl, sym, ap, _∙_}
 use native.Mathlib.Omega.{arith}
 use Rattle.text.proofs.Rows.{row-at, row-low}
-use Rattle.text.specs.Pick.{span, pickNat}
+use Rattle.text.specs.Pick.{span, pick}
 use Rattle.text.specs.Utf8.{table}
 use Rattle.text.proofs.two_at.Statement.{statement}
 use Rattle.text.proofs.two_at.Tie as tie
@@ -31,7 +31,7 @@ unfolding table
 returns-2 c =
     let a = c .before .before .before .before .args in
     row-at (now (a .s)) (a .at) (omega arith) 1 (span 0xC2 0xDF) (span 0x80 0xBF ∷ []) (omega arith) refl (omega arith) (omega arith)
-    ∙ ap (λ (t : Bool). pickNat t 2 0) (sym (c .two .ensures))
+    ∙ ap (λ (t : Bool). pick t 2 0) (sym (c .two .ensures))
 
 pub two-at-spec : {M : Type 1} → statement M
 two-at-spec = tie.close (tie.spec shared-slice-read-if1 returns add-two two-requires returns-2)
