@@ -2,10 +2,9 @@
 -- Assumes nothing.
 use Prim.Native.Nat.{ℕ}
 use mathlib.Core.Path.{_≡_, refl, ap}
-use mathlib.Core.Bool.{Bool, true, false, false≢true}
+use mathlib.Core.Bool.{Bool, true, false, false≢true, _||_}
 use mathlib.Core.List.{List, [], _∷_, _++_}
 use lib.Dec.{eqb}
-use Rattle.text.specs.Pick.{either}
 use Rattle.tape.specs.Nodes.{Node}
 use Rattle.tape.specs.Forest.{Forest, end, leaf, node, followed}
 use Rattle.cursor.specs.Names.{nameOf}
@@ -26,14 +25,14 @@ run-grows kind alt pubn (leaf x r) g = longer-if (isBlank x) _ _ (run-grows kind
 run-grows kind alt pubn (node x c r) g =
     longer-if (claims kind alt pubn (nameOf (x .text))) _ _
     (longer-cons x _ _
-    (longer-if (plain c) _ _ (run-grows kind (either alt (isAlternate kind (nameOf (x .text)))) (either pubn (isPublished kind (nameOf (x .text)))) r g)))
+    (longer-if (plain c) _ _ (run-grows kind (alt || isAlternate kind (nameOf (x .text))) (pubn || isPublished kind (nameOf (x .text))) r g)))
 
 among-more : (at : ℕ) (xs ys : List Node) → among at (starts xs) ≡ true → among at (starts (xs ++ ys)) ≡ true
 unfolding among starts
 among-more at [] ys h = absurd (false≢true h)
 among-more at (x ∷ xs) ys h = go (eqb (x .start) at) (among-more at xs ys) h
   where
-    go : (v : Bool) → (among at (starts xs) ≡ true → among at (starts (xs ++ ys)) ≡ true) → either v (among at (starts xs)) ≡ true → either v (among at (starts (xs ++ ys))) ≡ true
+    go : (v : Bool) → (among at (starts xs) ≡ true → among at (starts (xs ++ ys)) ≡ true) → (v || among at (starts xs)) ≡ true → (v || among at (starts (xs ++ ys))) ≡ true
     go true rest h = refl
     go false rest h = rest h
 

@@ -2,13 +2,13 @@
 -- Assumes nothing.
 use Prim.Native.Nat.{ℕ, zero, suc, _<_}
 use mathlib.Core.Path.{_≡_, refl, sym, _∙_}
-use mathlib.Core.Bool.{Bool, true, false, not}
+use mathlib.Core.Bool.{Bool, true, false, not, _&&_, _||_}
 use mathlib.Core.List.{List, [], _∷_, _++_}
 use native.Mathlib.Omega.{arith}
 use lib.Dec.{eqb}
 use lib.ListN.{length, getD, take}
 use borrow.Author.Tests.{eq-eqb, ne-eqb}
-use Rattle.text.specs.Pick.{both, either, cut}
+use Rattle.text.specs.Pick.{cut}
 use Rattle.text.specs.Words.{blankText}
 use Rattle.tape.specs.Nodes.{nodeAt, kindAt, span}
 use Rattle.table.specs.Bytes.{equal}
@@ -24,7 +24,7 @@ letter-chapter kind e = rw (eq-eqb kind 3 e)
 pub letter-verse : (kind : ℕ) → (kind ≡ 3 → ⊥) → 0x76 ≡ letter kind
 letter-verse kind n = rw (ne-eqb kind 3 n)
 
-both-true : (v : Bool) → v ≡ both v true
+both-true : (v : Bool) → v ≡ (v && true)
 both-true true = refl
 both-true false = refl
 
@@ -54,11 +54,11 @@ module _ (kind l : ℕ) (name : List ℕ) (x : Bool) (letter-is : l ≡ letter k
   published-by e = e ∙ rw letter-is
 
 -- the place that a name claims, by the tests of the two sorts
-module _ (kind : ℕ) (alt pubn : Bool) (name : List ℕ) (x y : Bool) (named : x ≡ isAlternate kind name) (free : y ≡ both x (not alt)) where
+module _ (kind : ℕ) (alt pubn : Bool) (name : List ℕ) (x y : Bool) (named : x ≡ isAlternate kind name) (free : y ≡ (x && not alt)) where
   pub claims-alternate : y ≡ true → true ≡ claims kind alt pubn name
   claims-alternate h = rw (← named, ← free, h)
 
-  pub claims-published : (u v : Bool) → y ≡ false → u ≡ isPublished kind name → v ≡ both u (not pubn) → v ≡ claims kind alt pubn name
+  pub claims-published : (u v : Bool) → y ≡ false → u ≡ isPublished kind name → v ≡ (u && not pubn) → v ≡ claims kind alt pubn name
   claims-published u v h e f = rw (← named, ← free, h) (f ∙ rw e)
 
 -- tests of a node, by its kind and its text
@@ -95,7 +95,7 @@ pub added-second : (a : Attached) (n : ℕ) → (a .count ≡ 0 → ⊥) → len
 added-second a n e h = rw (lone (a .count) (a .first) (a .second) e h)
 
 -- whether an offset is among those found
-either-none : (v : Bool) → v ≡ either v false
+either-none : (v : Bool) → v ≡ (v || false)
 either-none true = refl
 either-none false = refl
 

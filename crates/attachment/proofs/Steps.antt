@@ -2,12 +2,12 @@
 -- Assumes nothing.
 use Prim.Native.Nat.{ℕ, _+_, _<_, _≤_}
 use mathlib.Core.Path.{_≡_, refl, sym, ap, _∙_}
-use mathlib.Core.Bool.{Bool, true, false, not, false≢true}
+use mathlib.Core.Bool.{Bool, true, false, not, false≢true, _&&_, _||_}
 use mathlib.Core.List.{List, [], _∷_, _++_}
 use native.Mathlib.Omega.{arith}
 use lib.ListN.{length, length-append}
 use borrow.Author.Tests.{eq-eqb, ne-eqb, eqb-true}
-use Rattle.text.specs.Pick.{both, either, pick}
+use Rattle.text.specs.Pick.{pick}
 use Rattle.text.proofs.Rows.{both-left, both-right}
 use Rattle.tape.specs.Nodes.{Node, nodeAt, kindAt, startAt, linkAt, isOpen}
 use Rattle.tape.specs.Forest.{forest}
@@ -65,10 +65,10 @@ taken-two true false = omega arith
 taken-two false true = omega arith
 taken-two false false = omega arith
 
-taken-more : (u v alt pubn : Bool) → either (both u (not alt)) (both v (not pubn)) ≡ true → bit alt + bit pubn < bit (either alt u) + bit (either pubn v)
+taken-more : (u v alt pubn : Bool) → ((u && not alt) || (v && not pubn)) ≡ true → bit alt + bit pubn < bit (alt || u) + bit (pubn || v)
 taken-more u v true true h = absurd (no u v h)
   where
-    no : (u v : Bool) → either (both u false) (both v false) ≡ true → ⊥
+    no : (u v : Bool) → ((u && false) || (v && false)) ≡ true → ⊥
     no true true h = false≢true h
     no true false h = false≢true h
     no false true h = false≢true h
@@ -115,7 +115,7 @@ module _ (s t : List ℕ) (kind from to : ℕ) (found : Attached) (alt pubn : Bo
         let e : runOf kind alt pubn (forest s t i to) ≡ [] = go (isOpen (kindAt t i)) refl k in
         sym (append-none (startsOf found)) ∙ (rw e at (g .left))
       where
-        go : (v : Bool) → isOpen (kindAt t i) ≡ v → both v (claims kind alt pubn (nameOf (nodeAt s t i .text))) ≡ false → runOf kind alt pubn (forest s t i to) ≡ []
+        go : (v : Bool) → isOpen (kindAt t i) ≡ v → (v && claims kind alt pubn (nameOf (nodeAt s t i .text))) ≡ false → runOf kind alt pubn (forest s t i to) ≡ []
         go false o k = as-leaf o ∙ rw h
         go true o k = as-node o ∙ rw k
 

@@ -1,11 +1,11 @@
 -- Document 01, module 7: "`attached_numbers`, compared by start offset as in `is_attached`."
 use Prim.Native.Nat.{ℕ}
-use mathlib.Core.Bool.{Bool, true, false, not}
+use mathlib.Core.Bool.{Bool, true, false, not, _&&_, _||_}
 use mathlib.Core.List.{List, [], _∷_, _++_}
 use mathlib.Core.Path.{_≡_}
 use lib.Dec.{eqb}
 use lib.ListN.{take}
-use Rattle.text.specs.Pick.{both, either, pick}
+use Rattle.text.specs.Pick.{pick}
 use Rattle.text.specs.Words.{blankText}
 use Rattle.tape.specs.Nodes.{Node}
 use Rattle.tape.specs.Forest.{Forest, end, leaf, node}
@@ -27,11 +27,11 @@ isPublished kind name = equal name (letter kind ∷ 0x70 ∷ [])
 
 -- a number of this kind of anchor whose place is still free: "at most one of each"
 abbrev pub claims : ℕ → Bool → Bool → List ℕ → Bool
-claims kind alt pubn name = either (both (isAlternate kind name) (not alt)) (both (isPublished kind name) (not pubn))
+claims kind alt pubn name = (isAlternate kind name && not alt) || (isPublished kind name && not pubn)
 
 -- a blank or empty Text
 abbrev pub isBlank : Node → Bool
-isBlank x = both (eqb (x .kind) 5) (blankText (x .text))
+isBlank x = eqb (x .kind) 5 && blankText (x .text)
 
 -- "no nested marker children"
 unfoldable pub plain : Forest → Bool
@@ -49,7 +49,7 @@ runOf kind alt pubn end = []
 runOf kind alt pubn (leaf x r) = onlyIf (isBlank x) (runOf kind alt pubn r)
 runOf kind alt pubn (node x c r) =
     onlyIf (claims kind alt pubn (nameOf (x .text)))
-    (x ∷ onlyIf (plain c) (runOf kind (either alt (isAlternate kind (nameOf (x .text)))) (either pubn (isPublished kind (nameOf (x .text)))) r))
+    (x ∷ onlyIf (plain c) (runOf kind (alt || isAlternate kind (nameOf (x .text))) (pubn || isPublished kind (nameOf (x .text))) r))
 
 -- the numbers attached to an anchor of the kind, of the siblings that follow it
 abbrev pub attachedNumbers : ℕ → Forest → List Node
@@ -61,7 +61,7 @@ starts (x ∷ xs) = x .start ∷ starts xs
 
 unfoldable pub among : ℕ → List ℕ → Bool
 among at [] = false
-among at (x ∷ xs) = either (eqb x at) (among at xs)
+among at (x ∷ xs) = eqb x at || among at xs
 
 -- "compared by start offset"
 abbrev pub isAttached : ℕ → Forest → ℕ → Bool

@@ -1,10 +1,9 @@
 // Alternate and published numbers: which of them are attached to a chapter or a verse.
 ghost use mathlib.Core.Path.{_≡_};
-ghost use mathlib.Core.Bool.{not};
+ghost use mathlib.Core.Bool.{not, _&&_};
 ghost use mathlib.Core.List.{[], _∷_, _++_};
 ghost use Prim.Native.Nat.{_<_};
 ghost use lib.ListN.{length};
-ghost use Rattle.text.specs.Pick.{both};
 ghost use Rattle.tape.specs.Nodes.{nodeAt};
 ghost use Rattle.tape.specs.Forest.{forest};
 ghost use Rattle.table.specs.Bytes.{equal};
@@ -75,7 +74,7 @@ pub fn is_plain_text(source: &[u8], tape: &[u8], from: usize, to: usize) -> bool
 
 // Whether a name of a sort finds the place of that sort free.
 fn finds_free(named: bool, taken: bool) -> bool
-    ensures { λ r. ⌜ r ≡ both named (not taken) ⌝ }
+    ensures { λ r. ⌜ r ≡ (named && not taken) ⌝ }
 {
     if named { !taken } else { false }
 }

@@ -1,7 +1,7 @@
 -- A value between quotes: the scan of its characters, and the search for its closing quote among its bytes.
 -- Assumes nothing.
 use mathlib.Core.Path.{_≡_, refl, sym, _∙_}
-use mathlib.Core.Bool.{Bool, true, false, not, false≢true}
+use mathlib.Core.Bool.{Bool, true, false, not, false≢true, _&&_, _||_}
 use mathlib.Core.List.{List, [], _∷_, _++_}
 use Prim.Native.Nat.{ℕ, zero, suc, _+_, _-_, _<_, _≤_}
 use native.Mathlib.Nat.{not-suc-le-zero, add-zero}
@@ -10,7 +10,7 @@ use lib.Dec.{eqb, ltb, leb·suc-suc}
 use lib.ListN.{length, getD, drop, length-drop, drop-of-length-le}
 use lib.Seq.{drop-drop}
 use borrow.Author.Tests.{lt-ltb, le-ltb, eq-eqb, ne-eqb, eqb-true}
-use Rattle.text.specs.Pick.{both, either, pick}
+use Rattle.text.specs.Pick.{pick}
 use Rattle.text.specs.Utf8.{decode}
 use Rattle.text.specs.Characters.{chars, findByte}
 use Rattle.text.proofs.Rows.{both-false, both-left, place}
@@ -22,7 +22,7 @@ use Rattle.attributes.proofs.Scanning.{scan-end, scan-char, scan-byte, 
 
 -- a quote or a backslash
 abbrev special : ℕ → Bool
-special c = either (eqb c 0x22) (eqb c 0x5C)
+special c = eqb c 0x22 || eqb c 0x5C
 
 special-flat : (c d : ℕ) → 0x80 ≤ c → 0x80 ≤ d → special c ≡ special d
 special-flat c d h k = high c h ∙ sym (high d k)
@@ -59,11 +59,11 @@ unfolding step
 inside-plain true b s h = no-quote escaping b s (λ c e. refl) h
 inside-plain false b s h = refl
 
-inside-byte : (e : Bool) (b : ℕ) (s : List ℕ) → both (eqb b 0x22) (not e) ≡ false → scan (inside e) (chars (b ∷ s)) ≡ scan (inside (eqb b 0x5C)) (chars s)
+inside-byte : (e : Bool) (b : ℕ) (s : List ℕ) → (eqb b 0x22 && not e) ≡ false → scan (inside e) (chars (b ∷ s)) ≡ scan (inside (eqb b 0x5C)) (chars s)
 unfolding step
 inside-byte e b s h = test e (eqb b 0x22) (eqb b 0x5C) refl refl h
   where
-    test : (e t u : Bool) → eqb b 0x22 ≡ t → eqb b 0x5C ≡ u → both t (not e) ≡ false → scan (inside e) (chars (b ∷ s)) ≡ scan (inside u) (chars s)
+    test : (e t u : Bool) → eqb b 0x22 ≡ t → eqb b 0x5C ≡ u → (t && not e) ≡ false → scan (inside e) (chars (b ∷ s)) ≡ scan (inside u) (chars s)
     test true true true q r h = absurd (omega (arith, eqb-true b 0x22 q, eqb-true b 0x5C r))
     test true true false q r h = scan-byte escaping 0x22 (b ∷ s) (omega arith) q
     test false true u q r h = absurd (false≢true (sym h))
@@ -82,13 +82,13 @@ quoted-closes : (e : Bool) (l : List ℕ) → scan (inside e) (chars l) ≡ clos
 unfolding closing
 quoted-closes true [] = scan-end escaping
 quoted-closes false [] = scan-end quoted
-quoted-closes e (b ∷ s) = test (both (eqb b 0x22) (not e)) refl (quoted-closes (eqb b 0x5C) s)
+quoted-closes e (b ∷ s) = test (eqb b 0x22 && not e) refl (quoted-closes (eqb b 0x5C) s)
   where
-    closes-at : (e : Bool) → both (eqb b 0x22) (not e) ≡ true → scan (inside e) (chars (b ∷ s)) ≡ closedBy 0 (b ∷ s)
+    closes-at : (e : Bool) → (eqb b 0x22 && not e) ≡ true → scan (inside e) (chars (b ∷ s)) ≡ closedBy 0 (b ∷ s)
     closes-at true h = absurd (false≢true (sym (both-false (eqb b 0x22)) ∙ h))
     closes-at false h = closes-here b s (both-left (eqb b 0x22) true h)
 
-    test : (t : Bool) → both (eqb b 0x22) (not e) ≡ t → scan (inside (eqb b 0x5C)) (chars s) ≡ closedBy (closing (eqb b 0x5C) s) s → scan (inside e) (chars (b ∷ s)) ≡ closedBy (pick t 0 (suc (closing (eqb b 0x5C) s))) (b ∷ s)
+    test : (t : Bool) → (eqb b 0x22 && not e) ≡ t → scan (inside (eqb b 0x5C)) (chars s) ≡ closedBy (closing (eqb b 0x5C) s) s → scan (inside e) (chars (b ∷ s)) ≡ closedBy (pick t 0 (suc (closing (eqb b 0x5C) s))) (b ∷ s)
     test true h ih = closes-at e h
     test false h ih = inside-byte e b s h ∙ ih ∙ rw (leb·suc-suc (suc (closing (eqb b 0x5C) s)) (length s))
 
@@ -134,7 +134,7 @@ jump (b ∷ []) r e h g =
     rw (z, h) (omega arith, omega arith, omega arith)
 jump (b ∷ x ∷ s) r e h g = rw (e, h) (test (eqb b 0x5C) (eqb x 0x22) refl)
   where
-    test : (t u : Bool) → eqb x 0x22 ≡ u → (0 < pick (both t u) 2 1) × (pick (both t u) 2 1 ≤ suc (suc (length s))) × (suc (pick (both u (not t)) 0 (suc (closing (eqb x 0x5C) s))) ≡ pick (both t u) 2 1 + closing false (drop (pick (both t u) 2 1) (b ∷ x ∷ s)))
+    test : (t u : Bool) → eqb x 0x22 ≡ u → (0 < pick (t && u) 2 1) × (pick (t && u) 2 1 ≤ suc (suc (length s))) × (suc (pick (u && not t) 0 (suc (closing (eqb x 0x5C) s))) ≡ pick (t && u) 2 1 + closing false (drop (pick (t && u) 2 1) (b ∷ x ∷ s)))
     test true true q =
         let z : x ≡ 0x22 = eqb-true x 0x22 q in
         rw z (omega arith, omega arith, omega arith)

@@ -1,7 +1,7 @@
 -- The scan of a list of attributes, from one place to the next.
 -- Assumes nothing.
 use mathlib.Core.Path.{_≡_, refl, sym, ap, _∙_}
-use mathlib.Core.Bool.{Bool, true, false, not, false≢true}
+use mathlib.Core.Bool.{Bool, true, false, not, false≢true, _||_}
 use mathlib.Core.List.{List, [], _∷_}
 use Prim.Native.Nat.{ℕ, _+_, _-_, _<_, _≤_}
 use native.Mathlib.Nat.{not-suc-le-zero}
@@ -11,7 +11,7 @@ use lib.Dec.{eqb}
 use lib.ListN.{length, getD, drop, length-drop, drop-of-length-le}
 use lib.Seq.{drop-nil, drop-drop}
 use borrow.Author.Tests.{ne-eqb, eqb-true, not-true}
-use Rattle.text.specs.Pick.{either, pick}
+use Rattle.text.specs.Pick.{pick}
 use Rattle.text.specs.declared.Decoded.{Decoded}
 use Rattle.text.specs.Utf8.{decode}
 use Rattle.text.specs.Blank.{blank}
@@ -74,7 +74,7 @@ scan-byte m b (x ∷ s) h e =
     scan-char m x s ∙ rw (z, low-decode b s h)
 
 -- none of two tests passes
-pub neither : (t u : Bool) (a b m : Step) → either t u ≡ false → pick t a (pick u b m) ≡ m
+pub neither : (t u : Bool) (a b m : Step) → (t || u) ≡ false → pick t a (pick u b m) ≡ m
 neither true u a b m h = absurd (false≢true (sym h))
 neither false true a b m h = absurd (false≢true (sym h))
 neither false false a b m h = refl

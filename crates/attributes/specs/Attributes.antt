@@ -4,7 +4,7 @@ use mathlib.Core.Bool.{Bool, true, false}
 use mathlib.Core.List.{List, [], _∷_, _++_}
 use lib.Dec.{eqb, ltb}
 use lib.ListN.{length, drop}
-use Rattle.text.specs.Pick.{either, cut, pick}
+use Rattle.text.specs.Pick.{cut, pick}
 use Rattle.text.specs.Blank.{blank}
 use Rattle.text.specs.declared.Decoded.{Decoded}
 use Rattle.text.specs.Characters.{chars, findByte}

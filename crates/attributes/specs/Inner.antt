@@ -1,10 +1,10 @@
 -- What the functions inside the crate promise.
 use Prim.Native.Nat.{ℕ, suc}
-use mathlib.Core.Bool.{Bool, false, not}
+use mathlib.Core.Bool.{Bool, false, not, _&&_, _||_}
 use mathlib.Core.List.{List, [], _∷_}
 use lib.Dec.{eqb}
 use lib.ListN.{drop}
-use Rattle.text.specs.Pick.{both, either, pick}
+use Rattle.text.specs.Pick.{pick}
 use Rattle.text.specs.Blank.{blank}
 use Rattle.tape.specs.Nodes.{Node}
 use Rattle.findings.specs.Finding.{Finding, Kind}
@@ -18,16 +18,16 @@ leads b (x ∷ s) = eqb x b
 
 -- what a key ends before
 abbrev pub endsKey : ℕ → Bool
-endsKey c = either (eqb c 0x3D) (blank c)
+endsKey c = eqb c 0x3D || blank c
 
 -- a backslash with a quote after it
 abbrev pub escapes : List ℕ → Bool
-escapes s = both (leads 0x5C s) (leads 0x22 (drop 1 s))
+escapes s = leads 0x5C s && leads 0x22 (drop 1 s)
 
 -- how many bytes of a value stand before the quote that closes it, all where none does. The byte before them is a backslash, or isn't
 unfoldable pub closing : Bool → List ℕ → ℕ
 closing escaped [] = 0
-closing escaped (b ∷ s) = pick (both (eqb b 0x22) (not escaped)) 0 (suc (closing (eqb b 0x5C) s))
+closing escaped (b ∷ s) = pick (eqb b 0x22 && not escaped) 0 (suc (closing (eqb b 0x5C) s))
 
 -- the finding of an Attribute, with its first number
 abbrev pub told : Where → Kind → ℕ → Finding

@@ -2,14 +2,14 @@
 -- Assumes nothing.
 use Prim.Native.Nat.{ℕ, _+_, _<_, _≤_}
 use mathlib.Core.Path.{_≡_, refl, sym, ap, ap₂, _∙_}
-use mathlib.Core.Bool.{Bool, true, false, not}
+use mathlib.Core.Bool.{Bool, true, false, not, _||_}
 use mathlib.Core.List.{List, [], _∷_}
 use mathlib.Core.Option.{Option}
 use native.Mathlib.Omega.{arith}
 use lib.Dec.{eqb}
 use lib.ListN.{length, set}
 use borrow.Author.Tests.{eq-eqb, ne-eqb}
-use Rattle.text.specs.Pick.{either, cut}
+use Rattle.text.specs.Pick.{cut}
 use Rattle.tape.specs.Nodes.{nodeAt, kindAt, linkAt, span}
 use Rattle.tape.proofs.OneNumber.{either-false}
 use Rattle.table.specs.Entries.{Entry}
@@ -116,7 +116,7 @@ verseState st warned v =
     }
 
 module _ (e : Option Entry) (s t : List ℕ) (o : state.Around) (i : ℕ) (r : Record) where
-  pub verse-passed : (label : List ℕ) (v : VersePart) (warned : Bool) → label ≡ labelOf e (cut (span t i) s) → (positionOf v ≡ nextBy (versePart label) label (positionOf (r .verse))) × (v .num ≤ 4294967296) → warned ≡ either (r .«outside_warned») (not (o .body)) → PassedVerse e s t o i r (verseRecord v warned r)
+  pub verse-passed : (label : List ℕ) (v : VersePart) (warned : Bool) → label ≡ labelOf e (cut (span t i) s) → (positionOf v ≡ nextBy (versePart label) label (positionOf (r .verse))) × (v .num ≤ 4294967296) → warned ≡ (r .«outside_warned» || not (o .body)) → PassedVerse e s t o i r (verseRecord v warned r)
   unfolding afterVerse
   verse-passed label v warned is-label is-next is-warned =
       record {

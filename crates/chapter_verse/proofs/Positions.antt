@@ -2,14 +2,13 @@
 -- Assumes nothing.
 use Prim.Native.Nat.{ℕ, _<_, _≤_}
 use mathlib.Core.Path.{_≡_, refl, sym, ap, _∙_}
-use mathlib.Core.Bool.{Bool, false, not}
+use mathlib.Core.Bool.{Bool, false, not, _&&_}
 use mathlib.Core.List.{List}
 use mathlib.Core.Option.{Option, some, none}
 use native.Mathlib.Omega.{arith}
 use lib.Dec.{eqb, ltb}
 use lib.ListN.{length, getD}
 use borrow.Author.Tests.{lt-ltb, le-ltb}
-use Rattle.text.specs.Pick.{both}
 use Rattle.numbers.specs.Verse.{Position, Readable, versePart, verseEnd, next, inSequence, positionOf, readOf}
 use Rattle.numbers.specs.Verse as verse
 use Rattle.numbers.specs.declared.VersePart.{VersePart}
@@ -19,10 +18,10 @@ use Rattle.numbers.proofs.Readable.{start-readable, end-readable}
 use Rattle.definition.specs.Checks.{breaks, nextBy}
 use Rattle.chapter_verse.specs.Inner.{LowRead}
 
-pub short-label : (s : List ℕ) → length s ≤ 1 → false ≡ both (ltb 1 (length s)) (eqb (getD s 0 0) 0x30)
+pub short-label : (s : List ℕ) → length s ≤ 1 → false ≡ (ltb 1 (length s) && eqb (getD s 0 0) 0x30)
 short-label s h = rw (le-ltb 1 (length s) h) refl
 
-pub long-label : (s : List ℕ) → 1 < length s → eqb (getD s 0 0) 0x30 ≡ both (ltb 1 (length s)) (eqb (getD s 0 0) 0x30)
+pub long-label : (s : List ℕ) → 1 < length s → eqb (getD s 0 0) 0x30 ≡ (ltb 1 (length s) && eqb (getD s 0 0) 0x30)
 long-label s h = rw (lt-ltb 1 (length s) h) refl
 
 next-low : (n : ℕ) (l : Option ℕ) → n ≤ 4294967295 → verse.nextBy n l .number ≤ 4294967296

@@ -10,7 +10,6 @@ use lib.Dec.{eqb}
 use lib.ListN.{length, getD, set}
 use lib.Seq.{getD-set-same, getD-set-other}
 use borrow.Author.Tests.{eq-eqb, ne-eqb}
-use Rattle.text.specs.Pick.{either}
 use Rattle.attachment.specs.Attached.{among}
 use Rattle.state.specs.Running.{latest}
 
@@ -31,13 +30,13 @@ module _ (words : List ℕ) (n : ℕ) where
   unfolding among latest
   seen-none i h = let e : i ≡ 0 = omega arith in rw e refl
 
-or-either : (a b c d : Bool) → either a c ≡ d → either (a || b) c ≡ either b d
+or-either : (a b c d : Bool) → (a || c) ≡ d → ((a || b) || c) ≡ (b || d)
 or-either true true c d e = refl
 or-either true false c d e = e
-or-either false b c d e = ap (either b) e
+or-either false b c d e = ap (_||_ b) e
 
 -- a block that is looked at word by word, with what is known of the words before it
-pub block-more : (words : List ℕ) (n at i : ℕ) (found : Bool) → either found (among n (latest words at)) ≡ among n (latest words (at + i)) → either (found || eqb (getD words (at + i) 0) n) (among n (latest words at)) ≡ among n (latest words (at + (i + 1)))
+pub block-more : (words : List ℕ) (n at i : ℕ) (found : Bool) → (found || among n (latest words at)) ≡ among n (latest words (at + i)) → ((found || eqb (getD words (at + i) 0) n) || among n (latest words at)) ≡ among n (latest words (at + (i + 1)))
 unfolding among latest
 block-more words n at i found e =
     let s : at + (i + 1) ≡ suc (at + i) = omega arith in

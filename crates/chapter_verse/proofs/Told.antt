@@ -2,12 +2,11 @@
 -- Assumes nothing.
 use Prim.Native.Nat.{ℕ, _-_}
 use mathlib.Core.Path.{_≡_, ap, _∙_}
-use mathlib.Core.Bool.{Bool, not}
+use mathlib.Core.Bool.{Bool, not, _&&_}
 use mathlib.Core.List.{List}
 use mathlib.Core.Option.{Option}
 use lib.Dec.{eqb, ltb}
 use lib.ListN.{length, getD, take, drop}
-use Rattle.text.specs.Pick.{both}
 use Rattle.tape.specs.Nodes.{Node}
 use Rattle.table.specs.Entries.{Entry}
 use Rattle.cursor.specs.Names.{nameOf}
@@ -25,7 +24,7 @@ label e x = labelOf e (x .text)
 
 -- a label that is longer than one digit and begins with 0
 abbrev pub led : List ℕ → Bool
-led s = both (ltb 1 (length s)) (eqb (getD s 0 0) 0x30)
+led s = ltb 1 (length s) && eqb (getD s 0 0) 0x30
 
 abbrev pub spaced : Option Entry → Node → Check
 spaced e x = when (isGlued e (nameOf (x .text))) (warning x 34 0)
@@ -43,7 +42,7 @@ abbrev pub leaps : State → Node → Check
 leaps st x = when (not (eqb (x .link) (st .chapter))) (about x 1 9 0 (st .chapter) (x .link))
 
 abbrev pub stray : Around → State → Node → Check
-stray o st x = when (both (not (o .body)) (not (st .outsideWarned))) (warning x 12 0)
+stray o st x = when (not (o .body) && not (st .outsideWarned)) (warning x 12 0)
 
 abbrev pub crossing : Around → Node → Check
 crossing o x = when (o .char) (error x 20 0)

@@ -17,12 +17,11 @@ use state::Around;
 use state::Record;
 use table::Info;
 ghost use mathlib.Core.Path.{_≡_};
-ghost use mathlib.Core.Bool.{not};
+ghost use mathlib.Core.Bool.{not, _&&_, _||_};
 ghost use mathlib.Core.List.{[]};
 ghost use Prim.Native.Nat.{_+_, _<_, _≤_};
 ghost use lib.Dec.{eqb, ltb};
 ghost use lib.ListN.{length, getD};
-ghost use Rattle.text.specs.Pick.{both, either};
 ghost use Rattle.tape.specs.Nodes.{count, nodeAt};
 ghost use Rattle.table.specs.Entries.{Indexed, infoOf};
 ghost use Rattle.cursor.specs.Inner.{Spanned};
@@ -55,7 +54,7 @@ fn is_among_few(seen: &[u32], k: usize, num: u32) -> bool
 // becomes vector code.
 fn is_in_block(seen: &[u32], at: usize, num: u32) -> bool
     requires { ⌜ at + 16 ≤ length (now seen) ⌝ }
-    ensures { λ r. ⌜ either r (among num (latest (now (seen .entry)) at)) ≡ among num (latest (now (seen .entry)) (at + 16)) ⌝ }
+    ensures { λ r. ⌜ (r || among num (latest (now (seen .entry)) at)) ≡ among num (latest (now (seen .entry)) (at + 16)) ⌝ }
 {
     let mut found = false;
     let mut i: usize = 0;
@@ -82,19 +81,19 @@ fn is_seen(seen: &[u32], k: usize, num: u32) -> bool
 }
 
 fn neither(a: bool, b: bool) -> bool
-    ensures { λ r. ⌜ r ≡ both (not a) (not b) ⌝ }
+    ensures { λ r. ⌜ r ≡ (not a && not b) ⌝ }
 {
     if a { false } else { !b }
 }
 
 fn or_not(a: bool, b: bool) -> bool
-    ensures { λ r. ⌜ r ≡ either a (not b) ⌝ }
+    ensures { λ r. ⌜ r ≡ (a || not b) ⌝ }
 {
     if a { true } else { !b }
 }
 
 fn leading_zeros(label: &[u8]) -> bool
-    ensures { λ r. ⌜ r ≡ both (ltb 1 (length (now (label .entry)))) (eqb (getD (now (label .entry)) 0 0) 0x30) ⌝ }
+    ensures { λ r. ⌜ r ≡ (ltb 1 (length (now (label .entry))) && eqb (getD (now (label .entry)) 0 0) 0x30) ⌝ }
 {
     if label.len() <= 1 {
         return false;

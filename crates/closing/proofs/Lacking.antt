@@ -1,20 +1,19 @@
 -- The two checks of markers that are missing, by name, and their conditions as the code finds them.
 -- Assumes nothing.
 use mathlib.Core.Path.{_≡_, _∙_}
-use mathlib.Core.Bool.{Bool, not}
-use Rattle.text.specs.Pick.{both, either}
+use mathlib.Core.Bool.{Bool, not, _&&_, _||_}
 use Rattle.definition.specs.Checks.{Check, when}
 use Rattle.definition.specs.Document.{ofDocument}
 use Rattle.state.specs.declared.Record.{Record}
 
 abbrev pub noId : Record → Check
-noId r = when (both (not (r .«has_id»)) (either (r .«has_chapter») (r .«has_verse»))) (ofDocument 4)
+noId r = when (not (r .«has_id») && (r .«has_chapter» || r .«has_verse»)) (ofDocument 4)
 
 abbrev pub noChapter : Record → Check
-noChapter r = when (both (either (r .«has_id») (r .«has_verse»)) (both (not (r .«has_chapter»)) (not (r .«front_matter»)))) (ofDocument 8)
+noChapter r = when ((r .«has_id» || r .«has_verse») && (not (r .«has_chapter») && not (r .«front_matter»))) (ofDocument 8)
 
-pub is-no-id : (r : Record) (numbered b : Bool) → numbered ≡ either (r .«has_chapter») (r .«has_verse») → b ≡ both (not (r .«has_id»)) numbered → b ≡ noId r .holds
+pub is-no-id : (r : Record) (numbered b : Bool) → numbered ≡ (r .«has_chapter» || r .«has_verse») → b ≡ (not (r .«has_id») && numbered) → b ≡ noId r .holds
 is-no-id r numbered b e f = f ∙ rw e
 
-pub is-no-chapter : (r : Record) (book bare b : Bool) → book ≡ either (r .«has_id») (r .«has_verse») → bare ≡ both (not (r .«has_chapter»)) (not (r .«front_matter»)) → b ≡ both book bare → b ≡ noChapter r .holds
+pub is-no-chapter : (r : Record) (book bare b : Bool) → book ≡ (r .«has_id» || r .«has_verse») → bare ≡ (not (r .«has_chapter») && not (r .«front_matter»)) → b ≡ (book && bare) → b ≡ noChapter r .holds
 is-no-chapter r book bare b e f g = g ∙ rw (e, f)

@@ -2,12 +2,12 @@
 -- Assumes nothing.
 use Prim.Native.Nat.{ℕ, _<_, _≤_}
 use mathlib.Core.Path.{_≡_, refl, sym, ap, _∙_}
-use mathlib.Core.Bool.{Bool, true, false, not}
+use mathlib.Core.Bool.{Bool, true, false, not, _&&_}
 use mathlib.Core.List.{List, []}
 use native.Mathlib.Omega.{arith}
 use lib.Dec.{eqb}
 use borrow.Author.Tests.{eq-eqb, ne-eqb, eqb-true}
-use Rattle.text.specs.Pick.{both, cut}
+use Rattle.text.specs.Pick.{cut}
 use Rattle.text.specs.Words.{blankText}
 use Rattle.tape.specs.Nodes.{nodeAt, kindAt, span, isOpen}
 use Rattle.tape.specs.Forest.{forest}
@@ -23,7 +23,7 @@ use Rattle.definition.specs.Document.{textBefore}
 
 -- whether a node is a Text that isn't blank
 abbrev pub solidAt : List ℕ → List ℕ → ℕ → Bool
-solidAt s t i = both (eqb (kindAt t i) 5) (not (blankText (nodeAt s t i .text)))
+solidAt s t i = eqb (kindAt t i) 5 && not (blankText (nodeAt s t i .text))
 
 module _ (s t : List ℕ) (i k : ℕ) (kind-is : k ≡ kindAt t i) where
   pub solid-other : (k ≡ 5 → ⊥) → false ≡ solidAt s t i

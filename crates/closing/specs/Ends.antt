@@ -1,8 +1,7 @@
 -- What the functions before and after the walk promise.
 use Prim.Native.Nat.{ℕ, _<_}
-use mathlib.Core.Bool.{Bool, true, false, not}
+use mathlib.Core.Bool.{Bool, true, false, not, _&&_, _||_}
 use mathlib.Core.List.{List, [], _∷_}
-use Rattle.text.specs.Pick.{both, either}
 use Rattle.tape.specs.Nodes.{count, nodeAt}
 use Rattle.findings.specs.Finding.{Finding}
 use Rattle.findings.specs.declared.Counts.{Counts}
@@ -16,8 +15,8 @@ use Rattle.state.specs.declared.Record.{Record}
 -- MissingIdMarker, MissingChapterMarker: the conditions of `closing`, of the code's record
 abbrev pub missingChecks : Record → List Check
 missingChecks r =
-    when (both (not (r .«has_id»)) (either (r .«has_chapter») (r .«has_verse»))) (ofDocument 4)
-    ∷ when (both (either (r .«has_id») (r .«has_verse»)) (both (not (r .«has_chapter»)) (not (r .«front_matter»)))) (ofDocument 8)
+    when (not (r .«has_id») && (r .«has_chapter» || r .«has_verse»)) (ofDocument 4)
+    ∷ when ((r .«has_id» || r .«has_verse») && (not (r .«has_chapter») && not (r .«front_matter»))) (ofDocument 8)
     ∷ []
 
 -- the open starts that are left are known, and there is room for what is said of them

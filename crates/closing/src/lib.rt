@@ -9,11 +9,10 @@ use findings::Severity;
 use findings::TEXT_BEFORE_ID;
 use state::Record;
 ghost use mathlib.Core.Path.{_≡_};
-ghost use mathlib.Core.Bool.{not};
+ghost use mathlib.Core.Bool.{not, _&&_, _||_};
 ghost use Prim.Native.Nat.{_≤_};
 ghost use lib.Dec.{eqb};
 ghost use lib.ListN.{length};
-ghost use Rattle.text.specs.Pick.{both, either};
 ghost use Rattle.text.specs.Words.{blankText};
 ghost use Rattle.tape.specs.Nodes.{nodeAt, kindAt};
 ghost use Rattle.tape.specs.Forest.{forest};
@@ -45,7 +44,7 @@ fn of_document(code: u64) -> Finding
 
 fn is_solid_text(source: &[u8], tape: &[u8], i: usize) -> bool
     requires { ⌜ Spanned (now source) (now tape) i ⌝ }
-    ensures { λ r. ⌜ r ≡ both (eqb (kindAt (now (tape .entry)) i) 5) (not (blankText (nodeAt (now (source .entry)) (now (tape .entry)) i .text))) ⌝ }
+    ensures { λ r. ⌜ r ≡ (eqb (kindAt (now (tape .entry)) i) 5 && not (blankText (nodeAt (now (source .entry)) (now (tape .entry)) i .text))) ⌝ }
 {
     if tape::kind_at(tape, i) != 5 {
         return false;
@@ -133,13 +132,13 @@ pub fn missing(rec: Record, list: &mut [u64], c: Counts) -> Counts
 }
 
 fn or(a: bool, b: bool) -> bool
-    ensures { λ r. ⌜ r ≡ either a b ⌝ }
+    ensures { λ r. ⌜ r ≡ (a || b) ⌝ }
 {
     if a { true } else { b }
 }
 
 fn and(a: bool, b: bool) -> bool
-    ensures { λ r. ⌜ r ≡ both a b ⌝ }
+    ensures { λ r. ⌜ r ≡ (a && b) ⌝ }
 {
     if a { b } else { false }
 }

@@ -1,7 +1,7 @@
 -- The nodes around a node, by the tests that the code takes, and what they are in a run of siblings.
 -- Assumes nothing.
 use mathlib.Core.Path.{_≡_, refl, sym, ap, _∙_}
-use mathlib.Core.Bool.{Bool, true, false, not, false≢true}
+use mathlib.Core.Bool.{Bool, true, false, not, false≢true, _&&_, _||_}
 use mathlib.Core.List.{List}
 use mathlib.Core.Logic.{_⊎_, inl, inr}
 use mathlib.Core.Option.{Option, some, none}
@@ -11,7 +11,7 @@ use native.Mathlib.Omega.{arith}
 use lib.Dec.{eqb, ltb}
 use lib.ListN.{length}
 use borrow.Author.Tests.{eq-eqb, ne-eqb, lt-ltb, le-ltb, ltb-false, eqb-true, not-true, not-false}
-use Rattle.text.specs.Pick.{both, either, pick}
+use Rattle.text.specs.Pick.{pick}
 use Rattle.tape.specs.Nodes.{count, kindAt, startAt, lenAt, linkAt, isClose}
 use Rattle.tape.specs.Forest.{Nested, done, one, inner, nextAt, Accepted}
 use Rattle.tape.proofs.Nest.{nested-le}
@@ -99,7 +99,7 @@ module _ (t : List ℕ) where
       inside (inl e) = omega arith
       inside (inr e) = omega (arith, e .0)
 
-      go : Dec (nextAt t a < b) → Border b → Nested t d (nextAt t a) b → nextAt t a ≤ b → pick (both (ltb (nextAt t a) (count t)) (not (isClose (kindAt t (nextAt t a))))) (some (nextAt t a)) none ≡ pick (ltb (nextAt t a) b) (some (nextAt t a)) none
+      go : Dec (nextAt t a < b) → Border b → Nested t d (nextAt t a) b → nextAt t a ≤ b → pick (ltb (nextAt t a) (count t) && not (isClose (kindAt t (nextAt t a)))) (some (nextAt t a)) none ≡ pick (ltb (nextAt t a) b) (some (nextAt t a)) none
       go (yes q) w r h = rw (lt-ltb (nextAt t a) b q, lt-ltb (nextAt t a) (count t) (omega (arith, inside w)), no-close r q)
       go (no q) (inl e) r h = rw (le-ltb (nextAt t a) b (omega arith), le-ltb (nextAt t a) (count t) (omega arith))
       go (no q) (inr e) r h =
@@ -110,6 +110,6 @@ module _ (t : List ℕ) where
 pub spanned : (s t : List ℕ) (i : ℕ) → Accepted s t → 1 ≤ i → i < count t → Spanned s t i
 spanned s t i h g l = record { inside = l; fits = ltb-false (length s) (startAt t i + lenAt t i) (left _ _ (h .spans i g l)) }
   where
-    left : (a b : Bool) → either a b ≡ false → a ≡ false
+    left : (a b : Bool) → (a || b) ≡ false → a ≡ false
     left true b e = absurd (false≢true (sym e))
     left false b e = refl

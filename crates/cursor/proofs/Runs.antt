@@ -10,7 +10,7 @@ use native.Mathlib.Omega.{arith}
 use lib.Dec.{eqb, ltb}
 use lib.ListN.{length}
 use borrow.Author.Tests.{eq-eqb, ne-eqb, eqb-true}
-use Rattle.text.specs.Pick.{both, either, within}
+use Rattle.text.specs.Pick.{within}
 use Rattle.tape.specs.Nodes.{count, nodeAt, kindAt, startAt, lenAt, linkAt, isOpen, isClose}
 use Rattle.tape.specs.Reading.{badKind}
 use Rattle.tape.specs.Forest.{Forest, end, leaf, node, forest, Nested, done, one, inner, Accepted, nextAt}

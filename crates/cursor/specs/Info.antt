@@ -1,16 +1,16 @@
 -- "Marker metadata for marker-bearing nodes", as the Rust's `marker_info` gives it.
 use Prim.Native.Nat.{ℕ}
-use mathlib.Core.Bool.{Bool, true, false}
+use mathlib.Core.Bool.{Bool, true, false, _||_}
 use mathlib.Core.List.{List}
 use mathlib.Core.Option.{Option, some, none}
 use lib.Dec.{eqb}
-use Rattle.text.specs.Pick.{either, within}
+use Rattle.text.specs.Pick.{within}
 use Rattle.tape.specs.Nodes.{kindAt, markerAt}
 use Rattle.table.specs.Entries.{Entry, entries, nth}
 
 -- MarkerOpen, MarkerClose, Chapter, Verse, BlockEnd
 abbrev pub hasMarker : ℕ → Bool
-hasMarker k = either (within 1 4 k) (eqb k 7)
+hasMarker k = within 1 4 k || eqb k 7
 
 abbrev pub onlyFor : Bool → Option Entry → Option Entry
 onlyFor true e = e

@@ -4,12 +4,12 @@ use Prim.Native.Nat.{ℕ, zero, suc, _+_, _-_, _<_, _≤_}
 use native.Mathlib.Nat.{le-refl}
 use native.Mathlib.Omega.{arith}
 use mathlib.Core.Path.{_≡_, refl, sym, ap, _∙_}
-use mathlib.Core.Bool.{Bool, true, false, not}
+use mathlib.Core.Bool.{Bool, true, false, not, _&&_}
 use mathlib.Core.List.{List, [], _∷_, _++_}
 use mathlib.Core.Option.{Option, some, none}
 use lib.Dec.{eqb, ltb}
 use lib.ListN.{length, getD}
-use Rattle.text.specs.Pick.{both, either, cut, pick}
+use Rattle.text.specs.Pick.{cut, pick}
 use Rattle.text.specs.Words.{blankText}
 use Rattle.table.specs.Bytes.{equal, oneOf}
 use Rattle.attachment.specs.Attached.{among}
@@ -205,7 +205,7 @@ closing-graded st = graded-append (unclosed (st .openStarts)) (given _) (unclose
 text-graded : (f : Forest) → Graded (textBefore f)
 unfolding textBefore
 text-graded end = tt
-text-graded (leaf x r) = graded-only (both (eqb (x .kind) 5) (not (blankText (x .text)))) (warning x 7 0) (omega arith)
+text-graded (leaf x r) = graded-only (eqb (x .kind) 5 && not (blankText (x .text))) (warning x 7 0) (omega arith)
 text-graded (node x c r) = tt
 
 -- the whole list

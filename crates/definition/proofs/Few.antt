@@ -4,12 +4,12 @@ use Prim.Native.Nat.{ℕ, zero, suc, _+_, _-_, _*_, _<_, _≤_}
 use native.Mathlib.Nat.{le-refl}
 use native.Mathlib.Omega.{arith}
 use mathlib.Core.Path.{_≡_, refl, sym, ap, _∙_}
-use mathlib.Core.Bool.{Bool, true, false, not}
+use mathlib.Core.Bool.{Bool, true, false, not, _&&_, _||_}
 use mathlib.Core.List.{List, [], _∷_, _++_}
 use mathlib.Core.Option.{Option, some, none}
 use lib.Dec.{eqb}
 use lib.ListN.{length, length-append}
-use Rattle.text.specs.Pick.{both, either, cut, pick}
+use Rattle.text.specs.Pick.{cut, pick}
 use Rattle.text.specs.Words.{blankText}
 use Rattle.tape.specs.Nodes.{Node}
 use Rattle.tape.specs.Forest.{Forest, end, leaf, node}
@@ -91,7 +91,7 @@ walk-few table o a (node x c r) st =
 pub text-few : (f : Forest) → length (textBefore f) ≤ 1
 unfolding textBefore
 text-few end = omega arith
-text-few (leaf x r) = only-few (both (eqb (x .kind) 5) (not (blankText (x .text)))) (warning x 7 0)
+text-few (leaf x r) = only-few (eqb (x .kind) 5 && not (blankText (x .text))) (warning x 7 0)
 text-few (node x c r) = omega arith
 
 pub unclosed-length : (xs : List Node) → length (unclosed xs) ≡ length xs
@@ -102,7 +102,7 @@ unclosed-length (x ∷ xs) = length-append (unclosed xs) _ ∙ (let h = unclosed
 closing-few : (st : State) → length (closing st) ≤ length (st .openStarts) + 2
 unfolding closing
 closing-few st =
-    let checks = when (both (not (st .hasId)) (either (st .hasChapter) (st .hasVerse))) (ofDocument 4) ∷ when (both (either (st .hasId) (st .hasVerse)) (both (not (st .hasChapter)) (not (st .frontMatter)))) (ofDocument 8) ∷ [] in
+    let checks = when (not (st .hasId) && (st .hasChapter || st .hasVerse)) (ofDocument 4) ∷ when ((st .hasId || st .hasVerse) && (not (st .hasChapter) && not (st .frontMatter))) (ofDocument 8) ∷ [] in
     let h = unclosed-length (st .openStarts) in
     let k = given-few checks in
     omega (arith, length-append (unclosed (st .openStarts)) (given checks))

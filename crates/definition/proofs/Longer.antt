@@ -4,12 +4,12 @@ use Prim.Native.Nat.{ℕ, zero, suc, _+_, _<_, _≤_}
 use native.Mathlib.Nat.{le-refl, add-zero}
 use native.Mathlib.Omega.{arith}
 use mathlib.Core.Path.{_≡_, refl, sym, ap, _∙_}
-use mathlib.Core.Bool.{Bool, true, false, not, false≢true}
+use mathlib.Core.Bool.{Bool, true, false, not, false≢true, _&&_, _||_}
 use mathlib.Core.List.{List, [], _∷_, _++_, append-assoc, append-nil}
 use mathlib.Core.Option.{Option, some, none}
 use lib.Dec.{eqb, ltb, leb}
 use borrow.Author.Tests.{lt-ltb, le-ltb, le-leb, eq-eqb, ne-eqb}
-use Rattle.text.specs.Pick.{both, either, pick}
+use Rattle.text.specs.Pick.{pick}
 use Rattle.tape.specs.Nodes.{Node}
 use Rattle.tape.specs.Forest.{Forest, end, leaf, node, followed}
 use Rattle.findings.specs.Finding.{Finding}
@@ -54,7 +54,7 @@ Falling b (m ∷ ms) = (m .milestone .number < b) × Falling (m .milestone .numb
 falling-taking : (x : Node) (b : ℕ) (ms : List Mark) → Falling b ms → Falling b (taking x ms)
 unfolding taking
 falling-taking x b [] h = tt
-falling-taking x b (m ∷ ms) h = go (both (untaken m) (sameBase (m .milestone) x)) (falling-taking x (m .milestone .number) ms (h .1))
+falling-taking x b (m ∷ ms) h = go (untaken m && sameBase (m .milestone) x) (falling-taking x (m .milestone .number) ms (h .1))
   where
     go : (v : Bool) → Falling (m .milestone .number) (taking x ms) → Falling b (pick v (record { milestone = m .milestone; taker = some x } ∷ ms) (m ∷ taking x ms))
     go true k = h
@@ -102,13 +102,13 @@ unfolding taking
 later-taking m x h nothing = nothing
 later-taking m x h (same k {ms} {ls} r) = go (untaken k) refl (sameBase (k .milestone) x) (later-taking m x h r)
   where
-    go : (u : Bool) → untaken k ≡ u → (v : Bool) → Later m ms (taking x ls) → Later m (k ∷ ms) (pick (both u v) (record { milestone = k .milestone; taker = some x } ∷ ls) (k ∷ taking x ls))
+    go : (u : Bool) → untaken k ≡ u → (v : Bool) → Later m ms (taking x ls) → Later m (k ∷ ms) (pick (u && v) (record { milestone = k .milestone; taker = some x } ∷ ls) (k ∷ taking x ls))
     go true e true q = took k x e h r
     go true e false q = same k q
     go false e v q = same k q
 later-taking m x h (took k e {ms} {ls} u l r) = go (isStart (k .milestone)) (later-taking m x h r)
   where
-    go : (b : Bool) → Later m ms (taking x ls) → Later m (k ∷ ms) (pick (both (both b false) (sameBase (k .milestone) x)) (record { milestone = k .milestone; taker = some x } ∷ ls) (record { milestone = k .milestone; taker = some e } ∷ taking x ls))
+    go : (b : Bool) → Later m ms (taking x ls) → Later m (k ∷ ms) (pick ((b && false) && sameBase (k .milestone) x) (record { milestone = k .milestone; taker = some x } ∷ ls) (record { milestone = k .milestone; taker = some e } ∷ taking x ls))
     go true q = took k e u l q
     go false q = took k e u l q
 
@@ -123,9 +123,9 @@ record Taken (m : ℕ) (x : Node) (ms hs ls : List Mark) : Type 0 where
 taking-split : (m : ℕ) (x : Node) (ms hs ls : List Mark) → m ≤ x .number → High m hs → Later m ms ls → Taken m x ms hs ls
 unfolding taking
 taking-split m x ms [] ls h hi r = record { added = []; later = taking x ls; is = refl; high = tt; rel = later-taking m x h r }
-taking-split m x ms (k ∷ hs) ls h hi r = go (both (untaken k) (sameBase (k .milestone) x)) refl (taking-split m x ms hs ls h (hi .1) r)
+taking-split m x ms (k ∷ hs) ls h hi r = go (untaken k && sameBase (k .milestone) x) refl (taking-split m x ms hs ls h (hi .1) r)
   where
-    go : (v : Bool) → both (untaken k) (sameBase (k .milestone) x) ≡ v → Taken m x ms hs ls → Taken m x ms (k ∷ hs) ls
+    go : (v : Bool) → (untaken k && sameBase (k .milestone) x) ≡ v → Taken m x ms hs ls → Taken m x ms (k ∷ hs) ls
     go true e q = record { added = record { milestone = k .milestone; taker = some x } ∷ hs; later = ls; is = rw e; high = hi; rel = r }
     go false e q = record { added = k ∷ q .added; later = q .later; is = rw e (ap (k ∷_) (q .is)); high = (hi .0, q .high); rel = q .rel }
 
@@ -189,12 +189,12 @@ low-all m b (k ∷ ls) l h = go (untaken k) (low-all m (k .milestone .number) ls
     go true q = rw (lt-ltb (k .milestone .number) m (omega (arith, h .0))) (ap (k .milestone ∷_) q)
     go false q = q
 
-taken-append : (m n : ℕ) (hs ls : List Mark) → takenFrom m n (hs ++ ls) ≡ either (takenFrom m n hs) (takenFrom m n ls)
+taken-append : (m n : ℕ) (hs ls : List Mark) → takenFrom m n (hs ++ ls) ≡ (takenFrom m n hs || takenFrom m n ls)
 unfolding takenFrom
 taken-append m n [] ls = refl
-taken-append m n (k ∷ hs) ls = go (both (eqb (k .milestone .number) n) (takerFrom m (k .taker))) (taken-append m n hs ls)
+taken-append m n (k ∷ hs) ls = go (eqb (k .milestone .number) n && takerFrom m (k .taker)) (taken-append m n hs ls)
   where
-    go : (b : Bool) → takenFrom m n (hs ++ ls) ≡ either (takenFrom m n hs) (takenFrom m n ls) → either b (takenFrom m n (hs ++ ls)) ≡ either (either b (takenFrom m n hs)) (takenFrom m n ls)
+    go : (b : Bool) → takenFrom m n (hs ++ ls) ≡ (takenFrom m n hs || takenFrom m n ls) → (b || takenFrom m n (hs ++ ls)) ≡ ((b || takenFrom m n hs) || takenFrom m n ls)
     go true h = refl
     go false h = h
 
@@ -234,7 +234,7 @@ unfolding takenFrom
 spared-past m k b ms ls h =
     keep-free (spared m ls) (spared m (k ∷ ls)) (k .milestone .number) ms h (λ x l. sym (rw (ne-eqb (k .milestone .number) (x .number) (λ e. omega arith))))
 
-free-taker : (m : ℕ) (b : Bool) (t : Option Node) → both b (free t) ≡ true → takerFrom m t ≡ false
+free-taker : (m : ℕ) (b : Bool) (t : Option Node) → (b && free t) ≡ true → takerFrom m t ≡ false
 free-taker m b none e = refl
 free-taker m true (some x) e = absurd (false≢true e)
 free-taker m false (some x) e = absurd (false≢true e)
@@ -277,7 +277,7 @@ later-free m b (same k {ms} {ls} r) h =
 later-free m b (took k e {ms} {ls} u l r) h =
     rw u (go (isStart (k .milestone)) (later-free m (k .milestone .number) r (h .1) ∙ spared-past m (record { milestone = k .milestone; taker = some e }) b ms ls (h .1)))
   where
-    go : (v : Bool) → freeStarts ls ≡ keep (spared m (record { milestone = k .milestone; taker = some e } ∷ ls)) (freeStarts ms) → pick (both v false) (k .milestone ∷ freeStarts ls) (freeStarts ls) ≡ keep (spared m (record { milestone = k .milestone; taker = some e } ∷ ls)) (k .milestone ∷ freeStarts ms)
+    go : (v : Bool) → freeStarts ls ≡ keep (spared m (record { milestone = k .milestone; taker = some e } ∷ ls)) (freeStarts ms) → pick (v && false) (k .milestone ∷ freeStarts ls) (freeStarts ls) ≡ keep (spared m (record { milestone = k .milestone; taker = some e } ∷ ls)) (k .milestone ∷ freeStarts ms)
     go true rest = rest ∙ sym (keep-one (spared m (record { milestone = k .milestone; taker = some e } ∷ ls)) (k .milestone) false (freeStarts ms) (spares-no m (k .milestone) e ls l))
     go false rest = rest ∙ sym (keep-one (spared m (record { milestone = k .milestone; taker = some e } ∷ ls)) (k .milestone) false (freeStarts ms) (spares-no m (k .milestone) e ls l))
 

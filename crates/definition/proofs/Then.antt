@@ -2,12 +2,11 @@
 -- Assumes nothing.
 use Prim.Native.Nat.{ℕ, zero, suc, _+_, _-_}
 use mathlib.Core.Path.{_≡_, refl, sym, ap, ap₂, _∙_}
-use mathlib.Core.Bool.{Bool, true, false, not}
+use mathlib.Core.Bool.{Bool, true, false, not, _||_}
 use mathlib.Core.List.{List, [], _∷_, _++_, append-assoc, append-nil}
 use mathlib.Core.Option.{Option, some, none}
 use lib.Dec.{eqb}
 use borrow.Author.Tests.{eq-eqb}
-use Rattle.text.specs.Pick.{both, either}
 use Rattle.tape.specs.Nodes.{Node}
 use Rattle.tape.specs.Forest.{Forest, end, leaf, node, followed}
 use Rattle.table.specs.Entries.{Entry}
@@ -32,10 +31,10 @@ settled-run kind at alt pubn (leaf y p) x c r e = go (isBlank y) (settled-run ki
     go true h = h
     go false h = refl
 settled-run kind at alt pubn (node y d p) x c r e =
-    go (claims kind alt pubn (nameOf (y .text))) (plain d) _ _ (settled-run kind at (either alt (isAlternate kind (nameOf (y .text)))) (either pubn (isPublished kind (nameOf (y .text)))) p x c r e)
+    go (claims kind alt pubn (nameOf (y .text))) (plain d) _ _ (settled-run kind at (alt || isAlternate kind (nameOf (y .text))) (pubn || isPublished kind (nameOf (y .text))) p x c r e)
   where
     go : (b v : Bool) (xs ys : List Node) → among at (starts xs) ≡ among at (starts ys) → among at (starts (onlyIf b (y ∷ onlyIf v xs))) ≡ among at (starts (onlyIf b (y ∷ onlyIf v ys)))
-    go true true xs ys h = ap (either (eqb (y .start) at)) h
+    go true true xs ys h = ap (_||_ (eqb (y .start) at)) h
     go true false xs ys h = refl
     go false v xs ys h = refl
 

@@ -2,11 +2,11 @@
 -- Assumes nothing.
 use Prim.Native.Nat.{ℕ}
 use mathlib.Core.Path.{_≡_, refl, sym, ap, _∙_}
-use mathlib.Core.Bool.{Bool, true, false, not}
+use mathlib.Core.Bool.{Bool, true, false, not, _&&_}
 use mathlib.Core.List.{List, [], _∷_, _++_, append-assoc, append-nil}
 use mathlib.Core.Option.{Option, some, none}
 use lib.Dec.{eqb}
-use Rattle.text.specs.Pick.{both, either, pick}
+use Rattle.text.specs.Pick.{pick}
 use Rattle.tape.specs.Nodes.{Node}
 use Rattle.tape.specs.Forest.{Forest, end, leaf, node, followed}
 use Rattle.table.specs.Entries.{Entry}
@@ -47,7 +47,7 @@ met-open : (x : Node) (ms : List Mark) → freeStarts (met x ms) ≡ openAfter (
 unfolding freeStarts
 met-open x ms = go (isStart x) refl
   where
-    go : (b : Bool) → isStart x ≡ b → pick (both b true) (x ∷ freeStarts (pick b ms (taking x ms))) (freeStarts (pick b ms (taking x ms))) ≡ pick b (x ∷ freeStarts ms) (without x (freeStarts ms))
+    go : (b : Bool) → isStart x ≡ b → pick (b && true) (x ∷ freeStarts (pick b ms (taking x ms))) (freeStarts (pick b ms (taking x ms))) ≡ pick b (x ∷ freeStarts ms) (without x (freeStarts ms))
     go true p = refl
     go false p = taking-without x ms
 

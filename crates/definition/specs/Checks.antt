@@ -1,11 +1,11 @@
 -- The checks of one node, in the Rust's order: "Checks and findings stand in the Rust's order."
 use Prim.Native.Nat.{ℕ, _+_, _-_}
-use mathlib.Core.Bool.{Bool, true, false, not}
+use mathlib.Core.Bool.{Bool, true, false, not, _&&_, _||_}
 use mathlib.Core.List.{List, [], _∷_, _++_}
 use mathlib.Core.Option.{Option, some, none}
 use lib.Dec.{eqb, ltb}
 use lib.ListN.{length, getD, take, drop}
-use Rattle.text.specs.Pick.{both, either, within, cut, pick}
+use Rattle.text.specs.Pick.{within, cut, pick}
 use Rattle.text.specs.Words.{firstWord, blankText}
 use Rattle.tape.specs.Nodes.{Node}
 use Rattle.tape.specs.Forest.{Forest, end, leaf, node, followed}
@@ -69,7 +69,7 @@ isEmpty s = eqb (length s) 0
 abbrev pub numberForm : ℕ → Option Entry → Node → List Check
 numberForm form e x =
     when (isGlued e (nameOf (x .text))) (warning x 34 0)
-    ∷ when (both (ltb 1 (length (labelOf e (x .text)))) (eqb (getD (labelOf e (x .text)) 0 0) 0x30)) (error x 15 form)
+    ∷ when (ltb 1 (length (labelOf e (x .text))) && eqb (getD (labelOf e (x .text)) 0 0) 0x30) (error x 15 form)
     ∷ []
 
 -- MissingChapterNumber, DuplicateChapter, InvalidChapterSequence; a chapter's number is its link
@@ -117,7 +117,7 @@ nextBy (some p) label expected = next (endOr (verseEnd label) p)
 -- VerseOutsideParagraph once, CharCrossesVerseBoundary, MissingVerseNumber, InvalidVerseSequence ("expected number, letter byte or 0")
 abbrev pub verseChecks : Option Entry → Around → State → Node → List Check
 verseChecks e o st x =
-    when (both (not (o .body)) (not (st .outsideWarned))) (warning x 12 0)
+    when (not (o .body) && not (st .outsideWarned)) (warning x 12 0)
     ∷ when (o .char) (error x 20 0)
     ∷ when (isEmpty (labelOf e (x .text))) (error x 19 0)
     ∷ when (breaks (versePart (labelOf e (x .text))) (st .verse)) (about x 1 11 0 (st .verse .number) (letterByte (st .verse .letter)))
@@ -130,7 +130,7 @@ afterVerse e o st x =
       hasChapter = st .hasChapter;
       hasVerse = true;
       frontMatter = st .frontMatter;
-      outsideWarned = either (st .outsideWarned) (not (o .body));
+      outsideWarned = (st .outsideWarned || not (o .body));
       chapter = st .chapter;
       verse = nextBy (versePart (labelOf e (x .text))) (labelOf e (x .text)) (st .verse);
       seen = st .seen;
@@ -162,8 +162,8 @@ upper (b ∷ s) = pick (within 0x61 0x7A b) (b - 32) b ∷ upper s
 -- `id`: DuplicateId, InvalidBookCode ("0 should be uppercase, 1 not valid")
 abbrev pub idChecks : Bool → State → List ℕ → Node → List Check
 idChecks named st code x =
-    when (both named (st .hasId)) (error x 6 0)
-    ∷ when (both named (both (not (isEmpty code)) (not (isBook code)))) (warning x 5 (pick (isBook (upper code)) 0 1))
+    when (named && st .hasId) (error x 6 0)
+    ∷ when (named && (not (isEmpty code) && not (isBook code))) (warning x 5 (pick (isBook (upper code)) 0 1))
     ∷ []
 
 -- without a book code the front-matter flag stays as it was
@@ -173,7 +173,7 @@ frontBy code before = pick (isEmpty code) before (oneOf frontMatter code)
 unfoldable pub afterId : Bool → State → Forest → State
 afterId named st c =
     record {
-      hasId = either named (st .hasId);
+      hasId = (named || st .hasId);
       hasChapter = st .hasChapter;
       hasVerse = st .hasVerse;
       frontMatter = pick named (frontBy (bookCode c) (st .frontMatter)) (st .frontMatter);
@@ -188,18 +188,18 @@ afterId named st c =
 -- content of a `\b`: a Text that isn't blank or a marker, before any Verse or Chapter
 unfoldable pub inlineContent : Forest → Bool
 inlineContent end = false
-inlineContent (leaf x r) = pick (numbered (x .kind)) false (pick (both (eqb (x .kind) 5) (not (blankText (x .text)))) true (inlineContent r))
+inlineContent (leaf x r) = pick (numbered (x .kind)) false (pick (eqb (x .kind) 5 && not (blankText (x .text))) true (inlineContent r))
 inlineContent (node x c r) = true
 
 -- a Text that isn't blank
 unfoldable pub hasText : Forest → Bool
 hasText end = false
-hasText (leaf x r) = either (both (eqb (x .kind) 5) (not (blankText (x .text)))) (hasText r)
+hasText (leaf x r) = (eqb (x .kind) 5 && not (blankText (x .text))) || hasText r
 hasText (node x c r) = hasText r
 
 unfoldable pub hasAttribute : Forest → Bool
 hasAttribute end = false
-hasAttribute (leaf x r) = either (eqb (x .kind) 6) (hasAttribute r)
+hasAttribute (leaf x r) = eqb (x .kind) 6 || hasAttribute r
 hasAttribute (node x c r) = hasAttribute r
 
 unfoldable pub hasMarkers : Forest → Bool
@@ -242,21 +242,21 @@ trName = 0x74 ∷ 0x72 ∷ []
 
 -- a paragraph that can hold verse text
 abbrev pub isBody : Entry → Bool
-isBody e = both (eqb (e .category) 3) (eqb (e .role) 2)
+isBody e = eqb (e .category) 3 && eqb (e .role) 2
 
 -- NoteSubmarkerOutsideNote, NonEmptyBlankLine, BodyParagraphBeforeChapter, MisplacedNumberMarker: of a marker with its table name, the record after `id`, the anchor, its children and the siblings from it on
 abbrev pub placeChecks : List ℕ → Entry → Around → Option Anchor → State → Node → Forest → Forest → List Check
 placeChecks name e o a st x c f =
-    when (both (eqb (e .category) 4) (both (not (o .note)) (oneOf noteOnly name))) (error x 13 0)
-    ∷ when (both (equal name bName) (inlineContent c)) (error x 14 0)
-    ∷ when (both (isBody e) (both (not (st .hasChapter)) (not (st .frontMatter)))) (error x 24 0)
-    ∷ when (both (oneOf numberMarkers name) (both (oneOf numberMarkers (nameOf (x .text))) (not (attachedTo a f (x .start))))) (warning x 33 0)
+    when (eqb (e .category) 4 && (not (o .note) && oneOf noteOnly name)) (error x 13 0)
+    ∷ when (equal name bName && inlineContent c) (error x 14 0)
+    ∷ when (isBody e && (not (st .hasChapter) && not (st .frontMatter))) (error x 24 0)
+    ∷ when (oneOf numberMarkers name && (oneOf numberMarkers (nameOf (x .text)) && not (attachedTo a f (x .start)))) (warning x 33 0)
     ∷ []
 
 -- EmptyFigure, EmptyWordMarker, MissingRequiredAttribute
 abbrev pub contentChecks : List ℕ → Node → Forest → List Check
 contentChecks name x c =
-    when (both (equal name figName) (not (hasText c))) (error x 21 0)
-    ∷ when (both (equal name wName) (not (either (hasText c) (either (hasAttribute c) (hasMarkers c))))) (error x 25 0)
-    ∷ when (both (equal name rbName) (not (hasAttribute c))) (error x 23 0)
+    when (equal name figName && not (hasText c)) (error x 21 0)
+    ∷ when (equal name wName && not (hasText c || (hasAttribute c || hasMarkers c))) (error x 25 0)
+    ∷ when (equal name rbName && not (hasAttribute c)) (error x 23 0)
     ∷ []

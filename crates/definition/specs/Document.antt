@@ -1,10 +1,10 @@
 -- A whole document: TextBeforeId, the walk of the root's children, the closing findings.
 use Prim.Native.Nat.{ℕ}
-use mathlib.Core.Bool.{Bool, true, false, not}
+use mathlib.Core.Bool.{Bool, true, false, not, _&&_, _||_}
 use mathlib.Core.List.{List, [], _∷_, _++_}
 use mathlib.Core.Option.{Option, some, none}
 use lib.Dec.{eqb}
-use Rattle.text.specs.Pick.{both, either, pick}
+use Rattle.text.specs.Pick.{pick}
 use Rattle.text.specs.Words.{blankText}
 use Rattle.tape.specs.Nodes.{Node}
 use Rattle.tape.specs.Forest.{Forest, end, leaf, node}
@@ -18,7 +18,7 @@ use Rattle.definition.specs.Walk.{Walked, walk}
 -- TextBeforeId: the first child of the root is a Text that isn't blank
 unfoldable pub textBefore : Forest → List Finding
 textBefore end = []
-textBefore (leaf x r) = only (both (eqb (x .kind) 5) (not (blankText (x .text)))) (warning x 7 0)
+textBefore (leaf x r) = only (eqb (x .kind) 5 && not (blankText (x .text))) (warning x 7 0)
 textBefore (node x c r) = []
 
 -- "its finding is a MilestoneMismatch of form 0 with its node"; the open starts are held the latest first, and given "in opening order"
@@ -35,8 +35,8 @@ unfoldable pub closing : State → List Finding
 closing st =
     unclosed (st .openStarts)
     ++ given
-    (when (both (not (st .hasId)) (either (st .hasChapter) (st .hasVerse))) (ofDocument 4)
-    ∷ when (both (either (st .hasId) (st .hasVerse)) (both (not (st .hasChapter)) (not (st .frontMatter)))) (ofDocument 8)
+    (when (not (st .hasId) && (st .hasChapter || st .hasVerse)) (ofDocument 4)
+    ∷ when ((st .hasId || st .hasVerse) && (not (st .hasChapter) && not (st .frontMatter))) (ofDocument 8)
     ∷ [])
 
 -- the walk of the root's children

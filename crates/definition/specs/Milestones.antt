@@ -1,11 +1,11 @@
 -- Document 01, module 9: milestones. "A milestone start or end and its base are read from its marker as in the Rust; it is visited unless module 8 passes it over."
 use Prim.Native.Nat.{ℕ, _+_, _-_, _≤_}
-use mathlib.Core.Bool.{Bool, true, false, not}
+use mathlib.Core.Bool.{Bool, true, false, not, _&&_, _||_}
 use mathlib.Core.List.{List, [], _∷_, _++_}
 use mathlib.Core.Option.{Option, some, none}
 use lib.Dec.{eqb, leb}
 use lib.ListN.{length, getD, take, drop}
-use Rattle.text.specs.Pick.{both, either, pick}
+use Rattle.text.specs.Pick.{pick}
 use Rattle.tape.specs.Nodes.{Node}
 use Rattle.tape.specs.Forest.{Forest, end, leaf, node}
 use Rattle.table.specs.Bytes.{equal}
@@ -33,7 +33,7 @@ abbrev pub sameBase : Node → Node → Bool
 sameBase x y = equal (baseOf x) (baseOf y)
 
 abbrev pub isMilestone : Entry → Node → Bool
-isMilestone e x = both (eqb (e .category) 6) (either (isStart x) (isEnd x))
+isMilestone e x = eqb (e .category) 6 && (isStart x || isEnd x)
 
 abbrev pub withOpen : State → List Node → State
 withOpen st starts =
@@ -53,7 +53,7 @@ withOpen st starts =
 -- an open start of the base of x
 unfoldable pub waits : Node → List Node → Bool
 waits x [] = false
-waits x (y ∷ ys) = either (sameBase y x) (waits x ys)
+waits x (y ∷ ys) = sameBase y x || waits x ys
 
 -- the open starts without the latest of the base of x
 unfoldable pub without : Node → List Node → List Node
@@ -65,7 +65,7 @@ openAfter begins x xs = pick begins (x ∷ xs) (without x xs)
 
 -- MilestoneMismatch: "1 end"
 abbrev pub milestoneChecks : Entry → State → Node → List Check
-milestoneChecks e st x = when (both (isMilestone e x) (both (not (isStart x)) (not (waits x (st .openStarts))))) (error x 16 1) ∷ []
+milestoneChecks e st x = when (isMilestone e x && (not (isStart x) && not (waits x (st .openStarts)))) (error x 16 1) ∷ []
 
 unfoldable pub afterMilestone : Entry → State → Node → State
 afterMilestone e st x = withOpen st (pick (isMilestone e x) (openAfter (isStart x) x (st .openStarts)) (st .openStarts))
@@ -91,13 +91,13 @@ free none = true
 free (some e) = false
 
 abbrev pub untaken : Mark → Bool
-untaken m = both (isStart (m .milestone)) (free (m .taker))
+untaken m = isStart (m .milestone) && free (m .taker)
 
 -- among the milestones before it, the latest first, an end takes the nearest start of its base that is free
 unfoldable pub taking : Node → List Mark → List Mark
 taking x [] = []
 taking x (m ∷ ms) =
-    pick (both (untaken m) (sameBase (m .milestone) x)) (record { milestone = m .milestone; taker = some x } ∷ ms) (m ∷ taking x ms)
+    pick (untaken m && sameBase (m .milestone) x) (record { milestone = m .milestone; taker = some x } ∷ ms) (m ∷ taking x ms)
 
 -- one visit more
 abbrev pub met : Node → List Mark → List Mark
@@ -123,4 +123,4 @@ takerFrom from (some e) = leb from (e .number)
 
 unfoldable pub takenFrom : ℕ → ℕ → List Mark → Bool
 takenFrom from number [] = false
-takenFrom from number (m ∷ ms) = either (both (eqb (m .milestone .number) number) (takerFrom from (m .taker))) (takenFrom from number ms)
+takenFrom from number (m ∷ ms) = (eqb (m .milestone .number) number && takerFrom from (m .taker)) || takenFrom from number ms

@@ -1,11 +1,11 @@
 -- The entry's outcome: the first refusal in checking order, else the checked document's numbers and lists.
 use Prim.Native.Nat.{ℕ, zero, suc}
-use mathlib.Core.Bool.{Bool, true, false}
+use mathlib.Core.Bool.{Bool, true, false, _||_}
 use mathlib.Core.List.{List, [], _∷_, _++_}
 use mathlib.Core.Option.{Option, some, none}
 use lib.Dec.{eqb, ltb}
 use lib.ListN.{length, drop}
-use Rattle.text.specs.Pick.{either, pick}
+use Rattle.text.specs.Pick.{pick}
 use Rattle.text.specs.Utf8.{firstIllFormed}
 use Rattle.tape.specs.Nodes.{count}
 use Rattle.tape.specs.Forest.{top}
@@ -51,7 +51,7 @@ of9 l = labelRefusal (l .table) (l .source) (l .tape)
 
 -- 10: "A working list has fewer than n entries; place n."
 abbrev pub shortList : Lent → Bool
-shortList l = either (ltb (length (l .seen)) (count (l .tape))) (ltb (length (l .openStarts)) (count (l .tape)))
+shortList l = ltb (length (l .seen)) (count (l .tape)) || ltb (length (l .openStarts)) (count (l .tape))
 
 abbrev pub of10 : Lent → Option Refusal
 of10 l = onlyIf (shortList l) (refuse 10 (count (l .tape)))

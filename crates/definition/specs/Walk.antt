@@ -1,10 +1,10 @@
 -- Document 01, module 8: the walk over a run of siblings, structural over the forest.
 use Prim.Native.Nat.{ℕ}
-use mathlib.Core.Bool.{Bool, true, false}
+use mathlib.Core.Bool.{Bool, true, false, _||_}
 use mathlib.Core.List.{List, [], _∷_, _++_}
 use mathlib.Core.Option.{Option, some, none}
 use lib.Dec.{eqb}
-use Rattle.text.specs.Pick.{either, cut, pick}
+use Rattle.text.specs.Pick.{cut, pick}
 use Rattle.tape.specs.Nodes.{Node}
 use Rattle.tape.specs.Forest.{Forest, end, leaf, node}
 use Rattle.table.specs.Bytes.{equal}
@@ -48,9 +48,9 @@ openTold table o a st e x c f = openBy (cut (e .name) table) (afterId (equal (cu
 abbrev pub inside : Around → Entry → Around
 inside o e =
     record {
-      body = either (o .body) (isBody e);
-      note = either (o .note) (eqb (e .category) 5);
-      char = either (o .char) (eqb (e .category) 4);
+      body = (o .body || isBody e);
+      note = (o .note || eqb (e .category) 5);
+      char = (o .char || eqb (e .category) 4);
     }
 
 abbrev pub before : List Finding → Walked → Walked

@@ -2,12 +2,12 @@
 -- Assumes nothing.
 use Prim.Native.Nat.{ℕ, _+_, _<_, _≤_}
 use mathlib.Core.Path.{_≡_, refl, sym, ap, _∙_}
-use mathlib.Core.Bool.{Bool, true, false, not}
+use mathlib.Core.Bool.{Bool, true, false, not, _&&_}
 use mathlib.Core.List.{List, []}
 use native.Mathlib.Omega.{arith}
 use lib.Dec.{eqb}
 use borrow.Author.Tests.{eq-eqb, ne-eqb, eqb-true}
-use Rattle.text.specs.Pick.{both, cut}
+use Rattle.text.specs.Pick.{cut}
 use Rattle.text.specs.Words.{firstWord, blankText}
 use Rattle.text.proofs.Rows.{both-left}
 use Rattle.tape.specs.Nodes.{nodeAt, kindAt, linkAt, span, isOpen}
@@ -49,7 +49,7 @@ module _ (s t : List ℕ) (i to : ℕ) (run : Run s t i to) (more : i < to) wher
   text-kind : isText false (nodeAt s t i) ≡ true → kindAt t i ≡ 5
   text-kind h = eqb-true (kindAt t i) 5 (both-left _ _ h)
 
-  pub code-here : (y : Bool) → both (eqb (kindAt t i) 5) y ≡ true → (x : List ℕ) → x ≡ cut (span t i) s → cut (firstWord x) x ≡ bookCode (forest s t i to)
+  pub code-here : (y : Bool) → (eqb (kindAt t i) 5 && y) ≡ true → (x : List ℕ) → x ≡ cut (span t i) s → cut (firstWord x) x ≡ bookCode (forest s t i to)
   unfolding bookCode
   code-here y h x q = let e = eqb-true (kindAt t i) 5 (both-left _ _ h) in sym (as-leaf bookCode (λ z. omega arith) ∙ rw (eq-eqb (kindAt t i) 5 e, ← q))
 

@@ -2,13 +2,13 @@
 -- Assumes nothing.
 use Prim.Native.Nat.{ℕ}
 use mathlib.Core.Path.{_≡_, refl, sym, ap, _∙_}
-use mathlib.Core.Bool.{Bool, true, false, not}
+use mathlib.Core.Bool.{Bool, true, false, not, _&&_, _||_}
 use mathlib.Core.List.{List, [], _∷_}
 use mathlib.Core.Option.{Option, some, none}
 use borrow.Author.Tests.{eq-eqb, ne-eqb}
 use lib.Dec.{eqb}
 use lib.ListN.{length}
-use Rattle.text.specs.Pick.{both, either, pick}
+use Rattle.text.specs.Pick.{pick}
 use Rattle.text.proofs.Rows.{both-false}
 use Rattle.tape.specs.Nodes.{Node}
 use Rattle.tape.specs.Forest.{Forest}
@@ -24,7 +24,7 @@ use Rattle.state.specs.Running.{startsFor}
 use Rattle.state.specs.declared.Record.{Record}
 use Rattle.marker_checks.specs.Inner.{withId}
 
-pub both-true : (v : Bool) → v ≡ both v true
+pub both-true : (v : Bool) → v ≡ (v && true)
 both-true true = refl
 both-true false = refl
 
@@ -38,16 +38,16 @@ not-false false h = sym h
 
 -- the code's flag a is the test x
 module _ (a x : Bool) (is : a ≡ x) where
-  pub both-holds : (r y : Bool) → a ≡ true → r ≡ y → r ≡ both x y
+  pub both-holds : (r y : Bool) → a ≡ true → r ≡ y → r ≡ (x && y)
   both-holds r y h e = rw (sym is ∙ h) e
 
-  pub both-fails : (y : Bool) → a ≡ false → false ≡ both x y
+  pub both-fails : (y : Bool) → a ≡ false → false ≡ (x && y)
   both-fails y h = rw (sym is ∙ h)
 
-  pub either-holds : (y : Bool) → a ≡ true → true ≡ either x y
+  pub either-holds : (y : Bool) → a ≡ true → true ≡ (x || y)
   either-holds y h = rw (sym is ∙ h)
 
-  pub either-fails : (r y : Bool) → a ≡ false → r ≡ y → r ≡ either x y
+  pub either-fails : (r y : Bool) → a ≡ false → r ≡ y → r ≡ (x || y)
   either-fails r y h e = rw (sym is ∙ h) e
 
   pub nat-holds : (n m : ℕ) → a ≡ true → n ≡ pick x n m
@@ -58,10 +58,10 @@ module _ (a x : Bool) (is : a ≡ x) where
 
 -- a book code that may be empty
 module _ (n : ℕ) where
-  pub code-empty : (y : Bool) → n ≡ 0 → false ≡ both (not (eqb n 0)) y
+  pub code-empty : (y : Bool) → n ≡ 0 → false ≡ (not (eqb n 0) && y)
   code-empty y h = rw (eq-eqb n 0 h)
 
-  pub code-there : (r y : Bool) → (n ≡ 0 → ⊥) → r ≡ y → not r ≡ both (not (eqb n 0)) (not y)
+  pub code-there : (r y : Bool) → (n ≡ 0 → ⊥) → r ≡ y → not r ≡ (not (eqb n 0) && not y)
   code-there r y h e = rw (ne-eqb n 0 h) (ap not e)
 
 module _ (s : List ℕ) (before : Bool) where
@@ -71,26 +71,26 @@ module _ (s : List ℕ) (before : Bool) where
   pub front-told : (r : Bool) → (length s ≡ 0 → ⊥) → r ≡ oneOf frontMatter s → r ≡ frontBy s before
   front-told r h e = rw (ne-eqb (length s) 0 h) e
 
-either-false : (a : Bool) → a ≡ either a false
+either-false : (a : Bool) → a ≡ (a || false)
 either-false true = refl
 either-false false = refl
 
 abbrev pub pair : ℕ → ℕ → List ℕ
 pair a b = a ∷ b ∷ []
 
-pub four : (s : List ℕ) → either (equal (pair 0x63 0x61) s) (either (equal (pair 0x63 0x70) s) (either (equal (pair 0x76 0x61) s) (equal (pair 0x76 0x70) s))) ≡ oneOf numberMarkers s
+pub four : (s : List ℕ) → (equal (pair 0x63 0x61) s || (equal (pair 0x63 0x70) s || (equal (pair 0x76 0x61) s || equal (pair 0x76 0x70) s))) ≡ oneOf numberMarkers s
 unfolding oneOf numberMarkers
-four s = ap (λ (v : Bool). either (equal (pair 0x63 0x61) s) (either (equal (pair 0x63 0x70) s) (either (equal (pair 0x76 0x61) s) v))) (either-false (equal (pair 0x76 0x70) s))
+four s = ap (λ (v : Bool). (equal (pair 0x63 0x61) s || (equal (pair 0x63 0x70) s || (equal (pair 0x76 0x61) s || v)))) (either-false (equal (pair 0x76 0x70) s))
 
 -- no paragraph comes early where a chapter or front matter stands before it
 module _ (body chapter front : Bool) where
-  pub after-chapter : chapter ≡ true → false ≡ both body (both (not chapter) (not front))
+  pub after-chapter : chapter ≡ true → false ≡ (body && (not chapter && not front))
   after-chapter h = rw h (sym (both-false body))
 
-  pub in-front : chapter ≡ false → front ≡ true → false ≡ both body (both (not chapter) (not front))
+  pub in-front : chapter ≡ false → front ≡ true → false ≡ (body && (not chapter && not front))
   in-front h k = rw (h, k) (sym (both-false body))
 
-  pub early : (r : Bool) → chapter ≡ false → front ≡ false → r ≡ body → r ≡ both body (both (not chapter) (not front))
+  pub early : (r : Bool) → chapter ≡ false → front ≡ false → r ≡ body → r ≡ (body && (not chapter && not front))
   early r h k e = rw (h, k) (e ∙ both-true body)
 
 -- the numbers attached to an anchor

@@ -3,12 +3,12 @@
 use Prim.Native.Nat.{ℕ, _+_, _<_}
 use native.Mathlib.Omega.{arith}
 use mathlib.Core.Path.{_≡_, refl, sym, ap, _∙_}
-use mathlib.Core.Bool.{Bool, true, false, not, false≢true}
+use mathlib.Core.Bool.{Bool, true, false, not, false≢true, _&&_, _||_}
 use mathlib.Core.List.{List, [], _++_}
 use mathlib.Core.Option.{Option}
 use lib.Dec.{eqb}
 use borrow.Author.Tests.{eq-eqb, ne-eqb, eqb-true}
-use Rattle.text.specs.Pick.{both, either, cut, pick}
+use Rattle.text.specs.Pick.{cut, pick}
 use Rattle.text.proofs.Rows.{both-left, both-right, both-false}
 use Rattle.tape.specs.Nodes.{Node, nodeAt, kindAt, isOpen}
 use Rattle.tape.specs.Forest.{Forest, end, leaf, node, forest}
@@ -67,16 +67,16 @@ data Placed (e : Entry) (o : state.Around) (chapter : Bool) : Type 0 where
 is-placed : (e : Entry) (o : state.Around) (chapter : Bool) → placed e o chapter ≡ true → Placed e o chapter
 is-placed e o chapter = go (eqb (e .category) 3) refl
   where
-    go : (v : Bool) → eqb (e .category) 3 ≡ v → pick v chapter (both (eqb (e .category) 4) (o .note)) ≡ true → Placed e o chapter
+    go : (v : Bool) → eqb (e .category) 3 ≡ v → pick v chapter (eqb (e .category) 4 && o .note) ≡ true → Placed e o chapter
     go true k h = paragraph (eqb-true (e .category) 3 k) h
     go false k h = character (eqb-true (e .category) 4 (both-left (eqb (e .category) 4) (o .note) h)) (both-right (eqb (e .category) 4) (o .note) h)
 
 module _ {e : Entry} {o : state.Around} {chapter : Bool} where
-  inside : Placed e o chapter → (y : Bool) → both (eqb (e .category) 4) (both (not (o .note)) y) ≡ false
+  inside : Placed e o chapter → (y : Bool) → (eqb (e .category) 4 && (not (o .note) && y)) ≡ false
   inside (paragraph k h) y = rw (ne-eqb (e .category) 4 (λ z. omega arith))
   inside (character k h) y = rw (h, both-false (eqb (e .category) 4))
 
-  late : Placed e o chapter → (y : Bool) → both (isBody e) (both (not chapter) y) ≡ false
+  late : Placed e o chapter → (y : Bool) → (isBody e && (not chapter && y)) ≡ false
   late (paragraph k h) y = rw (h, both-false (isBody e))
   late (character k h) y = rw (ne-eqb (e .category) 3 (λ z. omega arith))
 
@@ -84,11 +84,11 @@ module _ {e : Entry} {o : state.Around} {chapter : Bool} where
   other (paragraph k h) = ne-eqb (e .category) 6 (λ z. omega arith)
   other (character k h) = ne-eqb (e .category) 6 (λ z. omega arith)
 
-none-of : (a b d e f g k : Bool) → either (either a b) (either (either d e) (either (either f g) k)) ≡ false → (a ≡ false) × (b ≡ false) × (d ≡ false) × (e ≡ false) × (f ≡ false) × (g ≡ false) × (k ≡ false)
+none-of : (a b d e f g k : Bool) → ((a || b) || ((d || e) || ((f || g) || k))) ≡ false → (a ≡ false) × (b ≡ false) × (d ≡ false) × (e ≡ false) × (f ≡ false) × (g ≡ false) × (k ≡ false)
 none-of a b d e f g k h =
-    let p = either-false (either a b) _ h in
-    let q = either-false (either d e) _ (p .1) in
-    let r = either-false (either f g) k (q .1) in
+    let p = either-false (a || b) _ h in
+    let q = either-false (d || e) _ (p .1) in
+    let r = either-false (f || g) k (q .1) in
     let x = either-false a b (p .0) in
     let y = either-false d e (q .0) in
     let z = either-false f g (r .0) in

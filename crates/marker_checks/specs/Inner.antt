@@ -1,9 +1,9 @@
 -- What the inner functions of the crate promise.
 use Prim.Native.Nat.{ℕ}
-use mathlib.Core.Bool.{Bool, not}
+use mathlib.Core.Bool.{Bool, not, _&&_, _||_}
 use mathlib.Core.List.{List}
 use lib.Dec.{eqb}
-use Rattle.text.specs.Pick.{both, either, pick}
+use Rattle.text.specs.Pick.{pick}
 use Rattle.text.specs.Words.{blankText}
 use Rattle.tape.specs.Nodes.{Node}
 use Rattle.tape.specs.Forest.{Forest}
@@ -12,17 +12,17 @@ use Rattle.state.specs.declared.Record.{Record}
 
 -- a Text; a blank one counts if the flag says so
 abbrev pub isText : Bool → Node → Bool
-isText blank x = both (eqb (x .kind) 5) (either blank (not (blankText (x .text))))
+isText blank x = eqb (x .kind) 5 && (blank || not (blankText (x .text)))
 
 -- a Text that isn't blank, an Attribute or a marker
 abbrev pub hasContent : Forest → Bool
-hasContent f = either (hasText f) (either (hasAttribute f) (hasMarkers f))
+hasContent f = hasText f || (hasAttribute f || hasMarkers f)
 
 -- the running record after a marker that is an `id` or isn't, with the book code
 abbrev pub withId : Bool → List ℕ → Record → Record
 withId named code r =
     record {
-      «has_id» = either named (r .«has_id»);
+      «has_id» = (named || r .«has_id»);
       «has_chapter» = r .«has_chapter»;
       «has_verse» = r .«has_verse»;
       «front_matter» = pick named (frontBy code (r .«front_matter»)) (r .«front_matter»);

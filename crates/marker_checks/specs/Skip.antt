@@ -1,9 +1,9 @@
 -- A test of a marker. Where it holds, nothing is said of the marker and its children change nothing, which `skipped-marked` and, in `checker`, `visited-skipped` prove; it holds of most markers of a book.
 use Prim.Native.Nat.{ℕ}
-use mathlib.Core.Bool.{Bool, true, false, not}
+use mathlib.Core.Bool.{Bool, true, false, not, _&&_, _||_}
 use mathlib.Core.List.{List}
 use lib.Dec.{eqb}
-use Rattle.text.specs.Pick.{both, either, cut, pick}
+use Rattle.text.specs.Pick.{cut, pick}
 use Rattle.tape.specs.Forest.{Forest, end, leaf, node}
 use Rattle.table.specs.Bytes.{equal, oneOf}
 use Rattle.table.specs.Entries.{Entry}
@@ -14,22 +14,21 @@ use Rattle.marker_checks.specs.Own.{childrenAt}
 -- a run of Texts
 unfoldable pub onlyTexts : Forest → Bool
 onlyTexts end = true
-onlyTexts (leaf x r) = both (eqb (x .kind) 5) (onlyTexts r)
+onlyTexts (leaf x r) = eqb (x .kind) 5 && onlyTexts r
 onlyTexts (node x c r) = false
 
 -- a name that a check asks for
 abbrev pub askedFor : List ℕ → Bool
 askedFor name =
-    either (either (equal name bName) (equal name wName))
-    (either (either (equal name idName) (equal name rbName)) (either (either (equal name trName) (equal name figName)) (oneOf numberMarkers name)))
+    (equal name bName || equal name wName) || ((equal name idName || equal name rbName) || ((equal name trName || equal name figName) || oneOf numberMarkers name))
 
 -- a paragraph behind a chapter, or a character marker in a note
 abbrev pub placed : Entry → state.Around → Bool → Bool
-placed e o chapter = pick (eqb (e .category) 3) chapter (both (eqb (e .category) 4) (o .note))
+placed e o chapter = pick (eqb (e .category) 3) chapter (eqb (e .category) 4 && o .note)
 
 -- by its name in the table, what lies around it, whether a chapter stands before it, and its children
 abbrev pub canSkipMarker : List ℕ → Entry → state.Around → Bool → Forest → Bool
-canSkipMarker name e o chapter c = both (placed e o chapter) (both (onlyTexts c) (not (askedFor name)))
+canSkipMarker name e o chapter c = placed e o chapter && (onlyTexts c && not (askedFor name))
 
 -- of node i with its table entry
 abbrev pub canSkipMarkerAt : List ℕ → List ℕ → List ℕ → state.Around → Entry → ℕ → Bool → Bool

@@ -17,12 +17,12 @@ use table::Book;
 use table::BookId;
 use table::MarkerInfo;
 ghost use mathlib.Core.Path.{_≡_};
-ghost use mathlib.Core.Bool.{true, not};
+ghost use mathlib.Core.Bool.{true, not, _&&_, _||_};
 ghost use mathlib.Core.List.{[]};
 ghost use Prim.Native.Nat.{_+_, _-_, _<_, _≤_};
 ghost use lib.Dec.{eqb};
 ghost use lib.ListN.{length};
-ghost use Rattle.text.specs.Pick.{both, either, within, pick};
+ghost use Rattle.text.specs.Pick.{within, pick};
 ghost use Rattle.tape.specs.Nodes.{count, nodeAt, kindAt, startAt, linkAt, isOpen};
 ghost use Rattle.tape.specs.Forest.{forest};
 ghost use Rattle.table.specs.Bytes.{equal, oneOf};
@@ -188,7 +188,7 @@ fn is_book_upper(code: &[u8]) -> bool
 
 // Whether a book code is there and not in the list.
 fn is_bad_code(code: &[u8]) -> bool
-    ensures { λ r. ⌜ r ≡ both (not (eqb (length (now (code .entry))) 0)) (not (isBook (now (code .entry)))) ⌝ }
+    ensures { λ r. ⌜ r ≡ (not (eqb (length (now (code .entry))) 0) && not (isBook (now (code .entry)))) ⌝ }
 {
     if code.len() == 0 {
         return false;
@@ -284,7 +284,7 @@ pub fn is_number_marker(name: &[u8]) -> bool
 
 // A marker of notes that stands outside one.
 fn outside_note(m: MarkerInfo, note: bool, name: &[u8]) -> bool
-    ensures { λ r. ⌜ r ≡ both (eqb (entryOfInfo m .category) 4) (both (not note) (oneOf noteOnly (now (name .entry)))) ⌝ }
+    ensures { λ r. ⌜ r ≡ (eqb (entryOfInfo m .category) 4 && (not note && oneOf noteOnly (now (name .entry)))) ⌝ }
 {
     if note {
         return false;
@@ -298,7 +298,7 @@ fn outside_note(m: MarkerInfo, note: bool, name: &[u8]) -> bool
 
 fn filled_blank_line(name: &[u8], source: &[u8], tape: &[u8], from: usize, to: usize) -> bool
     requires { ⌜ Run (now source) (now tape) from to ⌝ }
-    ensures { λ r. ⌜ r ≡ both (equal (now (name .entry)) bName) (inlineContent (forest (now (source .entry)) (now (tape .entry)) from to)) ⌝ }
+    ensures { λ r. ⌜ r ≡ (equal (now (name .entry)) bName && inlineContent (forest (now (source .entry)) (now (tape .entry)) from to)) ⌝ }
 {
     if table::same(name, b"b") {
         return blank_line_has_inline_content(source, tape, from, to);
@@ -307,7 +307,7 @@ fn filled_blank_line(name: &[u8], source: &[u8], tape: &[u8], from: usize, to: u
 }
 
 fn before_chapter(m: MarkerInfo, rec: Record) -> bool
-    ensures { λ r. ⌜ r ≡ both (isBody (entryOfInfo m)) (both (not (rec .«has_chapter»)) (not (rec .«front_matter»))) ⌝ }
+    ensures { λ r. ⌜ r ≡ (isBody (entryOfInfo m) && (not (rec .«has_chapter») && not (rec .«front_matter»))) ⌝ }
 {
     if rec.has_chapter {
         return false;
@@ -321,7 +321,7 @@ fn before_chapter(m: MarkerInfo, rec: Record) -> bool
 // A number that isn't attached, by the table's name and the name as written.
 fn is_misplaced(name: &[u8], source: &[u8], tape: &[u8], i: usize, numbers: Attached) -> bool
     requires { ⌜ Spanned (now source) (now tape) i ⌝ }
-    ensures { λ r. ⌜ r ≡ both (oneOf numberMarkers (now (name .entry))) (both (oneOf numberMarkers (nameOf (nodeAt (now (source .entry)) (now (tape .entry)) i .text))) (not (among (startAt (now (tape .entry)) i) (startsOf numbers)))) ⌝ }
+    ensures { λ r. ⌜ r ≡ (oneOf numberMarkers (now (name .entry)) && (oneOf numberMarkers (nameOf (nodeAt (now (source .entry)) (now (tape .entry)) i .text)) && not (among (startAt (now (tape .entry)) i) (startsOf numbers)))) ⌝ }
 {
     if !is_number_marker(name) {
         return false;
@@ -364,7 +364,7 @@ fn place_findings(
 
 fn empty_figure(name: &[u8], source: &[u8], tape: &[u8], from: usize, to: usize) -> bool
     requires { ⌜ Run (now source) (now tape) from to ⌝ }
-    ensures { λ r. ⌜ r ≡ both (equal (now (name .entry)) figName) (not (hasText (forest (now (source .entry)) (now (tape .entry)) from to))) ⌝ }
+    ensures { λ r. ⌜ r ≡ (equal (now (name .entry)) figName && not (hasText (forest (now (source .entry)) (now (tape .entry)) from to))) ⌝ }
 {
     if table::same(name, b"fig") {
         return !has_text(source, tape, from, to);
@@ -388,7 +388,7 @@ fn has_content(source: &[u8], tape: &[u8], from: usize, to: usize) -> bool
 
 fn empty_word(name: &[u8], source: &[u8], tape: &[u8], from: usize, to: usize) -> bool
     requires { ⌜ Run (now source) (now tape) from to ⌝ }
-    ensures { λ r. ⌜ r ≡ both (equal (now (name .entry)) wName) (not (hasContent (forest (now (source .entry)) (now (tape .entry)) from to))) ⌝ }
+    ensures { λ r. ⌜ r ≡ (equal (now (name .entry)) wName && not (hasContent (forest (now (source .entry)) (now (tape .entry)) from to))) ⌝ }
 {
     if table::same(name, b"w") {
         return !has_content(source, tape, from, to);
@@ -398,7 +398,7 @@ fn empty_word(name: &[u8], source: &[u8], tape: &[u8], from: usize, to: usize) -
 
 fn lacks_attribute(name: &[u8], source: &[u8], tape: &[u8], from: usize, to: usize) -> bool
     requires { ⌜ Run (now source) (now tape) from to ⌝ }
-    ensures { λ r. ⌜ r ≡ both (equal (now (name .entry)) rbName) (not (hasAttribute (forest (now (source .entry)) (now (tape .entry)) from to))) ⌝ }
+    ensures { λ r. ⌜ r ≡ (equal (now (name .entry)) rbName && not (hasAttribute (forest (now (source .entry)) (now (tape .entry)) from to))) ⌝ }
 {
     if table::same(name, b"rb") {
         return !has_attribute(source, tape, from, to);
@@ -502,7 +502,7 @@ fn has_only_texts(source: &[u8], tape: &[u8], from: usize, to: usize) -> bool
 }
 
 fn is_either(name: &[u8], a: &[u8], b: &[u8]) -> bool
-    ensures { λ r. ⌜ r ≡ either (equal (now (name .entry)) (now (a .entry))) (equal (now (name .entry)) (now (b .entry))) ⌝ }
+    ensures { λ r. ⌜ r ≡ (equal (now (name .entry)) (now (a .entry)) || equal (now (name .entry)) (now (b .entry))) ⌝ }
 {
     if table::same(name, a) {
         return true;

@@ -3,13 +3,13 @@
 use Prim.Native.Nat.{ℕ, _+_, _<_, _≤_}
 use native.Mathlib.Omega.{arith}
 use mathlib.Core.Path.{_≡_, refl, sym, subst, _∙_}
-use mathlib.Core.Bool.{Bool, true, false, not, false≢true}
+use mathlib.Core.Bool.{Bool, true, false, not, false≢true, _&&_, _||_}
 use mathlib.Core.List.{List, [], _∷_, _++_}
 use mathlib.Core.Option.{Option, some, none}
 use lib.Dec.{eqb, ltb}
 use lib.ListN.{length}
 use borrow.Author.Tests.{lt-ltb, le-leb, ne-eqb, ltb-true}
-use Rattle.text.specs.Pick.{both, either, cut, pick}
+use Rattle.text.specs.Pick.{cut, pick}
 use Rattle.text.specs.Words.{blankText}
 use Rattle.text.proofs.Rows.{both-left, both-right}
 use Rattle.tape.specs.Nodes.{Node, count, kindAt, linkAt, isOpen, nodeAt}
@@ -52,11 +52,11 @@ is-some : (o : Option (List ℕ)) → isSome o ≡ true → (text : List ℕ) ×
 is-some none e = absurd (false≢true e)
 is-some (some text) e = (text, refl)
 
-middle : (a b c : Bool) → both a (both b c) ≡ true → b ≡ true
-middle a b c h = both-left b c (both-right a (both b c) h)
+middle : (a b c : Bool) → (a && (b && c)) ≡ true → b ≡ true
+middle a b c h = both-left b c (both-right a (b && c) h)
 
 -- a label longer than one byte isn't empty
-longer-some : (n : ℕ) (b : Bool) → both (ltb 1 n) b ≡ true → not (eqb n 0) ≡ true
+longer-some : (n : ℕ) (b : Bool) → (ltb 1 n && b) ≡ true → not (eqb n 0) ≡ true
 longer-some n b h = let l = ltb-true 1 n (both-left (ltb 1 n) b h) in rw (ne-eqb n 0 (omega arith))
 
 -- what the walk's record hands on to later findings: the letter of the expected verse, and the starts that may stay unclosed
@@ -129,7 +129,7 @@ module _ (table s t : List ℕ) where
           no-default = said 32 0 owner 0 (rw (ne-eqb owner 0 (omega arith), lt-ltb owner (count t) below));
         }
 
-    milestone-said : 1 ≤ i → either (isStart x) (isEnd x) ≡ true → Has (error x 16 0) × Has (error x 16 1)
+    milestone-said : 1 ≤ i → (isStart x || isEnd x) ≡ true → Has (error x 16 0) × Has (error x 16 1)
     unfolding allTexts documentTexts numberTexts markerTexts codeOf formOf shownOf
     milestone-said from h = (said 16 0 0 0 (rw (ne-eqb i 0 (omega arith), h)), said 16 1 0 0 (rw (ne-eqb i 0 (omega arith), h)))
 
@@ -223,16 +223,16 @@ module _ (table s t : List ℕ) where
         tell n form h = said i low (some e) known n form 0 0 h
 
         -- both forms show the code
-        book : (b : Bool) → both (equal name idName) (both (not (eqb (length code) 0)) (not (isBook code))) ≡ true → Has (warning y 5 (pick b 0 1))
+        book : (b : Bool) → (equal name idName && (not (eqb (length code) 0) && not (isBook code))) ≡ true → Has (warning y 5 (pick b 0 1))
         book true h = tell 5 0 (rw (opens, middle (equal name idName) (not (eqb (length code) 0)) (not (isBook code)) h))
         book false h = tell 5 1 (rw (opens, middle (equal name idName) (not (eqb (length code) 0)) (not (isBook code)) h))
 
-        number : both (oneOf numberMarkers name) (both (oneOf numberMarkers written) (not (attachedTo a f (y .start)))) ≡ true → Has (warning y 33 0)
+        number : (oneOf numberMarkers name && (oneOf numberMarkers written && not (attachedTo a f (y .start)))) ≡ true → Has (warning y 33 0)
         number h = tell 33 0 (rw (ne-eqb i 0 (omega arith), middle (oneOf numberMarkers name) (oneOf numberMarkers written) (not (attachedTo a f (y .start))) h))
 
     milestone-checks : (st : State) → AllOf (WhenHeld Has) (milestoneChecks e st y)
     milestone-checks st =
-        (λ h. milestone-said i low (some e) known from (both-right (eqb (e .category) 6) (either (isStart y) (isEnd y)) (both-left (isMilestone e y) (both (not (isStart y)) (not (waits y (st .openStarts)))) h)) .1, tt)
+        (λ h. milestone-said i low (some e) known from (both-right (eqb (e .category) 6) (isStart y || isEnd y) (both-left (isMilestone e y) (not (isStart y) && not (waits y (st .openStarts))) h)) .1, tt)
 
     open-all : {d : ℕ} → Nested t d (i + 1) (linkAt t i) → linkAt t i ≤ count t → (o : Around) (a : Option Anchor) (st : State) (f : Forest) → AllOf Has (openTold table o a st e y below f .findings)
     unfolding openTold
@@ -308,7 +308,7 @@ module _ (table s t : List ℕ) where
       let x = nodeAt s t a in
       let k = nested-le r in
       let inside : a < count t = omega arith in
-      rw (forest-leaf s t h z r) (all-only Has (both (eqb (x .kind) 5) (not (blankText (x .text)))) (warning x 7 0) (λ q. text-said a inside (infoAt table t a) refl))
+      rw (forest-leaf s t h z r) (all-only Has (eqb (x .kind) 5 && not (blankText (x .text))) (warning x 7 0) (λ q. text-said a inside (infoAt table t a) refl))
   text-all {d} {a} {b} (inner h z c r) l = rw (forest-node s t h z c r) tt
 
   unclosed-all : (xs : List Node) → AllOf (λ x. Has (error x 16 0)) xs → AllOf Has (unclosed xs)

@@ -2,7 +2,7 @@
 -- Assumes nothing.
 use Prim.Native.Nat.{ℕ, zero, suc, _-_, _%_, _<_, _≤_}
 use mathlib.Core.Path.{_≡_, refl, sym, ap, _∙_}
-use mathlib.Core.Bool.{Bool, true, false, not}
+use mathlib.Core.Bool.{Bool, true, false, not, _||_}
 use mathlib.Core.List.{List}
 use mathlib.Core.Option.{Option, some, none}
 use native.Mathlib.Numerals.{add-one}
@@ -10,7 +10,7 @@ use native.Mathlib.Omega.{arith}
 use lib.Dec.{eqb, ltb}
 use lib.ListN.{length}
 use borrow.Author.Tests.{lt-ltb, le-ltb, ltb-false}
-use Rattle.text.specs.Pick.{either, pick}
+use Rattle.text.specs.Pick.{pick}
 use Rattle.tape.specs.Nodes.{count}
 use Rattle.tape.specs.Forest.{Accepted}
 use Rattle.tape.specs.Reading.{Refusal, refuse, orElse, tapeRefusal}
@@ -37,7 +37,7 @@ module _ (table s t : List ℕ) where
   long-enough none e =
       let odd = not (eqb (length t % 16) 0) in
       let many = ltb 65535 (count t) in
-      let few : count t ≤ 65535 = ltb-false 65535 (count t) (either-false odd many (either-false (eqb (length t) 0) (either odd many) (accepted s t .0 e .sized) .1) .1) in
+      let few : count t ≤ 65535 = ltb-false 65535 (count t) (either-false odd many (either-false (eqb (length t) 0) (odd || many) (accepted s t .0 e .sized) .1) .1) in
       ap (orElse (labelRefusal table s t)) (rw (le-ltb 65535 (count t) few)) ∙ or-none (labelRefusal table s t)
 
   nine : fromTable table s t 65535 65535 ≡ firstNine table s t

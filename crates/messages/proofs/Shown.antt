@@ -2,7 +2,7 @@
 -- Assumes nothing.
 use Prim.Native.Nat.{ℕ, zero, suc, _+_, _-_, _<_, _≤_}
 use mathlib.Core.Path.{_≡_, refl, sym, ap, _∙_}
-use mathlib.Core.Bool.{Bool, true, false, not, false≢true}
+use mathlib.Core.Bool.{Bool, true, false, not, false≢true, _||_}
 use mathlib.Core.List.{List, [], _∷_, _++_}
 use mathlib.Core.Option.{Option, some, none, Option·none-ne-some}
 use native.Mathlib.Omega.{arith}
@@ -10,7 +10,7 @@ use lib.Dec.{eqb, ltb, leb}
 use lib.ListN.{length, getD, take, drop, length-drop}
 use lib.Seq.{length-take-le}
 use borrow.Author.Tests.{lt-ltb, le-ltb, le-leb, lt-leb, eq-eqb, ne-eqb, eqb-true, not-false}
-use Rattle.text.specs.Pick.{Part, both, either, cut, pick}
+use Rattle.text.specs.Pick.{Part, cut, pick}
 use Rattle.tape.specs.Nodes.{Node, count, kindAt, markerAt, linkAt, isOpen, nodeAt}
 use Rattle.tape.specs.Forest.{Accepted, forest}
 use Rattle.table.specs.Bytes.{oneOf}
@@ -101,11 +101,11 @@ module _ (table s t : List ℕ) (q : Asked) where
   unfolding shownOf
   root-base h = rw (eq-eqb (q .node) 0 h)
 
-  pub no-base : (b : Bool) → b ≡ either (isStart x) (isEnd x) → b ≡ false → (q .node ≡ 0 → ⊥) → three (shown table s t q texts.base) (shown table s t q texts.empty) (shown table s t q texts.empty) ≡ none
+  pub no-base : (b : Bool) → b ≡ (isStart x || isEnd x) → b ≡ false → (q .node ≡ 0 → ⊥) → three (shown table s t q texts.base) (shown table s t q texts.empty) (shown table s t q texts.empty) ≡ none
   unfolding shownOf
   no-base b is h n = rw (ne-eqb (q .node) 0 n, ← is, h)
 
-  pub base-shown : (b : Bool) (base : List ℕ) → b ≡ either (isStart x) (isEnd x) → b ≡ true → (q .node ≡ 0 → ⊥) → base ≡ baseOf x → three (shown table s t q texts.base) (shown table s t q texts.empty) (shown table s t q texts.empty) ≡ some (values base [] [])
+  pub base-shown : (b : Bool) (base : List ℕ) → b ≡ (isStart x || isEnd x) → b ≡ true → (q .node ≡ 0 → ⊥) → base ≡ baseOf x → three (shown table s t q texts.base) (shown table s t q texts.empty) (shown table s t q texts.empty) ≡ some (values base [] [])
   unfolding shownOf
   base-shown b base is h n l = rw (l, ne-eqb (q .node) 0 n, ← is, h)
 

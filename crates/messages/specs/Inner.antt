@@ -1,11 +1,11 @@
 -- What the functions that find a text's values promise.
 use Prim.Native.Nat.{ℕ, _<_, _≤_}
-use mathlib.Core.Bool.{Bool}
+use mathlib.Core.Bool.{Bool, _||_}
 use mathlib.Core.List.{List, []}
 use mathlib.Core.Option.{Option, some, none}
 use lib.Dec.{eqb}
 use lib.ListN.{length}
-use Rattle.text.specs.Pick.{either, cut}
+use Rattle.text.specs.Pick.{cut}
 use Rattle.tape.specs.Nodes.{count}
 use Rattle.tape.specs.Forest.{Accepted}
 use Rattle.table.specs.Entries.{Entry, Indexed}
@@ -44,7 +44,7 @@ LaidWith q a b c l l′ r = LaidFrom allTexts (q .code) (q .form) a b c l l′ r
 
 -- "`\fr` outside a note shows the table's name"
 abbrev pub isTables : ℕ → Bool
-isTables code = either (eqb code 13) (eqb code 24)
+isTables code = eqb code 13 || eqb code 24
 
 -- the name in the table, empty where there is no entry
 abbrev pub nameOr : List ℕ → Option Entry → List ℕ

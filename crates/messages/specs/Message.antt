@@ -1,11 +1,11 @@
 -- Document 01, module 10 and numbers 12 and 13: the text of a finding.
 use Prim.Native.Nat.{ℕ, zero, suc, _+_, _-_}
-use mathlib.Core.Bool.{Bool, true, false, not}
+use mathlib.Core.Bool.{Bool, true, false, not, _&&_, _||_}
 use mathlib.Core.List.{List, [], _∷_, _++_}
 use mathlib.Core.Option.{Option, some, none}
 use lib.Dec.{eqb, ltb, leb}
 use lib.ListN.{length, getD, take}
-use Rattle.text.specs.Pick.{both, either, cut, pick}
+use Rattle.text.specs.Pick.{cut, pick}
 use Rattle.text.specs.Literal.{ascii}
 use Rattle.tape.specs.Nodes.{Node, count, linkAt, isOpen, nodeAt}
 use Rattle.tape.specs.Forest.{forest}
@@ -49,10 +49,10 @@ nameIn table (some e) = some (cut (e .name) table)
 
 -- "a Chapter's or Verse's nonempty label (glued for code 34)"
 abbrev pub labelIn : Option Entry → Node → Option (List ℕ)
-labelIn e x = onlyIfTrue (both (numbered (x .kind)) (not (eqb (length (labelOf e (x .text))) 0))) (labelOf e (x .text))
+labelIn e x = onlyIfTrue (numbered (x .kind) && not (eqb (length (labelOf e (x .text))) 0)) (labelOf e (x .text))
 
 abbrev pub glued : Option Entry → Node → Bool
-glued e x = both (numbered (x .kind)) (isGlued e (nameOf (x .text)))
+glued e x = numbered (x .kind) && isGlued e (nameOf (x .text))
 
 abbrev pub unitOf : Bool → List ℕ
 unitOf true = ascii "chapter"
@@ -60,18 +60,18 @@ unitOf false = ascii "verse"
 
 -- "for code 33 one of its four names": the name as written, of which `ca` and `cp` are a chapter's; the root has no text
 abbrev pub isNumber : ℕ → Node → Bool
-isNumber i x = both (not (eqb i 0)) (oneOf numberMarkers (nameOf (x .text)))
+isNumber i x = not (eqb i 0) && oneOf numberMarkers (nameOf (x .text))
 
 abbrev pub ofChapter : Node → Bool
 ofChapter x = eqb (getD (nameOf (x .text)) 0 0) 0x63
 
 -- "a milestone base"
 abbrev pub hasBase : ℕ → Node → Bool
-hasBase i x = both (not (eqb i 0)) (either (isStart x) (isEnd x))
+hasBase i x = not (eqb i 0) && (isStart x || isEnd x)
 
 -- "a MarkerOpen's book code"
 abbrev pub codeIn : Node → List ℕ → Option (List ℕ)
-codeIn x code = onlyIfTrue (both (isOpen (x .kind)) (not (eqb (length code) 0))) code
+codeIn x code = onlyIfTrue (isOpen (x .kind) && not (eqb (length code) 0)) code
 
 -- what a text shows of the node with its table entry and the children's book code, or none where it lacks that
 unfoldable pub shownOf : List ℕ → List ℕ → List ℕ → Asked → Option Entry → Node → Hole → Option (List ℕ)
@@ -80,7 +80,7 @@ shownOf table s t q e x texts.first = some (decimal (q .first))
 shownOf table s t q e x texts.second = some (decimal (q .second))
 shownOf table s t q e x texts.position = onlyIfTrue (leb (q .second) 127) (decimal (q .first) ++ letter (q .second))
 shownOf table s t q e x texts.entryName = nameIn table e
-shownOf table s t q e x texts.ownerName = onlyIfTrue (both (not (eqb (q .first) 0)) (ltb (q .first) (count t))) (nameOf (nodeAt s t (q .first) .text))
+shownOf table s t q e x texts.ownerName = onlyIfTrue (not (eqb (q .first) 0) && ltb (q .first) (count t)) (nameOf (nodeAt s t (q .first) .text))
 shownOf table s t q e x texts.label = labelIn e x
 shownOf table s t q e x texts.gluedLabel = onlyIfTrue (glued e x) (labelOf e (x .text))
 shownOf table s t q e x texts.bareName = onlyIfTrue (glued e x) (take (length (nameOf (x .text)) - length (labelOf e (x .text))) (nameOf (x .text)))

@@ -1,6 +1,7 @@
 // The text of a finding: numbers 1 to 9, 12 and 13, or the Rust's text laid over a lent list from its start.
 use table::Info;
 use validate::InputCheck;
+ghost use mathlib.Core.Bool.{_||_};
 ghost use mathlib.Core.Path.{_≡_};
 ghost use mathlib.Core.List.{List, [], _++_};
 ghost use mathlib.Core.Logic.{_⊎_};
@@ -8,7 +9,7 @@ ghost use mathlib.Core.Option.{none};
 ghost use Prim.Native.Nat.{ℕ, _-_, _<_, _≤_};
 ghost use lib.Dec.{eqb};
 ghost use lib.ListN.{length, getD, take};
-ghost use Rattle.text.specs.Pick.{either, pick};
+ghost use Rattle.text.specs.Pick.{pick};
 ghost use Rattle.tape.specs.Nodes.{count, kindAt, nodeAt};
 ghost use Rattle.tape.specs.Forest.{Accepted};
 ghost use Rattle.table.specs.Entries.{Indexed};
@@ -252,7 +253,7 @@ fn lay_base<'a>(
 
 // Whether a name is a milestone's start or end.
 fn is_paired(name: &[u8]) -> bool
-    ensures { λ r. ⌜ r ≡ either (endsIn 0x73 (now (name .entry))) (endsIn 0x65 (now (name .entry))) ⌝ }
+    ensures { λ r. ⌜ r ≡ (endsIn 0x73 (now (name .entry)) || endsIn 0x65 (now (name .entry))) ⌝ }
 {
     if milestones::ends_in(name, b's') {
         return true;

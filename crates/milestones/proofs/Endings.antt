@@ -11,7 +11,7 @@ use lib.Seq.{length-take-le, take-take}
 use denote.Enum.Declared.{tagOf}
 use types.Run.{OneOf, miss}
 use borrow.Author.Tests.{eq-eqb, ne-eqb}
-use Rattle.text.specs.Pick.{both, either, cut}
+use Rattle.text.specs.Pick.{cut}
 use Rattle.text.proofs.Rows.{both-true, place}
 use Rattle.tape.specs.Nodes.{nodeAt, span, startAt, lenAt}
 use Rattle.table.specs.Bytes.{equal}

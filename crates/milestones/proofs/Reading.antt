@@ -4,13 +4,13 @@ use Prim.Native.Nat.{ℕ, _+_, _-_, _<_, _≤_}
 use native.Mathlib.Omega.{arith}
 use native.Mathlib.Decide.{decLt}
 use mathlib.Core.Path.{_≡_, refl, sym, ap, _∙_}
-use mathlib.Core.Bool.{Bool, true, false}
+use mathlib.Core.Bool.{Bool, true, false, _&&_, _||_}
 use mathlib.Core.List.{List}
 use lib.Dec.{eqb}
 use lib.ListN.{length, take, drop, length-drop}
 use lib.Seq.{length-take-le, take-take}
 use borrow.Author.Tests.{eq-eqb}
-use Rattle.text.specs.Pick.{both, either, cut}
+use Rattle.text.specs.Pick.{cut}
 use Rattle.tape.specs.Nodes.{nodeAt, span, startAt, lenAt}
 use Rattle.table.specs.Entries.{Entry}
 use Rattle.cursor.specs.declared.NameSpan.{NameSpan}
@@ -66,8 +66,8 @@ module _ (s t : List ℕ) (i a n : ℕ) (here : a ≡ startAt t i) (len : n ≡ 
 
   -- by the tests of the name
   module _ (e : Entry) (of : e .category ≡ 6) where
-    milestone : (y z : Bool) → y ≡ endsIn 0x73 name → z ≡ endsIn 0x65 name → isMilestone e (nodeAt s t i) ≡ either y z
-    milestone y z y-is z-is = ap (λ (k : List ℕ). both (eqb (e .category) 6) (either (endsIn 0x73 k) (endsIn 0x65 k))) (sym is) ∙ rw (eq-eqb (e .category) 6 of, ← y-is, ← z-is)
+    milestone : (y z : Bool) → y ≡ endsIn 0x73 name → z ≡ endsIn 0x65 name → isMilestone e (nodeAt s t i) ≡ (y || z)
+    milestone y z y-is z-is = ap (λ (k : List ℕ). (eqb (e .category) 6 && (endsIn 0x73 k || endsIn 0x65 k))) (sym is) ∙ rw (eq-eqb (e .category) 6 of, ← y-is, ← z-is)
 
     begins : (y : Bool) → y ≡ endsIn 0x73 name → isStart (nodeAt s t i) ≡ y
     begins y y-is = ap (endsIn 0x73) (sym is) ∙ sym y-is

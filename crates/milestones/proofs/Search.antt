@@ -3,10 +3,10 @@
 use Prim.Native.Nat.{ℕ, zero, suc, _+_, _-_, _*_, _<_, _≤_}
 use native.Mathlib.Omega.{arith}
 use mathlib.Core.Path.{_≡_, refl, sym, ap, _∙_}
-use mathlib.Core.Bool.{Bool, true, false}
+use mathlib.Core.Bool.{Bool, true, false, _||_}
 use mathlib.Core.List.{List, [], _∷_}
 use lib.ListN.{getD}
-use Rattle.text.specs.Pick.{either, pick}
+use Rattle.text.specs.Pick.{pick}
 use Rattle.tape.specs.Nodes.{Node, nodeAt}
 use Rattle.table.specs.Bytes.{equal}
 use Rattle.definition.specs.Milestones.{baseOf, sameBase, waits, without}
@@ -61,7 +61,7 @@ module _ (s t : List ℕ) (opens : List OpenStart) (x : Node) where
   waits-found zero = refl
   waits-found (suc k) = go (sameBase (nodeAt s t (getD opens k noStart .node)) x) (waits-found k)
     where
-      go : (b : Bool) → waits x (starts s t opens k) ≡ isFound (nearestIn s t opens k (baseOf x)) → either b (waits x (starts s t opens k)) ≡ isFound (pick b (At k) (nearestIn s t opens k (baseOf x)))
+      go : (b : Bool) → waits x (starts s t opens k) ≡ isFound (nearestIn s t opens k (baseOf x)) → (b || waits x (starts s t opens k)) ≡ isFound (pick b (At k) (nearestIn s t opens k (baseOf x)))
       go true h = refl
       go false h = h
 

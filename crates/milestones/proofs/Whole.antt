@@ -3,10 +3,10 @@
 use Prim.Native.Nat.{ℕ, suc, _+_, _-_, _<_, _≤_}
 use native.Mathlib.Omega.{arith}
 use mathlib.Core.Path.{_≡_, refl, sym, ap, subst, _∙_}
-use mathlib.Core.Bool.{Bool, true, false, not}
+use mathlib.Core.Bool.{Bool, true, false, not, _&&_}
 use mathlib.Core.List.{List, [], _∷_, append-nil}
 use lib.ListN.{length, take, drop, set}
-use Rattle.text.specs.Pick.{both, pick}
+use Rattle.text.specs.Pick.{pick}
 use Rattle.tape.specs.Nodes.{Node, nodeAt}
 use Rattle.table.specs.Entries.{Entry}
 use Rattle.cursor.specs.Inner.{Spanned}
@@ -54,7 +54,7 @@ module _ (e : Entry) (s t : List ℕ) (i : ℕ) (opens : List OpenStart) (l : Li
   x = nodeAt s t i
 
   abbrev alone : Bool
-  alone = both (isMilestone e x) (both (not (isStart x)) (not (waits x (starts s t opens (r .«open»)))))
+  alone = isMilestone e x && (not (isStart x) && not (waits x (starts s t opens (r .«open»))))
 
   -- without a finding the counts are the same
   quiet : false ≡ alone → {opens′ : List OpenStart} {q : Record} → Stepped e s t i opens r opens′ q → Milestoned e s t i opens l r opens′ l q

@@ -1,11 +1,11 @@
 -- What the inner functions promise: how a marker is read, the search among the open starts, and their list without an entry and with one more.
 use Prim.Native.Nat.{ℕ, zero, suc, _+_, _-_, _≤_}
 use mathlib.Core.Path.{_≡_}
-use mathlib.Core.Bool.{Bool, true, false}
+use mathlib.Core.Bool.{Bool, true, false, _&&_, _||_}
 use mathlib.Core.List.{List, [], _∷_, _++_}
 use lib.Dec.{eqb}
 use lib.ListN.{length, getD, set, take, drop}
-use Rattle.text.specs.Pick.{both, either, pick}
+use Rattle.text.specs.Pick.{pick}
 use Rattle.tape.specs.Nodes.{nodeAt}
 use Rattle.table.specs.Bytes.{equal}
 use Rattle.table.specs.Entries.{Entry}
@@ -30,7 +30,7 @@ baseIn name = take (length name - 2) name
 
 -- a milestone by its table entry and its name
 abbrev pub named : Entry → List ℕ → Bool
-named e name = both (eqb (e .category) 6) (either (endsIn 0x73 name) (endsIn 0x65 name))
+named e name = eqb (e .category) 6 && (endsIn 0x73 name || endsIn 0x65 name)
 
 -- a node with the length of its base
 pub record Measured (s t : List ℕ) (node len : ℕ) : Type 0 where

@@ -2,7 +2,7 @@
 -- Assumes nothing.
 use Prim.Native.Nat.{ℕ, zero, suc, _+_, _-_, _<_, _≤_}
 use mathlib.Core.Path.{_≡_, refl, sym, ap, _∙_}
-use mathlib.Core.Bool.{Bool, true, false, not}
+use mathlib.Core.Bool.{Bool, true, false, not, _&&_}
 use mathlib.Core.Logic.{inl, inr}
 use mathlib.Core.List.{List}
 use mathlib.Core.Option.{Option, some, none}
@@ -13,7 +13,7 @@ use borrow.Author.Tests.{not-true, not-false, lt-ltb, le-ltb}
 use lib.Dec.{ltb}
 use lib.ListN.{length, getD, take, drop, length-take, length-drop}
 use lib.Seq.{length-take-le, take-add, drop-at, drop-drop, getD-take, getD-drop}
-use Rattle.text.specs.Pick.{both, cut, end, within, pick}
+use Rattle.text.specs.Pick.{cut, end, within, pick}
 use Rattle.text.specs.Utf8.{decode}
 use Rattle.text.specs.Blank.{blank}
 use Rattle.text.specs.Characters.{find, starts}
@@ -169,7 +169,7 @@ module _ (s : List ℕ) (b base : ℕ) (is-start : b ≡ namePart s .start) wher
   pub split-none : starts s (b + base) ≡ true → false ≡ splitAt (nameOf s) base
   split-none h = go (decLt base (length (nameOf s)))
     where
-      whole : (v t : Bool) → t ≡ true → false ≡ both v (not t)
+      whole : (v t : Bool) → t ≡ true → false ≡ (v && not t)
       whole true t e = rw e
       whole false t e = refl
 
@@ -178,7 +178,7 @@ module _ (s : List ℕ) (b base : ℕ) (is-start : b ≡ namePart s .start) wher
       go (no l) = rw (le-ltb base (length (nameOf s)) (omega arith))
 
 -- by its own bytes
-pub split-by : (s name : List ℕ) (base : ℕ) → name ≡ nameOf s → (v : Bool) → ltb base (length name) ≡ v → both v (not (starts name base)) ≡ splitAt (nameOf s) base
+pub split-by : (s name : List ℕ) (base : ℕ) → name ≡ nameOf s → (v : Bool) → ltb base (length name) ≡ v → (v && not (starts name base)) ≡ splitAt (nameOf s) base
 split-by s name base named v h = rw (← h, named)
 
 pub split-known : (m : MarkerInfo) (i : Info) (s : List ℕ) → i ≡ info.Known m → splitAt (nameOf s) (m .«name_len») ≡ splits (infoOf i) s

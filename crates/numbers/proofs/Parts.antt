@@ -2,14 +2,14 @@
 -- Assumes nothing.
 use Prim.Native.Nat.{ℕ, suc, _+_, _-_, _<_, _≤_}
 use mathlib.Core.Path.{_≡_, refl, sym, ap, _∙_}
-use mathlib.Core.Bool.{Bool, true, false, not, false≢true}
+use mathlib.Core.Bool.{Bool, true, false, not, false≢true, _&&_}
 use mathlib.Core.List.{List, [], _∷_}
 use mathlib.Core.Option.{Option, some, none}
 use native.Mathlib.Omega.{arith}
 use borrow.Author.Tests.{lt-ltb, le-ltb, ltb-true, ne-eqb}
 use lib.Dec.{leb, eqb}
 use lib.ListN.{length, take, drop, getD}
-use Rattle.text.specs.Pick.{both, within, cut, pick}
+use Rattle.text.specs.Pick.{within, cut, pick}
 use Rattle.text.specs.declared.Parsed.{Parsed}
 use Rattle.text.specs.declared.Parsed.the-variants as parsed
 use Rattle.text.specs.Characters.{findByte}
@@ -30,7 +30,7 @@ letters e a x y p q = rw p (rw q refl)
 pub after-letter : (e l : Suffix) (x n m : ℕ) → e ≡ Letter x → eqb n (m + 1) ≡ otherNumber (suffixOf e) m (suffixOf l) n
 after-letter e l x n m p = rw p refl
 
-pub lettered : (e l : Suffix) (b n m : ℕ) (v : Bool) → e ≡ None → l ≡ Letter b → leb 1 n ≡ v → both v (eqb (n + 1) m) ≡ otherNumber (suffixOf e) m (suffixOf l) n
+pub lettered : (e l : Suffix) (b n m : ℕ) (v : Bool) → e ≡ None → l ≡ Letter b → leb 1 n ≡ v → (v && eqb (n + 1) m) ≡ otherNumber (suffixOf e) m (suffixOf l) n
 lettered e l b n m v p q h = rw p (rw q (rw h refl))
 
 -- the sequence, by whether the numbers are equal

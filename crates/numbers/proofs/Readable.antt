@@ -2,14 +2,14 @@
 -- Assumes nothing.
 use Prim.Native.Nat.{ℕ, _≤_}
 use mathlib.Core.Path.{_≡_, refl, sym}
-use mathlib.Core.Bool.{Bool, true, false}
+use mathlib.Core.Bool.{Bool, true, false, _&&_}
 use mathlib.Core.List.{List, [], _∷_}
 use mathlib.Core.Option.{Option, some, none, Option·none-ne-some, Option·some-injective}
 use native.Mathlib.Omega.{arith}
 use borrow.Author.Tests.{lt-ltb, leb-true}
 use lib.Dec.{leb}
 use lib.ListN.{take, drop}
-use Rattle.text.specs.Pick.{both, within, cut, pick}
+use Rattle.text.specs.Pick.{within, cut, pick}
 use Rattle.text.specs.Words.{trimStart}
 use Rattle.text.specs.Number.{allDigits, valueFrom, digits, digitsFrom}
 use Rattle.text.proofs.Rows.{both-right, within-hi}
@@ -24,7 +24,7 @@ unfolding digits digitsFrom
 limited [] n h = absurd (Option·none-ne-some n h)
 limited (b ∷ t) n h =
     let v = valueFrom 0 (b ∷ t) in
-    let p = picked (both (allDigits (b ∷ t)) (leb v 4294967295)) v n h in
+    let p = picked (allDigits (b ∷ t) && leb v 4294967295) v n h in
     rw (sym (p .1)) (leb-true v 4294967295 (both-right (allDigits (b ∷ t)) (leb v 4294967295) (p .0)))
 
 low-letter : (s : List ℕ) → letterLow (letterOf s) ≡ true

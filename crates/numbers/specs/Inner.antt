@@ -1,12 +1,12 @@
 -- What the functions promise that others are made of.
 use Prim.Native.Nat.{ℕ, zero, suc, _-_, _≤_}
 use mathlib.Core.Path.{_≡_}
-use mathlib.Core.Bool.{Bool, true, false, not}
+use mathlib.Core.Bool.{Bool, true, false, not, _&&_}
 use mathlib.Core.List.{List, [], _∷_}
 use mathlib.Core.Option.{Option, none}
 use lib.Dec.{ltb}
 use lib.ListN.{length, getD, take, drop}
-use Rattle.text.specs.Pick.{both, within, cut, pick}
+use Rattle.text.specs.Pick.{within, cut, pick}
 use Rattle.text.specs.Characters.{starts}
 use Rattle.tape.specs.Nodes.{kindAt}
 use Rattle.tape.specs.Reading.{Refusal, refuse, onlyIf, orElse}
@@ -18,7 +18,7 @@ use Rattle.numbers.specs.Label.{isGlued, labelOf, numbered}
 
 -- the name is longer, and that length splits a character of it
 abbrev pub splitAt : List ℕ → ℕ → Bool
-splitAt name n = both (ltb n (length name)) (not (starts name n))
+splitAt name n = ltb n (length name) && not (starts name n)
 
 -- the places of the label in the text of a node
 pub record Labelled (e : Option Entry) (s : List ℕ) (r : LabelSpan) : Type 0 where

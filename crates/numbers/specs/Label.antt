@@ -1,11 +1,11 @@
 -- Document 01, module 4: "A label is what the marker name has beyond its table name (glued), else the second word of the node's text."
 use Prim.Native.Nat.{ℕ, _-_}
-use mathlib.Core.Bool.{Bool, true, false, not}
+use mathlib.Core.Bool.{Bool, true, false, not, _&&_, _||_}
 use mathlib.Core.List.{List}
 use mathlib.Core.Option.{Option, some, none}
 use lib.Dec.{eqb, ltb}
 use lib.ListN.{length, drop}
-use Rattle.text.specs.Pick.{both, either, cut, pick}
+use Rattle.text.specs.Pick.{cut, pick}
 use Rattle.text.specs.Characters.{starts}
 use Rattle.text.specs.Words.{secondWord}
 use Rattle.tape.specs.Nodes.{count, kindAt, span}
@@ -31,15 +31,15 @@ labelOf e text = pick (isGlued e (nameOf text)) (drop (baseLen e (nameOf text)) 
 
 -- "longer than its table name and the cut splits a character"
 unfoldable pub splits : Option Entry → List ℕ → Bool
-splits e text = both (isGlued e (nameOf text)) (not (starts (nameOf text) (baseLen e (nameOf text))))
+splits e text = isGlued e (nameOf text) && not (starts (nameOf text) (baseLen e (nameOf text)))
 
 -- Chapter and Verse
 abbrev pub numbered : ℕ → Bool
-numbered k = either (eqb k 3) (eqb k 4)
+numbered k = eqb k 3 || eqb k 4
 
 -- 9: "A Chapter or Verse name is longer than its table name and the cut splits a character; place: that node."
 abbrev pub badLabel : List ℕ → List ℕ → List ℕ → ℕ → Bool
-badLabel table s t i = both (numbered (kindAt t i)) (splits (infoAt table t i) (cut (span t i) s))
+badLabel table s t i = numbered (kindAt t i) && splits (infoAt table t i) (cut (span t i) s)
 
 -- node 0 is the root
 unfoldable pub labelRefusal : List ℕ → List ℕ → List ℕ → Option Refusal

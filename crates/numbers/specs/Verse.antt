@@ -1,12 +1,12 @@
 -- Document 01, module 4: "A verse position is a number with a letter or none."
 use Prim.Native.Nat.{ℕ, _+_, _≤_}
-use mathlib.Core.Bool.{Bool, true, false, not}
+use mathlib.Core.Bool.{Bool, true, false, not, _&&_}
 use mathlib.Core.List.{List, [], _∷_}
 use mathlib.Core.Option.{Option, some, none}
 use mathlib.Core.Path.{_≡_}
 use lib.Dec.{leb, eqb, ltb}
 use lib.ListN.{length, take, drop}
-use Rattle.text.specs.Pick.{both, within, cut, pick}
+use Rattle.text.specs.Pick.{within, cut, pick}
 use Rattle.text.specs.Characters.{findByte}
 use Rattle.text.specs.Words.{trimStart}
 use Rattle.text.specs.Number.{digit, digits}
@@ -67,7 +67,7 @@ noEarlier (some a) (some b) = leb a b
 abbrev pub otherNumber : Option ℕ → ℕ → Option ℕ → ℕ → Bool
 otherNumber (some a) e l n = eqb n (e + 1)
 otherNumber none e none n = false
-otherNumber none e (some b) n = both (leb 1 n) (eqb (n + 1) e)
+otherNumber none e (some b) n = leb 1 n && eqb (n + 1) e
 
 -- "Sequence as `is_valid_verse_sequence`": the expected position, and the one that stands there
 unfoldable pub inSequence : Position → Position → Bool

@@ -3,13 +3,12 @@
 use Prim.Native.Nat.{ℕ, _+_, _%_, _<_, _≤_}
 use native.Mathlib.Omega.{arith}
 use mathlib.Core.Path.{_≡_, refl, sym, ap, subst, _∙_}
-use mathlib.Core.Bool.{Bool, true, false, not, false≢true}
+use mathlib.Core.Bool.{Bool, true, false, not, false≢true, _||_}
 use mathlib.Core.List.{List}
 use mathlib.Core.Option.{Option, some, none}
 use lib.Dec.{eqb, ltb}
 use lib.ListN.{length}
 use borrow.Author.Tests.{ltb-false}
-use Rattle.text.specs.Pick.{either}
 use Rattle.tape.specs.Nodes.{count, kindAt, linkAt}
 use Rattle.tape.specs.Reading.{Refusal, isNone, badLength, tapeRefusal}
 use Rattle.tape.specs.Forest.{Accepted, Forest, forest}
@@ -49,9 +48,9 @@ holds-open s t i k h e o =
     record { inside = h .inside; run = run-inside s t i (h .accepted) (h .from) (h .inside) (ap (λ x. eqb x 1) (sym e) ∙ o) }
 
 few-nodes : (t : List ℕ) → badLength t ≡ false → count t ≤ 65535
-few-nodes t h = ltb-false 65535 (count t) (right (not (eqb (length t % 16) 0)) (ltb 65535 (count t)) (right (eqb (length t) 0) (either (not (eqb (length t % 16) 0)) (ltb 65535 (count t))) h))
+few-nodes t h = ltb-false 65535 (count t) (right (not (eqb (length t % 16) 0)) (ltb 65535 (count t)) (right (eqb (length t) 0) (not (eqb (length t % 16) 0) || ltb 65535 (count t)) h))
   where
-    right : (a b : Bool) → either a b ≡ false → b ≡ false
+    right : (a b : Bool) → (a || b) ≡ false → b ≡ false
     right true b e = absurd (false≢true (sym e))
     right false b e = e
 

@@ -1,9 +1,9 @@
 -- An answer that may be missing, told as a number.
 use Prim.Native.Nat.{ℕ, zero, suc}
-use mathlib.Core.Bool.{Bool, true, false}
+use mathlib.Core.Bool.{Bool, true, false, _&&_}
 use mathlib.Core.Option.{Option, some, none}
 use lib.Dec.{leb, ltb}
-use Rattle.text.specs.Pick.{both, pick}
+use Rattle.text.specs.Pick.{pick}
 use Rattle.numbers.specs.Verse.{Position, next}
 use Rattle.rows.specs.Cells.{Range}
 
@@ -32,7 +32,7 @@ low n = leb n 4294967296
 
 -- the position after the one that is told, where a label can have that one and a letter has a byte after it; else itself
 abbrev pub nextTold : ℕ → ℕ → Position
-nextTold n b = pick (both (leb n 4294967295) (ltb b 255)) (next (positionTold n b)) (positionTold n b)
+nextTold n b = pick (leb n 4294967295 && ltb b 255) (next (positionTold n b)) (positionTold n b)
 
 -- the first and the last column of a cell
 abbrev pub startTold : Option Range → ℕ

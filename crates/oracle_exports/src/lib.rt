@@ -21,7 +21,7 @@ use tape::TapeCheck;
 use text::Parsed;
 use text::Utf8;
 ghost use mathlib.Core.Path.{_≡_};
-ghost use mathlib.Core.Bool.{true, not};
+ghost use mathlib.Core.Bool.{true, not, _&&_};
 ghost use Prim.Native.Nat.{_+_, _*_, _%_, _<_, _≤_};
 ghost use lib.Dec.{eqb};
 ghost use lib.ListN.{length, take, drop};
@@ -31,7 +31,7 @@ ghost use Rattle.oracle_exports.specs.Told.{orElse, numberTold, letterTo
 ghost use Rattle.oracle_exports.specs.Inner.{Child, Holds, Anchored};
 ghost use Rattle.rows.specs.Cells.{cellColumns, cellOf};
 ghost use Rattle.numbers.specs.Verse.{readOf, positionOf, suffixOf, versePart, verseEnd, next, inSequence};
-ghost use Rattle.text.specs.Pick.{both, cut};
+ghost use Rattle.text.specs.Pick.{cut};
 ghost use Rattle.text.specs.Utf8.{firstIllFormed, decode};
 ghost use Rattle.text.specs.Blank.{blank};
 ghost use Rattle.text.specs.Characters.{find, findByte, starts};
@@ -445,7 +445,7 @@ pub extern "C" fn compared_end_letter(s: &[u8]) -> u8
 // Whether a position may stand where another is expected. Numbers past 4,294,967,296 never may: no label has them.
 #[no_mangle]
 pub extern "C" fn compared_sequence(expected: u64, wanted: u8, actual: u64, given: u8) -> bool
-    ensures { λ r. ⌜ r ≡ both (low expected) (both (low actual) (inSequence (positionTold expected wanted) (positionTold actual given))) ⌝ }
+    ensures { λ r. ⌜ r ≡ (low expected && (low actual && inSequence (positionTold expected wanted) (positionTold actual given))) ⌝ }
 {
     if 4294967296 < expected {
         return false;

@@ -2,13 +2,13 @@
 -- Assumes nothing.
 use Prim.Native.Nat.{ℕ, suc, _+_, _-_, _<_, _≤_}
 use mathlib.Core.Path.{_≡_, refl, sym, ap, ap₂, _∙_}
-use mathlib.Core.Bool.{Bool, true, false, not, false≢true}
+use mathlib.Core.Bool.{Bool, true, false, not, false≢true, _||_}
 use mathlib.Core.List.{List, [], _∷_}
 use mathlib.Core.Option.{Option, some, none}
 use native.Mathlib.Omega.{arith}
 use borrow.Author.Tests.{lt-ltb, le-ltb, not-true, not-false}
 use lib.ListN.{length, getD, take, drop}
-use Rattle.text.specs.Pick.{either, pick}
+use Rattle.text.specs.Pick.{pick}
 use Rattle.text.specs.Number.{parsed, numberOf}
 use Rattle.text.specs.declared.Parsed.{Parsed}
 use Rattle.text.specs.declared.Parsed.the-variants.{Value}
@@ -36,7 +36,7 @@ letters-cut s x v e h = rest-all s (pick v 3 2) ∙ ap (λ (w : Bool). drop (pic
 pub cell-long : (s : List ℕ) → isCell s ≡ true → 2 ≤ length s
 cell-long s h = go (starting (0x74 ∷ 0x68 ∷ []) s) refl h
   where
-    go : (v : Bool) → starting (0x74 ∷ 0x68 ∷ []) s ≡ v → either v (starting (0x74 ∷ 0x63 ∷ []) s) ≡ true → 2 ≤ length s
+    go : (v : Bool) → starting (0x74 ∷ 0x68 ∷ []) s ≡ v → (v || starting (0x74 ∷ 0x63 ∷ []) s) ≡ true → 2 ≤ length s
     go true e g = omega (arith, starts-long (0x74 ∷ 0x68 ∷ []) s e)
     go false e g = omega (arith, starts-long (0x74 ∷ 0x63 ∷ []) s g)
 

@@ -1,11 +1,11 @@
 -- Document 01, module 6: "`table_cell_columns`".
 use Prim.Native.Nat.{ℕ, _+_}
-use mathlib.Core.Bool.{Bool, true, false}
+use mathlib.Core.Bool.{Bool, true, false, _||_}
 use mathlib.Core.List.{List, [], _∷_}
 use mathlib.Core.Option.{Option, some, none}
 use lib.Dec.{eqb, ltb}
 use lib.ListN.{length, getD, take, drop}
-use Rattle.text.specs.Pick.{either, pick}
+use Rattle.text.specs.Pick.{pick}
 use Rattle.text.specs.Characters.{findByte}
 use Rattle.text.specs.Number.{parsed}
 use Rattle.table.specs.Bytes.{starting}
@@ -20,11 +20,11 @@ pub record Range : Type 0 where
 
 -- `th` or `tc`, which begin a cell's name
 abbrev pub isCell : List ℕ → Bool
-isCell name = either (starting (0x74 ∷ 0x68 ∷ []) name) (starting (0x74 ∷ 0x63 ∷ []) name)
+isCell name = starting (0x74 ∷ 0x68 ∷ []) name || starting (0x74 ∷ 0x63 ∷ []) name
 
 -- `thr`, `thc`, `tcr` and `tcc`: the third byte
 abbrev pub isAligned : List ℕ → Bool
-isAligned name = either (eqb (getD name 2 0) 0x72) (eqb (getD name 2 0) 0x63)
+isAligned name = eqb (getD name 2 0) 0x72 || eqb (getD name 2 0) 0x63
 
 -- what stands after the name's letters
 abbrev pub afterLetters : List ℕ → List ℕ

@@ -6,6 +6,7 @@ use numbers::VersePart;
 use table::Category;
 use table::MarkerInfo;
 use table::TextRole;
+ghost use mathlib.Core.Bool.{_||_};
 ghost use mathlib.Core.Path.{_≡_};
 ghost use mathlib.Core.List.{[]};
 ghost use Prim.Native.Nat.{_<_};
@@ -13,7 +14,6 @@ ghost use Rattle.tape.specs.Nodes.{count, nodeAt};
 ghost use Rattle.findings.specs.Finding.{findingOf, severityOf};
 ghost use lib.Dec.{eqb};
 ghost use Rattle.table.specs.Entries.{entryOfInfo, categoryOf, roleOf};
-ghost use Rattle.text.specs.Pick.{either};
 ghost use Rattle.definition.specs.Checks;
 ghost use Rattle.definition.specs.Checks.{isBody};
 ghost use Rattle.definition.specs.Walk;
@@ -171,7 +171,7 @@ pub fn is_body(m: MarkerInfo) -> bool
 }
 
 fn or(a: bool, b: bool) -> bool
-    ensures { λ r. ⌜ r ≡ either a b ⌝ }
+    ensures { λ r. ⌜ r ≡ (a || b) ⌝ }
 {
     if a { true } else { b }
 }

@@ -1,7 +1,7 @@
 -- Bytes as a number, lists compared by blocks, and the first eight bytes of a text.
 -- Assumes nothing.
 use mathlib.Core.Path.{_≡_, refl, sym, _∙_}
-use mathlib.Core.Bool.{Bool, true, false}
+use mathlib.Core.Bool.{Bool, true, false, _&&_}
 use mathlib.Core.List.{List, [], _∷_}
 use Prim.Native.Nat.{ℕ, zero, suc, _+_, _-_, _*_, _<_, _≤_}
 use native.Mathlib.Nat.{add-assoc}
@@ -12,7 +12,7 @@ use lib.Dec.{eqb, ltb}
 use lib.ListN.{length, getD, take, drop, length-drop}
 use lib.Seq.{take-length, length-take-le, drop-drop}
 use borrow.Author.Tests.{eq-eqb, ne-eqb, ltb-true, ltb-false, eqb-true, eqb-false}
-use Rattle.text.specs.Pick.{both, pick}
+use Rattle.text.specs.Pick.{pick}
 use Rattle.text.specs.Scans.{fourBytes, eightBytes}
 use Rattle.text.proofs.Rows.{both-false, both-true, both-left, both-right, place}
 use Rattle.table.specs.Bytes.{equal, all, starting}
@@ -20,10 +20,10 @@ use Rattle.table.specs.Inner.{headOf}
 use Rattle.table.proofs.Words.{starts-short, equal-ends}
 
 -- the digits of a number are unique
-digits : (a b x y : ℕ) → a < 256 → b < 256 → eqb (a + 256 * x) (b + 256 * y) ≡ both (eqb a b) (eqb x y)
+digits : (a b x y : ℕ) → a < 256 → b < 256 → eqb (a + 256 * x) (b + 256 * y) ≡ (eqb a b && eqb x y)
 digits a b x y h k = go (eqb a b) (eqb x y) refl refl
   where
-    go : (t u : Bool) → eqb a b ≡ t → eqb x y ≡ u → eqb (a + 256 * x) (b + 256 * y) ≡ both t u
+    go : (t u : Bool) → eqb a b ≡ t → eqb x y ≡ u → eqb (a + 256 * x) (b + 256 * y) ≡ (t && u)
     go true true e f = eq-eqb (a + 256 * x) (b + 256 * y) (omega (arith, eqb-true a b e, eqb-true x y f))
     go true false e f = ne-eqb (a + 256 * x) (b + 256 * y) (λ z. eqb-false x y f (omega (arith, eqb-true a b e)))
     go false u e f = ne-eqb (a + 256 * x) (b + 256 * y) (λ z. eqb-false a b e (omega arith))
@@ -60,14 +60,14 @@ module _ (a b : List ℕ) (p : Small a) (q : Small b) where
   same-four i j h k = rw (four-is a i, four-is b j) (same-number 4 i j h k)
 
 -- a word stands at the head exactly if its first n bytes do, and the others behind them
-pub parts : (n : ℕ) (w l : List ℕ) → starting w l ≡ both (starting (take n w) l) (starting (drop n w) (drop n l))
+pub parts : (n : ℕ) (w l : List ℕ) → starting w l ≡ (starting (take n w) l && starting (drop n w) (drop n l))
 unfolding equal
 parts zero w l = refl
 parts (suc n) [] l = refl
 parts (suc n) (x ∷ w) [] = refl
 parts (suc n) (x ∷ w) (y ∷ l) = go (eqb x y) (parts n w l)
   where
-    go : (t : Bool) → starting w l ≡ both (starting (take n w) l) (starting (drop n w) (drop n l)) → both t (starting w l) ≡ both (both t (starting (take n w) l)) (starting (drop n w) (drop n l))
+    go : (t : Bool) → starting w l ≡ (starting (take n w) l && starting (drop n w) (drop n l)) → (t && starting w l) ≡ ((t && starting (take n w) l) && starting (drop n w) (drop n l))
     go true e = e
     go false e = refl
 
@@ -75,7 +75,7 @@ parts (suc n) (x ∷ w) (y ∷ l) = go (eqb x y) (parts n w l)
 whole : (a b : List ℕ) → length a ≡ length b → starting a b ≡ equal a b
 whole a b e = rw (e, take-length b)
 
-pub block : (a b : List ℕ) (i n : ℕ) → length a ≡ length b → i + n ≤ length a → equal (drop i a) (drop i b) ≡ both (equal (take n (drop i a)) (take n (drop i b))) (equal (drop (i + n) a) (drop (i + n) b))
+pub block : (a b : List ℕ) (i n : ℕ) → length a ≡ length b → i + n ≤ length a → equal (drop i a) (drop i b) ≡ (equal (take n (drop i a)) (take n (drop i b)) && equal (drop (i + n) a) (drop (i + n) b))
 block a b i n e h =
     let k : n ≤ length (drop i a) = omega (arith, length-drop i a) in
     let f : (j : ℕ) → length (drop j a) ≡ length (drop j b) = λ j. simp length-drop (rw e) in
@@ -99,7 +99,7 @@ module _ (a b : List ℕ) (n : ℕ) (e : length a ≡ length b) where
 
 -- and their first n bytes
 module _ (a b : List ℕ) (n : ℕ) (e : length a ≡ length b) (h : n ≤ length a) where
-  front : equal a b ≡ both (equal (take n a) (take n b)) (equal (drop n a) (drop n b))
+  front : equal a b ≡ (equal (take n a) (take n b) && equal (drop n a) (drop n b))
   front =
       let z : 0 + n ≡ n = omega arith in
       rw z at (block a b 0 n e (omega arith))
@@ -112,7 +112,7 @@ module _ (a b : List ℕ) (n : ℕ) (e : length a ≡ length b) (h : n ≤ lengt
 
 -- eight bytes that a number other than 0 stands for
 abbrev pub eight : List ℕ → Bool
-eight h = both (eqb (length h) 8) (both (all (λ (b : ℕ). ltb b 256) h) (ltb 0 (eightBytes h 0)))
+eight h = eqb (length h) 8 && (all (λ (b : ℕ). ltb b 256) h && ltb 0 (eightBytes h 0))
 
 small : (h : List ℕ) → all (λ (b : ℕ). ltb b 256) h ≡ true → Small h
 unfolding all
@@ -133,7 +133,7 @@ module _ (s : List ℕ) (r : ℕ) (p : Small s) (is : r ≡ headOf s) where
       long : length h ≡ 8
       long = eqb-true (length h) 8 (both-left _ _ e)
 
-      rest : both (all (λ (b : ℕ). ltb b 256) h) (ltb 0 (eightBytes h 0)) ≡ true
+      rest : (all (λ (b : ℕ). ltb b 256) h && ltb 0 (eightBytes h 0)) ≡ true
       rest = both-right (eqb (length h) 8) _ e
 
       go : (t : Bool) → ltb (length s) 8 ≡ t → eqb (eightBytes h 0) (pick t 0 (eightBytes s 0)) ≡ starting h s

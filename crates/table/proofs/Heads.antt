@@ -1,7 +1,7 @@
 -- The line at the head of a text, by the tests that the code makes in one pass.
 -- Assumes nothing.
 use mathlib.Core.Path.{_≡_, refl, sym, ap, _∙_}
-use mathlib.Core.Bool.{Bool, true, false, not, false≢true}
+use mathlib.Core.Bool.{Bool, true, false, not, false≢true, _&&_}
 use mathlib.Core.List.{List, [], _∷_, _++_}
 use mathlib.Core.Option.{Option, some, none}
 use Prim.Native.Nat.{ℕ, suc, _+_, _<_, _≤_}
@@ -11,7 +11,7 @@ use lib.Dec.{eqb, leb, ltb, leb·suc-suc}
 use lib.ListN.{length, getD, take, drop, take-append-drop, List·getD-eq-default}
 use lib.Seq.{length-take-le}
 use borrow.Author.Tests.{lt-ltb, le-leb, lt-leb, eq-eqb, ne-eqb, eqb-true, eqb-false, not-true}
-use Rattle.text.specs.Pick.{both, within, pick}
+use Rattle.text.specs.Pick.{within, pick}
 use Rattle.text.specs.Characters.{findByte}
 use Rattle.text.specs.Scans.{eightBytes}
 use Rattle.text.proofs.Chars.{byte-le}
@@ -79,7 +79,7 @@ back w = drop 8 (line w)
 
 -- a word fills a line exactly if it stands there with a byte 10 behind it
 abbrev WordFills : List ℕ → List ℕ → Type 0
-WordFills w l = both (ltb (width l) (length l)) (equal w (take (width l) l)) ≡ starting (line w) l
+WordFills w l = (ltb (width l) (length l) && equal w (take (width l) l)) ≡ starting (line w) l
 
 word-fills : (w l : List ℕ) → plain w ≡ true → WordFills w l
 unfolding findByte equal
@@ -99,7 +99,7 @@ word-fills (x ∷ w) (b ∷ l) h = go (eqb 10 b) (eqb x b) refl refl (word-fills
 
 -- a word's line does not stand at the head
 abbrev pub absent : List ℕ → List ℕ → Bool
-absent l w = not (both (starting (front w) l) (starting (back w) (drop 8 l)))
+absent l w = not (starting (front w) l && starting (back w) (drop 8 l))
 
 module _ (n : ℕ) (l : List ℕ) where
   -- at the line of a word
@@ -115,7 +115,7 @@ module _ (n : ℕ) (l : List ℕ) where
   unfolding codeFrom
   word-past k w ws h e = go (ltb (width l) (length l)) (equal w (take (width l) l)) (word-fills w l h ∙ e)
     where
-      go : (t u : Bool) → both t u ≡ false → stepBy t (pick u (some k) (codeFrom (suc k) ws (take (width l) l))) (n + width l + 1) ≡ stepBy t (codeFrom (suc k) ws (take (width l) l)) (n + width l + 1)
+      go : (t u : Bool) → (t && u) ≡ false → stepBy t (pick u (some k) (codeFrom (suc k) ws (take (width l) l))) (n + width l + 1) ≡ stepBy t (codeFrom (suc k) ws (take (width l) l)) (n + width l + 1)
       go true true f = absurd (false≢true (sym f))
       go true false f = refl
       go false u f = refl
@@ -153,7 +153,7 @@ unnamed b = not (nameByte b)
 
 -- name bytes fill a line exactly if byte 10 stands behind those at its head, and the line is then as long as they are
 abbrev NameFills : List ℕ → Type 0
-NameFills l = (both (ltb (width l) (length l)) (all nameByte (take (width l) l)) ≡ eqb (getD l (findByte unnamed l) 0) 10) × (eqb (getD l (findByte unnamed l) 0) 10 ≡ true → width l ≡ findByte unnamed l)
+NameFills l = ((ltb (width l) (length l) && all nameByte (take (width l) l)) ≡ eqb (getD l (findByte unnamed l) 0) 10) × (eqb (getD l (findByte unnamed l) 0) 10 ≡ true → width l ≡ findByte unnamed l)
 
 name-fills : (l : List ℕ) → NameFills l
 unfolding findByte all
@@ -173,7 +173,7 @@ module _ (l : List ℕ) (r : ℕ) (is : r ≡ findByte unnamed l) where
   name-not : eqb (getD l r 0) 10 ≡ false → step.Bad ≡ stepWith nameOf 5 l
   name-not e = go (ltb (width l) (length l)) (within 1 16 (length (take (width l) l))) (all nameByte (take (width l) l)) (name-fills l .0 ∙ rw is at e)
     where
-      go : (t u v : Bool) → both t v ≡ false → step.Bad ≡ stepBy t (pick (both u v) (some (length (take (width l) l))) none) (5 + width l + 1)
+      go : (t u v : Bool) → (t && v) ≡ false → step.Bad ≡ stepBy t (pick (u && v) (some (length (take (width l) l))) none) (5 + width l + 1)
       go true true true f = absurd (false≢true (sym f))
       go true false v f = refl
       go true true false f = refl
@@ -197,7 +197,7 @@ module _ (l : List ℕ) (r : ℕ) (is : r ≡ findByte unnamed l) where
         let next : 5 + r + 1 ≡ r + 6 = omega arith in
         rw (ends, named, size, wide, next, e) (go t)
       where
-        go : (t : Bool) → stepBy true (pick t (some r) none) (r + 6) ≡ stepBy true (pick (both t true) (some r) none) (r + 6)
+        go : (t : Bool) → stepBy true (pick t (some r) none) (r + 6) ≡ stepBy true (pick (t && true) (some r) none) (r + 6)
         go true = refl
         go false = refl
 

@@ -1,7 +1,7 @@
 -- What a `match` on a position answers, at the numbers that it does not name.
 -- Assumes nothing.
 use mathlib.Core.Path.{_≡_, refl}
-use mathlib.Core.Bool.{Bool, true, false}
+use mathlib.Core.Bool.{Bool, true, false, _||_}
 use mathlib.Core.List.{List, [], _∷_}
 use mathlib.Core.Option.{some, none}
 use Prim.Native.Nat.{ℕ, zero, suc, _<_, _≤_}
@@ -10,7 +10,7 @@ use Rattle.table.specs.declared.Category.the-variants.{Other}
 use Rattle.table.specs.declared.TextRole.the-variants.{Boundary}
 use Rattle.table.specs.declared.DefaultAttribute.the-variants.{Lemma, Gloss, Href, Loc, LinkHref, Id, Who, NoDefault}
 use Rattle.table.specs.Entries.{categoryOf, roleOf}
-use Rattle.text.specs.Pick.{either, pick}
+use Rattle.text.specs.Pick.{pick}
 use Rattle.table.specs.Bytes.{equal, oneOf, starting}
 use Rattle.table.specs.Names.{lemmaNames, rb, xt, ref, jmp, periph, qt, defaultOf}
 use Rattle.table.specs.Books.{codeFrom}
@@ -69,7 +69,7 @@ unfoldable pub owners : List (List ℕ)
 owners = (119 ∷ []) ∷ (119 ∷ 97 ∷ []) ∷ (119 ∷ 103 ∷ []) ∷ (119 ∷ 104 ∷ []) ∷ rb ∷ xt ∷ ref ∷ jmp ∷ periph ∷ []
 
 default-by : (a b c d e f g h i q : Bool) →
-    pick (either a (either b (either c (either d false)))) Lemma (pick e Gloss (pick f Href (pick g Loc (pick h LinkHref (pick i Id (pick q Who NoDefault)))))) ≡
+    pick (a || (b || (c || (d || false)))) Lemma (pick e Gloss (pick f Href (pick g Loc (pick h LinkHref (pick i Id (pick q Who NoDefault)))))) ≡
     attributeBy (pick a (some 0) (pick b (some 1) (pick c (some 2) (pick d (some 3) (pick e (some 4) (pick f (some 5) (pick g (some 6) (pick h (some 7) (pick i (some 8) none))))))))) q
 default-by true b c d e f g h i q = refl
 default-by false true c d e f g h i q = refl

@@ -1,7 +1,7 @@
 -- The three lines of a marker, one after the other.
 -- Assumes nothing.
 use mathlib.Core.Path.{_≡_, refl, ap, _∙_}
-use mathlib.Core.Bool.{Bool, true, false}
+use mathlib.Core.Bool.{Bool, true, false, _&&_}
 use mathlib.Core.List.{List, _∷_}
 use mathlib.Core.Option.{Option, some, none}
 use Prim.Native.Nat.{ℕ, suc, _+_, _-_, _*_, _%_, _<_, _≤_}
@@ -10,7 +10,6 @@ use lib.Dec.{ltb}
 use lib.ListN.{length, take, drop, length-drop}
 use lib.Seq.{length-take-le}
 use borrow.Author.Tests.{lt-ltb, ltb-true, ltb-false, ne-eqb}
-use Rattle.text.specs.Pick.{both}
 use Rattle.text.proofs.Cuts.{rest-all}
 use Rattle.text.proofs.Rows.{both-false}
 use Rattle.table.specs.declared.Step.{Step}
@@ -81,11 +80,11 @@ module _ (t : List ℕ) (at j : ℕ) where
       go (step.Good v n) e = stepped v (at + n) (line-moved t at j (step.Good v n) e) .inside
       go step.Bad e = omega arith
 
-  not-good : step.Bad ≡ stepOf j at (drop at t) → both (ltb w (length (drop at t))) (goodBody j body) ≡ false
+  not-good : step.Bad ≡ stepOf j at (drop at t) → (ltb w (length (drop at t)) && goodBody j body) ≡ false
   unfolding stepOf
   not-good e = rw (good-known j body) (go (ltb w (length (drop at t))) (lineValue j body) e)
     where
-      go : (b : Bool) (o : Option ℕ) → step.Bad ≡ stepBy b o (at + w + 1) → both b (known o) ≡ false
+      go : (b : Bool) (o : Option ℕ) → step.Bad ≡ stepBy b o (at + w + 1) → (b && known o) ≡ false
       go true (some u) e = let z : _≡_ {A = ℕ} 0 1 = cc in absurd (omega arith)
       go true none e = refl
       go false o e = refl

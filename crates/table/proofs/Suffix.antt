@@ -1,7 +1,7 @@
 -- The digits and the columns at the end of a name.
 -- Assumes nothing.
 use mathlib.Core.Path.{_≡_, refl, sym, ap, _∙_}
-use mathlib.Core.Bool.{Bool, true, false}
+use mathlib.Core.Bool.{Bool, true, false, _&&_}
 use mathlib.Core.List.{List, [], _∷_, _++_}
 use Prim.Native.Nat.{ℕ, zero, suc, _+_, _-_, _<_, _≤_}
 use native.Mathlib.Omega.{arith}
@@ -9,7 +9,7 @@ use lib.Dec.{eqb, ltb}
 use lib.ListN.{length, getD, take}
 use lib.Seq.{take-suc, take-length, length-take-le}
 use borrow.Author.Tests.{lt-ltb, le-ltb, eq-eqb, ne-eqb}
-use Rattle.text.specs.Pick.{both, pick}
+use Rattle.text.specs.Pick.{pick}
 use Rattle.text.specs.Number.{digit}
 use Rattle.table.specs.Names.{undigited, keepBefore, tailOff, strippedLength}
 
@@ -66,7 +66,7 @@ module _ (s : List ℕ) (i : ℕ) (e : i ≡ undigited (take (length s) s)) wher
   no-hyphen h z y = rw (← whole, lt-ltb i (length s) h, lt-ltb 0 i (omega arith), ne-eqb _ _ y)
 
 pub tail-le : (s : List ℕ) → tailOff s ≤ length s
-tail-le s = go (both (ltb (undigited s) (length s)) (both (ltb 0 (undigited s)) (eqb (getD s (undigited s - 1) 0) 45)))
+tail-le s = go (ltb (undigited s) (length s) && (ltb 0 (undigited s) && eqb (getD s (undigited s - 1) 0) 45))
   where
     go : (t : Bool) → pick t (undigited s - 1) (length s) ≤ length s
     go true = omega (arith, undigited-le s)
@@ -91,7 +91,7 @@ module _ (s : List ℕ) (end base : ℕ) (e : end ≡ tailOff s) (b : base ≡ u
 
 pub stripped-le : (s : List ℕ) → strippedLength s ≤ length s
 unfolding strippedLength
-stripped-le s = go (both (ltb 0 (undigited (take (tailOff s) s))) (ltb (undigited (take (tailOff s) s)) (tailOff s)))
+stripped-le s = go (ltb 0 (undigited (take (tailOff s) s)) && ltb (undigited (take (tailOff s) s)) (tailOff s))
   where
     go : (t : Bool) → pick t (undigited (take (tailOff s) s)) (length s) ≤ length s
     go true = let z = tail-le s in omega (arith, undigited-le (take (tailOff s) s), length-take-le (tailOff s) s (tail-le s))

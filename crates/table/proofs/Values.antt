@@ -1,7 +1,7 @@
 -- What is known of a good line of a marker.
 -- Assumes nothing.
 use mathlib.Core.Path.{_≡_, refl}
-use mathlib.Core.Bool.{Bool, true, false}
+use mathlib.Core.Bool.{Bool, true, false, _&&_}
 use mathlib.Core.List.{List}
 use mathlib.Core.Option.{Option, some, none}
 use Prim.Native.Nat.{ℕ, zero, suc, _+_, _-_, _<_, _≤_}
@@ -9,7 +9,7 @@ use native.Mathlib.Omega.{arith}
 use lib.Dec.{leb}
 use lib.ListN.{length}
 use borrow.Author.Tests.{leb-true}
-use Rattle.text.specs.Pick.{both, within, pick}
+use Rattle.text.specs.Pick.{within, pick}
 use Rattle.text.proofs.Rows.{both-left, within-lo, within-hi}
 use Rattle.table.specs.Bytes.{all, starting, beyond}
 use Rattle.table.specs.Lines.{nameKey, nameByte, goodBody, categoryKey, categories, roleKey, roles}
@@ -23,15 +23,15 @@ known-pick : (t : Bool) (n : ℕ) → t ≡ known (pick t (some n) none)
 known-pick true n = refl
 known-pick false n = refl
 
-keyed-known : (key : List ℕ) (value : List ℕ → Option ℕ) (s : List ℕ) (t : Bool) → t ≡ known (value (beyond key s)) → both (starting key s) t ≡ known (keyed key value s)
+keyed-known : (key : List ℕ) (value : List ℕ → Option ℕ) (s : List ℕ) (t : Bool) → t ≡ known (value (beyond key s)) → (starting key s && t) ≡ known (keyed key value s)
 keyed-known key value s t e = go (starting key s)
   where
-    go : (u : Bool) → both u t ≡ known (pick u (value (beyond key s)) none)
+    go : (u : Bool) → (u && t) ≡ known (pick u (value (beyond key s)) none)
     go true = e
     go false = refl
 
 pub good-known : (j : ℕ) (s : List ℕ) → goodBody j s ≡ known (lineValue j s)
-good-known zero s = let b = beyond nameKey s in keyed-known nameKey nameOf s _ (known-pick (both (within 1 16 (length b)) (all nameByte b)) (length b))
+good-known zero s = let b = beyond nameKey s in keyed-known nameKey nameOf s _ (known-pick (within 1 16 (length b) && all nameByte b) (length b))
 good-known (suc zero) s = keyed-known categoryKey (codeFrom 0 categories) s _ (one-of categories (beyond categoryKey s) 0)
 good-known (suc (suc j)) s = keyed-known roleKey (codeFrom 0 roles) s _ (one-of roles (beyond roleKey s) 0)
 
@@ -49,7 +49,7 @@ pub name-says : (s : List ℕ) (v : ℕ) → keyed nameKey nameOf s ≡ some v �
 name-says s v e =
     let b = beyond nameKey s in
     let k = pick-says (starting nameKey s) (nameOf b) v e in
-    let g = pick-says (both (within 1 16 (length b)) (all nameByte b)) (some (length b)) v (k .1) in
+    let g = pick-says (within 1 16 (length b) && all nameByte b) (some (length b)) v (k .1) in
     let size = both-left (within 1 16 (length b)) (all nameByte b) (g .0) in
     let f = g .1 in
     let is : length b ≡ v = cc in

@@ -1,7 +1,7 @@
 -- Equal lists of bytes, and the first word of a list that equals another.
 -- Assumes nothing.
 use mathlib.Core.Path.{_≡_, refl, sym, ap, _∙_}
-use mathlib.Core.Bool.{Bool, true, false, false≢true}
+use mathlib.Core.Bool.{Bool, true, false, false≢true, _&&_, _||_}
 use mathlib.Core.List.{List, [], _∷_}
 use mathlib.Core.Option.{some, none}
 use Prim.Native.Nat.{ℕ, suc, _+_, _-_, _*_, _/_, _<_, _≤_}
@@ -11,7 +11,7 @@ use lib.Dec.{eqb}
 use lib.ListN.{length, getD, take, drop, length-take, length-drop, drop-of-length-le}
 use lib.Seq.{drop-drop}
 use borrow.Author.Tests.{eq-eqb, ne-eqb, eqb-true}
-use Rattle.text.specs.Pick.{both, either, pick}
+use Rattle.text.specs.Pick.{pick}
 use Rattle.text.proofs.Rows.{both-left, both-right, place}
 use Rattle.table.specs.Bytes.{equal, oneOf, starting, beyond}
 use Rattle.table.specs.Entries.{position}
@@ -75,21 +75,21 @@ unfolding oneOf codeFrom
 one-of [] s k = refl
 one-of (w ∷ ws) s k = go (equal w s) (one-of ws s (suc k))
   where
-    go : (t : Bool) → oneOf ws s ≡ known (codeFrom (suc k) ws s) → either t (oneOf ws s) ≡ known (pick t (some k) (codeFrom (suc k) ws s))
+    go : (t : Bool) → oneOf ws s ≡ known (codeFrom (suc k) ws s) → (t || oneOf ws s) ≡ known (pick t (some k) (codeFrom (suc k) ws s))
     go true e = refl
     go false e = e
 
 -- what a test says of every word, it says of each list that is one of them
 unfoldable pub every : (List ℕ → Bool) → List (List ℕ) → Bool
 every p [] = true
-every p (w ∷ ws) = both (p w) (every p ws)
+every p (w ∷ ws) = p w && every p ws
 
 pub one-passes : (p : List ℕ → Bool) (ws : List (List ℕ)) (s : List ℕ) → every p ws ≡ true → oneOf ws s ≡ true → p s ≡ true
 unfolding every oneOf
 one-passes p [] s h e = absurd (false≢true e)
 one-passes p (w ∷ ws) s h e = go (equal w s) refl e (one-passes p ws s (both-right (p w) (every p ws) h))
   where
-    go : (t : Bool) → equal w s ≡ t → either t (oneOf ws s) ≡ true → (oneOf ws s ≡ true → p s ≡ true) → p s ≡ true
+    go : (t : Bool) → equal w s ≡ t → (t || oneOf ws s) ≡ true → (oneOf ws s ≡ true → p s ≡ true) → p s ≡ true
     go true f g ih = rw (equal-true w s f) at (both-left (p w) (every p ws) h)
     go false f g ih = ih g
 
@@ -99,7 +99,7 @@ unfolding every noteOnly
 not-noted s h k = go (oneOf noteOnly s) refl
   where
     go : (t : Bool) → oneOf noteOnly s ≡ t → false ≡ t
-    go true e = sym (rw (ne-eqb (getD s 0 0) 102 h, ne-eqb (getD s 0 0) 120 k)) ∙ one-passes (λ (w : List ℕ). either (eqb (getD w 0 0) 102) (eqb (getD w 0 0) 120)) noteOnly s refl e
+    go true e = sym (rw (ne-eqb (getD s 0 0) 102 h, ne-eqb (getD s 0 0) 120 k)) ∙ one-passes (λ (w : List ℕ). (eqb (getD w 0 0) 102 || eqb (getD w 0 0) 120)) noteOnly s refl e
     go false e = refl
 
 -- where a word is found
@@ -114,7 +114,7 @@ found [] s k p e = let z : _≡_ {A = ℕ} 0 1 = cc in absurd (omega arith)
 found (w ∷ ws) s k p e = let g = go (equal w s) e (found ws s (suc k) p) in record { is = g .0; inside = g .1; there = g .2 }
   where
     go : (t : Bool) → pick t (some k) (codeFrom (suc k) ws s) ≡ some p → (codeFrom (suc k) ws s ≡ some p → At ws s (suc k) p) →
-        (p ≡ k + pick t 0 (suc (position ws s))) × (p < k + suc (length ws)) × (either t (oneOf ws s) ≡ true)
+        (p ≡ k + pick t 0 (suc (position ws s))) × (p < k + suc (length ws)) × ((t || oneOf ws s) ≡ true)
     go true e ih = let z : k ≡ p = cc in (omega arith, omega arith, refl)
     go false e ih = let a = ih e in (omega arith, omega arith, a .there)
 

@@ -1,26 +1,25 @@
 -- Lists of bytes: equality, tests of every byte, and membership.
 use Prim.Native.Nat.{ℕ}
-use mathlib.Core.Bool.{Bool, true, false}
+use mathlib.Core.Bool.{Bool, true, false, _&&_, _||_}
 use mathlib.Core.List.{List, [], _∷_}
 use lib.Dec.{eqb}
 use lib.ListN.{length, take, drop}
-use Rattle.text.specs.Pick.{both, either}
 
 unfoldable pub equal : List ℕ → List ℕ → Bool
 equal [] [] = true
 equal [] (b ∷ t) = false
 equal (a ∷ s) [] = false
-equal (a ∷ s) (b ∷ t) = both (eqb a b) (equal s t)
+equal (a ∷ s) (b ∷ t) = eqb a b && equal s t
 
 -- every byte passes the test
 unfoldable pub all : (ℕ → Bool) → List ℕ → Bool
 all p [] = true
-all p (b ∷ s) = both (p b) (all p s)
+all p (b ∷ s) = p b && all p s
 
 -- the list is one of the words
 unfoldable pub oneOf : List (List ℕ) → List ℕ → Bool
 oneOf [] s = false
-oneOf (w ∷ ws) s = either (equal w s) (oneOf ws s)
+oneOf (w ∷ ws) s = equal w s || oneOf ws s
 
 -- the list begins with the word
 abbrev pub starting : List ℕ → List ℕ → Bool

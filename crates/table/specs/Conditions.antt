@@ -1,17 +1,16 @@
 -- When number 1 is given, and with which place: "first byte of the first bad line, or the text's length if a triple is unfinished".
 use Prim.Native.Nat.{ℕ, suc, _%_}
 use mathlib.Core.Path.{_≡_}
-use mathlib.Core.Bool.{Bool, true, false}
+use mathlib.Core.Bool.{Bool, true, false, _&&_}
 use mathlib.Core.List.{List, [], _∷_, _++_}
 use mathlib.Core.Logic.{_⊎_}
 use lib.ListN.{length}
-use Rattle.text.specs.Pick.{both}
 use Rattle.table.specs.Lines.{Line, lines, goodLine}
 
 -- the lines from line number k on are good
 unfoldable pub goodFrom : ℕ → List Line → Bool
 goodFrom k [] = true
-goodFrom k (l ∷ ls) = both (goodLine k l) (goodFrom (suc k) ls)
+goodFrom k (l ∷ ls) = goodLine k l && goodFrom (suc k) ls
 
 -- the first byte of the first bad line
 pub record BadLine (t : List ℕ) (p : ℕ) : Type 0 where

@@ -1,12 +1,12 @@
 -- What the functions inside the crate promise.
 use Prim.Native.Nat.{ℕ, zero, suc, _+_, _*_, _<_, _≤_}
 use mathlib.Core.Path.{_≡_}
-use mathlib.Core.Bool.{Bool, true, false}
+use mathlib.Core.Bool.{Bool, true, false, _&&_}
 use mathlib.Core.List.{List, [], _∷_}
 use mathlib.Core.Option.{Option, some, none}
 use lib.Dec.{eqb, ltb}
 use lib.ListN.{length, take, drop}
-use Rattle.text.specs.Pick.{both, within, pick}
+use Rattle.text.specs.Pick.{within, pick}
 use Rattle.text.specs.Scans.{eightBytes}
 use Rattle.text.specs.Characters.{findByte}
 use Rattle.table.specs.Bytes.{all, starting, beyond}
@@ -46,7 +46,7 @@ triples (a ∷ b ∷ c ∷ l) = (a ∷ b ∷ c ∷ []) ∷ triples l
 
 -- what a good line says behind its key: the name's length, or the position of the word among the words
 abbrev pub nameOf : List ℕ → Option ℕ
-nameOf s = pick (both (within 1 16 (length s)) (all nameByte s)) (some (length s)) none
+nameOf s = pick (within 1 16 (length s) && all nameByte s) (some (length s)) none
 
 -- what a line says that begins with a key
 abbrev pub keyed : List ℕ → (List ℕ → Option ℕ) → List ℕ → Option ℕ

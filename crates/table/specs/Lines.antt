@@ -1,12 +1,12 @@
 -- Document 01, "Lent lists": "Table: per marker three lines, each ended by byte 10, in this order: `name=` (1 to 16 ASCII letters, digits, hyphens), `category=` (identification, chapter, verse, paragraph, character, note, milestone, other), `role=` (content, excluded, boundary); at most 512 markers, the 513th's first line and a line without its byte 10 counting as bad".
 -- Number 1: "The table text breaks its layout; place: first byte of the first bad line, or the text's length if a triple is unfinished."
 use Prim.Native.Nat.{ℕ, zero, suc, _%_}
-use mathlib.Core.Bool.{Bool, true, false}
+use mathlib.Core.Bool.{Bool, true, false, _&&_, _||_}
 use mathlib.Core.List.{List, [], _∷_}
 use mathlib.Core.Option.{Option, some, none}
 use lib.Dec.{eqb, ltb}
 use lib.ListN.{length}
-use Rattle.text.specs.Pick.{both, either, within, pick}
+use Rattle.text.specs.Pick.{within, pick}
 use Rattle.table.specs.Bytes.{all, oneOf, starting, beyond}
 
 -- a line: the place of its first byte, what stands in it, and whether a byte 10 ends it
@@ -63,16 +63,16 @@ roles =
 
 -- an ASCII letter, a digit or a hyphen
 abbrev pub nameByte : ℕ → Bool
-nameByte b = either (within 65 90 b) (either (within 97 122 b) (either (within 48 57 b) (eqb b 45)))
+nameByte b = within 65 90 b || (within 97 122 b || (within 48 57 b || eqb b 45))
 
 abbrev pub goodName : List ℕ → Bool
-goodName s = both (starting nameKey s) (both (within 1 16 (length (beyond nameKey s))) (all nameByte (beyond nameKey s)))
+goodName s = starting nameKey s && (within 1 16 (length (beyond nameKey s)) && all nameByte (beyond nameKey s))
 
 abbrev pub goodCategory : List ℕ → Bool
-goodCategory s = both (starting categoryKey s) (oneOf categories (beyond categoryKey s))
+goodCategory s = starting categoryKey s && oneOf categories (beyond categoryKey s)
 
 abbrev pub goodRole : List ℕ → Bool
-goodRole s = both (starting roleKey s) (oneOf roles (beyond roleKey s))
+goodRole s = starting roleKey s && oneOf roles (beyond roleKey s)
 
 -- the first, the second and the third line of a marker
 abbrev pub goodBody : ℕ → List ℕ → Bool
@@ -82,7 +82,7 @@ goodBody (suc (suc k)) s = goodRole s
 
 -- line number k, from 0: 512 markers have 1536 lines
 abbrev pub goodLine : ℕ → Line → Bool
-goodLine k l = both (ltb k 1536) (both (l .ended) (goodBody (k % 3) (l .body)))
+goodLine k l = ltb k 1536 && (l .ended && goodBody (k % 3) (l .body))
 
 -- the place of the first bad line from line number k on; where there is none, the end of the text if a triple is unfinished
 unfoldable pub badFrom : ℕ → ℕ → List Line → Option ℕ

@@ -1,12 +1,12 @@
 -- `lookup`, `strip_level_suffix`, `default_attribute`, and the names that some checks ask for.
 -- Document 01, module 3: "`lookup`: exact name; else without `strip_level_suffix`; else `v` or `c` before a digit. First equal name counts."
 use Prim.Native.Nat.{ℕ, zero, suc, _+_, _-_}
-use mathlib.Core.Bool.{Bool, true, false, not}
+use mathlib.Core.Bool.{Bool, true, false, not, _&&_, _||_}
 use mathlib.Core.List.{List, [], _∷_}
 use mathlib.Core.Option.{Option, some, none}
 use lib.Dec.{eqb, ltb}
 use lib.ListN.{length, getD, take}
-use Rattle.text.specs.Pick.{both, either, cut, pick}
+use Rattle.text.specs.Pick.{cut, pick}
 use Rattle.text.specs.Number.{digit}
 use Rattle.table.specs.Bytes.{equal, oneOf, starting}
 use Rattle.table.specs.Entries.{Entry, entries}
@@ -36,11 +36,11 @@ undigited (b ∷ s) = keepBefore (digit b) (undigited s)
 -- the length without a tail of a hyphen and digits: "Optional `-<digits>` (column-span tail)"
 abbrev pub tailOff : List ℕ → ℕ
 tailOff s =
-    pick (both (ltb (undigited s) (length s)) (both (ltb 0 (undigited s)) (eqb (getD s (undigited s - 1) 0) 45))) (undigited s - 1) (length s)
+    pick (ltb (undigited s) (length s) && (ltb 0 (undigited s) && eqb (getD s (undigited s - 1) 0) 45)) (undigited s - 1) (length s)
 
 -- the Rust's `strip_level_suffix`: the length of what is left. "Only treat it as a suffix if a non-empty base remains."
 abbrev pub strippedBy : ℕ → ℕ → ℕ → ℕ
-strippedBy base end whole = pick (both (ltb 0 base) (ltb base end)) base whole
+strippedBy base end whole = pick (ltb 0 base && ltb base end) base whole
 
 unfoldable pub strippedLength : List ℕ → ℕ
 strippedLength s = strippedBy (undigited (take (tailOff s) s)) (tailOff s) (length s)
@@ -51,7 +51,7 @@ orElse none other = other
 
 -- `v` or `c`, and a digit after it
 abbrev pub glued : List ℕ → Bool
-glued s = both (ltb 1 (length s)) (both (either (eqb (getD s 0 0) 118) (eqb (getD s 0 0) 99)) (digit (getD s 1 0)))
+glued s = ltb 1 (length s) && ((eqb (getD s 0 0) 118 || eqb (getD s 0 0) 99) && digit (getD s 1 0))
 
 unfoldable pub lookedUp : List ℕ → List ℕ → Option ℕ
 lookedUp t s =

@@ -1,11 +1,11 @@
 -- Document 01: "Tally gives 35 counts by code", and number 11 of its refusals.
 use Prim.Native.Nat.{ℕ, zero, suc, _+_, _*_, _/_, _%_}
-use mathlib.Core.Bool.{Bool, not}
+use mathlib.Core.Bool.{Bool, not, _||_}
 use mathlib.Core.List.{List, [], _∷_}
 use mathlib.Core.Option.{Option, none}
 use lib.Dec.{eqb, ltb}
 use lib.ListN.{length, getD}
-use Rattle.text.specs.Pick.{either, pick}
+use Rattle.text.specs.Pick.{pick}
 use Rattle.tape.specs.Reading.{Refusal, refuse, onlyIf, orElse, firstBad, isNone}
 use Rattle.findings.specs.Finding.{codes}
 use Rattle.buffer.specs.Over.{over}
@@ -25,7 +25,7 @@ whole l = length l / 8
 
 -- "severity over 2 or code over 34"
 abbrev pub badRecord : List ℕ → ℕ → Bool
-badRecord l k = either (ltb 2 (severityAt l k)) (not (ltb (codeAt l k) codes))
+badRecord l k = ltb 2 (severityAt l k) || not (ltb (codeAt l k) codes)
 
 -- 11: "length no multiple of 8, severity over 2 or code over 34; place: that record, or the number of whole records for the length, the smaller first."
 unfoldable pub tallyRefusal : List ℕ → Option Refusal

@@ -4,13 +4,13 @@ use Prim.Native.Nat.{ℕ, zero, suc, _+_, _-_, _*_, _<_, _≤_}
 use native.Mathlib.Decide.{decLt, ℕ-discrete}
 use native.Mathlib.Omega.{arith}
 use mathlib.Core.Path.{_≡_, refl, sym, ap, ap₂, subst, _∙_}
-use mathlib.Core.Bool.{Bool, true, false, false≢true}
+use mathlib.Core.Bool.{Bool, true, false, false≢true, _||_}
 use mathlib.Core.List.{List, [], _∷_, _++_}
 use mathlib.Core.Logic.{_⊎_, inl, inr}
 use lib.ListN.{length, take, drop, length-drop}
 use lib.Seq.{take-append-le, drop-append-le}
 use borrow.Author.Tests.{ltb-false}
-use Rattle.text.specs.Pick.{either, Part, cut}
+use Rattle.text.specs.Pick.{Part, cut}
 use Rattle.tape.specs.Nodes.{Node, nodeAt, byte, half, word, count, kindAt, markerAt, startAt, lenAt, linkAt, span, isOpen, isClose}
 use Rattle.tape.specs.Reading.{badSpan}
 use Rattle.tape.specs.Forest.{Forest, followed, forest, Nested, done, one, inner, Accepted, top}
@@ -130,7 +130,7 @@ module _ (s t s′ t′ : List ℕ) (short : Accepted s t) (long : Accepted s′
       let fits = ltb-false (length s) (startAt t i + lenAt t i) (left _ _ (short .spans i g inside)) in
       rw (alike .source) (sym (cut-append (span t i) s (alike .added) fits))
     where
-      left : (a b : Bool) → either a b ≡ false → a ≡ false
+      left : (a b : Bool) → (a || b) ≡ false → a ≡ false
       left true b e = absurd (false≢true (sym e))
       left false b e = refl
 

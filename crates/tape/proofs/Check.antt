@@ -1,7 +1,7 @@
 -- The whole check: number 4, the root's kind, and the rest.
 -- Assumes nothing.
 use mathlib.Core.Path.{_≡_, refl, sym, ap, _∙_}
-use mathlib.Core.Bool.{Bool, true, false, not}
+use mathlib.Core.Bool.{Bool, true, false, not, _||_}
 use mathlib.Core.List.{List}
 use mathlib.Core.Option.{Option, some, none}
 use Prim.Native.Nat.{ℕ, zero, suc, _+_, _-_, _*_, _/_, _%_, _<_, _≤_}
@@ -9,13 +9,12 @@ use native.Mathlib.Omega.{arith}
 use lib.Dec.{eqb, ltb}
 use lib.ListN.{length}
 use borrow.Author.Tests.{eq-eqb, ne-eqb, lt-ltb, le-ltb}
-use Rattle.text.specs.Pick.{either}
 use Rattle.tape.specs.Nodes.{count, kindAt}
 use Rattle.tape.specs.Reading.{Refusal, refuse, onlyIf, orElse, firstBad, badLength, badKind, tapeRefusal}
 use Rattle.tape.specs.Inner.{Sized, fromOne}
 use Rattle.tape.proofs.Whole.{first-pass, first-hit}
 
-either-true : (a : Bool) → either a true ≡ true
+either-true : (a : Bool) → (a || true) ≡ true
 either-true true = refl
 either-true false = refl
 
@@ -23,7 +22,7 @@ module _ (t : List ℕ) where
   short : count t ≡ 0 → badLength t ≡ true
   short e = go (eqb (length t) 0) (eqb (length t % 16) 0) refl refl
     where
-      go : (a b : Bool) → eqb (length t) 0 ≡ a → eqb (length t % 16) 0 ≡ b → either a (either (not b) (ltb 65535 (count t))) ≡ true
+      go : (a b : Bool) → eqb (length t) 0 ≡ a → eqb (length t % 16) 0 ≡ b → (a || (not b || ltb 65535 (count t))) ≡ true
       go true b p q = refl
       go false false p q = refl
       go false true p q =

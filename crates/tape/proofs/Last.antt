@@ -1,7 +1,7 @@
 -- The root's link, and what is answered when all nodes are read.
 -- Assumes nothing.
 use mathlib.Core.Path.{_≡_, refl, sym, ap, _∙_}
-use mathlib.Core.Bool.{Bool, true, false, not}
+use mathlib.Core.Bool.{Bool, true, false, not, _&&_, _||_}
 use mathlib.Core.List.{List, []}
 use mathlib.Core.Logic.{_⊎_, inl, inr}
 use mathlib.Core.Option.{Option, some, none}
@@ -9,7 +9,6 @@ use Prim.Native.Nat.{ℕ, zero, suc, _+_, _-_, _<_, _≤_}
 use native.Mathlib.Omega.{arith}
 use lib.Dec.{eqb}
 use borrow.Author.Tests.{eq-eqb, ne-eqb, not-true, not-false}
-use Rattle.text.specs.Pick.{both, either}
 use Rattle.text.proofs.Rows.{both-false}
 use Rattle.tape.specs.Nodes.{kindAt, linkAt, isOpen, isClose}
 use Rattle.tape.specs.Reading.{Refusal, refuse, onlyIf, orElse, opensTo}
@@ -17,10 +16,10 @@ use Rattle.tape.specs.Inner.{met, metSpan, Known, rootBy, leftOpen, last
 use Rattle.tape.specs.declared.Reading.{Reading}
 
 -- an open that has the root's link
-pub taken-other : (t : List ℕ) (root i kind : ℕ) (taken : Bool) → taken ≡ false → kind ≡ kindAt t i → (kind ≡ 1 → ⊥) → false ≡ either taken (opensTo t root i)
+pub taken-other : (t : List ℕ) (root i kind : ℕ) (taken : Bool) → taken ≡ false → kind ≡ kindAt t i → (kind ≡ 1 → ⊥) → false ≡ (taken || opensTo t root i)
 taken-other t root i kind taken z e k = rw (z, ← e, ne-eqb kind 1 k)
 
-pub taken-open : (t : List ℕ) (root i kind link : ℕ) (taken : Bool) → taken ≡ false → kind ≡ kindAt t i → kind ≡ 1 → link ≡ linkAt t i → eqb link root ≡ either taken (opensTo t root i)
+pub taken-open : (t : List ℕ) (root i kind link : ℕ) (taken : Bool) → taken ≡ false → kind ≡ kindAt t i → kind ≡ 1 → link ≡ linkAt t i → eqb link root ≡ (taken || opensTo t root i)
 taken-open t root i kind link taken z e k l = rw (z, ← e, eq-eqb kind 1 k, ← l)
 
 module _ (link n : ℕ) (closes taken : Bool) where
@@ -30,7 +29,7 @@ module _ (link n : ℕ) (closes taken : Bool) where
   pub root-other : (link ≡ n → ⊥) → (link ≡ n - 1 → ⊥) → 1 ≤ n → false ≡ rootBy link n closes taken
   root-other e f h = rw (ne-eqb link n e, ne-eqb (link + 1) n (λ z. f (omega arith)))
 
-  pub root-last : (x : Bool) → (link ≡ n → ⊥) → link ≡ n - 1 → 1 ≤ n → x ≡ closes → both x (not taken) ≡ rootBy link n closes taken
+  pub root-last : (x : Bool) → (link ≡ n → ⊥) → link ≡ n - 1 → 1 ≤ n → x ≡ closes → (x && not taken) ≡ rootBy link n closes taken
   root-last x e f h c = rw (ne-eqb link n e, eq-eqb (link + 1) n (omega arith), c)
 
 met-none : (number place : ℕ) (rest : Option Refusal) → Known number → (number ≡ 8 → ⊥) → (number ≡ 7 → ⊥) → met number place rest ≡ rest

@@ -6,14 +6,13 @@ use native.Mathlib.Numerals.{add-one}
 use native.Mathlib.Decide.{ℕ-discrete}
 use native.Mathlib.Omega.{arith}
 use mathlib.Core.Path.{_≡_, refl, sym, ap, subst, _∙_}
-use mathlib.Core.Bool.{Bool, true, false, not, false≢true}
+use mathlib.Core.Bool.{Bool, true, false, not, false≢true, _&&_, _||_}
 use mathlib.Core.List.{List, [], _∷_}
 use mathlib.Core.Logic.{_↔_, _⊎_, inl, inr}
 use mathlib.Core.Option.{Option, some, none}
 use lib.Dec.{eqb, ltb}
 use lib.ListN.{length}
 use borrow.Author.Tests.{eqb-true, eqb-false, ltb-false, eq-eqb, ne-eqb, not-true, not-false}
-use Rattle.text.specs.Pick.{both, either}
 use Rattle.tape.specs.Nodes.{count, kindAt, linkAt, isOpen, isClose}
 use Rattle.tape.specs.Reading.{Refusal, refuse, onlyIf, orElse, firstBad, isNone, badLength, badKind, badSpan, opensTo, goodRoot, Step, go, stop, step, resume, ended, read, tapeRefusal}
 use Rattle.tape.specs.Conditions.{AllGood, First, Reaches, start, next, Stops, LeftOpen, Plain, Gives4, Gives5, Gives6, Gives7, Gives8}
@@ -30,7 +29,7 @@ pub neither : (x y : Option Refusal) → orElse x y ≡ none → (x ≡ none) ×
 neither none y e = (refl, e)
 neither (some q) y e = refused q e
 
-pub either-false : (a b : Bool) → either a b ≡ false → (a ≡ false) × (b ≡ false)
+pub either-false : (a b : Bool) → (a || b) ≡ false → (a ≡ false) × (b ≡ false)
 either-false true b e = absurd (false≢true (sym e))
 either-false false b e = (refl, e)
 
@@ -348,7 +347,7 @@ module _ (s t : List ℕ) where
           none-is none q = refl
           none-is (some r) q = absurd (false≢true q)
 
-      go : (a b c d : Bool) → eqb (linkAt t 0) n ≡ a → eqb (linkAt t 0 + 1) n ≡ b → isClose (kindAt t (linkAt t 0)) ≡ c → isNone (firstBad 7 (opensTo t (linkAt t 0)) 1 (n - 1)) ≡ d → either a (both b (both c d)) ≡ true → Rooted t n
+      go : (a b c d : Bool) → eqb (linkAt t 0) n ≡ a → eqb (linkAt t 0 + 1) n ≡ b → isClose (kindAt t (linkAt t 0)) ≡ c → isNone (firstBad 7 (opensTo t (linkAt t 0)) 1 (n - 1)) ≡ d → (a || (b && (c && d))) ≡ true → Rooted t n
       go true b c d p q u v e = let z = eqb-true (linkAt t 0) n p in record { place = inl z; alone = λ w i g k o x. omega arith }
       go false true true true p q u v e = record { place = inr (eqb-true (linkAt t 0 + 1) n q, u); alone = λ w. apart v }
       go false true true false p q u v e = absurd (false≢true e)

@@ -13,7 +13,7 @@ use lib.Dec.{eqb}
 use lib.ListN.{length, getD, set, drop, length-set, length-drop}
 use lib.Seq.{getD-set-other}
 use borrow.Author.Tests.{eqb-true, eqb-false, ne-eqb, not-false}
-use Rattle.text.specs.Pick.{both, either, within, pick}
+use Rattle.text.specs.Pick.{within, pick}
 use Rattle.tape.specs.Nodes.{count, kindAt, linkAt, isOpen, isClose}
 use Rattle.tape.specs.Reading.{firstBad, badKind, badSpan, opensTo, goodRoot, go, step, read}
 use Rattle.tape.specs.Inner.{Sized, stacked, rootBy, fromOne, Clear, Apart, Paired}
@@ -154,7 +154,7 @@ module _ (s t : List ℕ) (n root : ℕ) (size : Sized t n) (link : root ≡ lin
   root-place : (root ≡ n) ⊎ ((root + 1 ≡ n) × (isClose (kindAt t root) ≡ true))
   root-place = choose (eqb root n) (eqb (root + 1) n) (isClose (kindAt t root)) refl refl refl good
     where
-      choose : (a b x : Bool) → eqb root n ≡ a → eqb (root + 1) n ≡ b → isClose (kindAt t root) ≡ x → either a (both b (both x true)) ≡ true → (root ≡ n) ⊎ ((root + 1 ≡ n) × (isClose (kindAt t root) ≡ true))
+      choose : (a b x : Bool) → eqb root n ≡ a → eqb (root + 1) n ≡ b → isClose (kindAt t root) ≡ x → (a || (b && (x && true))) ≡ true → (root ≡ n) ⊎ ((root + 1 ≡ n) × (isClose (kindAt t root) ≡ true))
       choose true b x p q u e = inl (eqb-true root n p)
       choose false true true p q u e = inr (eqb-true (root + 1) n q, u)
       choose false true false p q u e = absurd (false≢true e)

@@ -1,14 +1,14 @@
 -- A bad span, by the tests that the code takes, and the first one; what a byte shows of a place.
 -- Assumes nothing.
 use mathlib.Core.Path.{_≡_, refl, sym, ap, _∙_}
-use mathlib.Core.Bool.{Bool, true, false, not, false≢true}
+use mathlib.Core.Bool.{Bool, true, false, not, false≢true, _&&_, _||_}
 use mathlib.Core.List.{List}
 use Prim.Native.Nat.{ℕ, zero, suc, _+_, _-_, _/_, _<_, _≤_}
 use native.Mathlib.Omega.{arith}
 use lib.Dec.{leb, eqb, ltb}
 use lib.ListN.{length, getD}
 use borrow.Author.Tests.{lt-ltb, le-ltb, eq-eqb, eqb-true, eqb-false, leb-true, not-true, not-false}
-use Rattle.text.specs.Pick.{both, either, within, pick}
+use Rattle.text.specs.Pick.{within, pick}
 use Rattle.text.specs.Characters.{starts}
 use Rattle.text.proofs.Boundary.{at-zero, past-end, inside}
 use Rattle.tape.specs.Nodes.{startAt, lenAt}
@@ -32,7 +32,7 @@ module _ (s t : List ℕ) (i a n : ℕ) (start : a ≡ startAt t i) (len : n ≡
 pub end-clear : (s t : List ℕ) (i : ℕ) → badSpan s t i ≡ false → starts s (startAt t i + lenAt t i) ≡ true
 end-clear s t i e = go (ltb (length s) (startAt t i + lenAt t i)) (starts s (startAt t i)) (starts s (startAt t i + lenAt t i)) e
   where
-    go : (x y z : Bool) → either x (either (not y) (not z)) ≡ false → z ≡ true
+    go : (x y z : Bool) → (x || (not y || not z)) ≡ false → z ≡ true
     go false true true e = refl
     go false true false e = absurd (false≢true (sym e))
     go false false z e = absurd (false≢true (sym e))
@@ -45,7 +45,7 @@ clear-end s at e = past-end s at (omega arith) ∙ eq-eqb at (length s) e
 no-further : (b : ℕ) → (b / 64 ≡ 2 → ⊥) → within 0x80 0xBF b ≡ false
 no-further b h = go (leb 0x80 b) (leb b 0xBF) refl refl
   where
-    go : (x y : Bool) → leb 0x80 b ≡ x → leb b 0xBF ≡ y → both x y ≡ false
+    go : (x y : Bool) → leb 0x80 b ≡ x → leb b 0xBF ≡ y → (x && y) ≡ false
     go false y p q = refl
     go true false p q = refl
     go true true p q = absurd (h (omega (arith, leb-true 0x80 b p, leb-true b 0xBF q)))

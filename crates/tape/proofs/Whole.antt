@@ -1,7 +1,7 @@
 -- The pass over the nodes: what is left gives what the whole gives, of each number.
 -- Assumes nothing.
 use mathlib.Core.Path.{_≡_, refl, sym, ap, _∙_}
-use mathlib.Core.Bool.{Bool, true, false, not}
+use mathlib.Core.Bool.{Bool, true, false, not, _&&_, _||_}
 use mathlib.Core.List.{List, [], _∷_}
 use mathlib.Core.Logic.{inl}
 use mathlib.Core.Option.{Option, some, none}
@@ -11,7 +11,7 @@ use native.Mathlib.Omega.{arith}
 use lib.Dec.{eqb, ltb, leb}
 use lib.ListN.{length, replicate, length-replicate}
 use borrow.Author.Tests.{eq-eqb, ne-eqb, lt-ltb, le-ltb, le-leb, lt-leb, leb-true, leb-false}
-use Rattle.text.specs.Pick.{both, either, within, pick}
+use Rattle.text.specs.Pick.{within, pick}
 use Rattle.tape.specs.Nodes.{count, kindAt, linkAt, isClose}
 use Rattle.tape.specs.Reading.{Refusal, refuse, onlyIf, orElse, firstBad, isNone, badLength, badKind, badSpan, opensTo, goodRoot, ended, read, tapeRefusal, refusalOf}
 use Rattle.tape.specs.Inner.{Sized, stacked, met, metSpan, spanAfter, says, Known, Stepped, rootBy, leftOpen, lastly, fromOne}
@@ -45,7 +45,7 @@ span-on s t i zero rest h = go (badSpan s t i) i h
     go true (suc i) h = refl
     go false i h = refl
 
-taken-at : (taken b : Bool) (i : ℕ) (rest : Option Refusal) → both (not (either taken b)) (isNone rest) ≡ both (not taken) (isNone (orElse (onlyIf b (refuse 7 i)) rest))
+taken-at : (taken b : Bool) (i : ℕ) (rest : Option Refusal) → (not (taken || b) && isNone rest) ≡ (not taken && isNone (orElse (onlyIf b (refuse 7 i)) rest))
 taken-at true b i rest = refl
 taken-at false true i rest = refl
 taken-at false false i rest = refl
@@ -62,7 +62,7 @@ pub record Going (s t : List ℕ) (n root : ℕ) (stack : List ℕ) (span : ℕ)
   pub within : i ≤ n
   pub kinds : firstBad 5 (badKind t) i (n - i) ≡ firstBad 5 (badKind t) 1 (n - 1)
   pub spans : metSpan span (firstBad 6 (badSpan s t) i (n - i)) ≡ firstBad 6 (badSpan s t) 1 (n - 1)
-  pub roots : both (not taken) (isNone (firstBad 7 (opensTo t root) i (n - i))) ≡ isNone (firstBad 7 (opensTo t root) 1 (n - 1))
+  pub roots : (not taken && isNone (firstBad 7 (opensTo t root) i (n - i))) ≡ isNone (firstBad 7 (opensTo t root) 1 (n - 1))
   pub reading : says t n i stack r ≡ read t (n - 1) 1 []
   pub low : r .depth ≤ 64
   pub known : Known (r .number)
@@ -97,7 +97,7 @@ module _ (s t : List ℕ) (n root : ℕ) (stack : List ℕ) (span : ℕ) (taken 
   going-in = let e = count-is t n (g .sized) in omega arith
 
   -- a kind that is good, or bad
-  pub going-on : (stack′ : List ℕ) (q : Reading) → badKind t i ≡ false → Stepped t i stack stack′ r q → Going s t n root stack′ (spanAfter s t i span) (either taken (opensTo t root i)) q (i + 1)
+  pub going-on : (stack′ : List ℕ) (q : Reading) → badKind t i ≡ false → Stepped t i stack stack′ r q → Going s t n root stack′ (spanAfter s t i span) (taken || opensTo t root i) q (i + 1)
   going-on stack′ q k h =
       let after = g .after in
       record {
@@ -107,7 +107,7 @@ module _ (s t : List ℕ) (n root : ℕ) (stack : List ℕ) (span : ℕ) (taken 
         within = omega arith;
         kinds = sym (first-pass 5 (badKind t) n i below k) ∙ g .kinds;
         spans = span-on s t i span (firstBad 6 (badSpan s t) (i + 1) (n - (i + 1))) (g .after) ∙ ap (metSpan span) (sym (first-step 6 (badSpan s t) n i below)) ∙ g .spans;
-        roots = taken-at taken (opensTo t root i) i (firstBad 7 (opensTo t root) (i + 1) (n - (i + 1))) ∙ ap (λ (x : Option Refusal). both (not taken) (isNone x)) (sym (first-step 7 (opensTo t root) n i below)) ∙ g .roots;
+        roots = taken-at taken (opensTo t root i) i (firstBad 7 (opensTo t root) (i + 1) (n - (i + 1))) ∙ ap (λ (x : Option Refusal). (not taken && isNone x)) (sym (first-step 7 (opensTo t root) n i below)) ∙ g .roots;
         reading = h .same n below ∙ g .reading;
         low = h .low;
         known = h .known;
@@ -128,7 +128,7 @@ module _ (s t : List ℕ) (n root : ℕ) (stack : List ℕ) (span : ℕ) (taken 
   root-is : goodRoot t ≡ rootBy root n (isClose (kindAt t root)) taken
   root-is = root-by t n root taken (count-is t n (g .sized)) (g .link) (sym (g .roots) ∙ rw (first-end 7 (opensTo t root) n i done) (both-true (not taken)))
     where
-      both-true : (b : Bool) → both b true ≡ b
+      both-true : (b : Bool) → (b && true) ≡ b
       both-true true = refl
       both-true false = refl
 

@@ -1,13 +1,13 @@
 -- What the functions inside the crate promise.
 use Prim.Native.Nat.{ℕ, zero, suc, _+_, _-_, _*_, _<_, _≤_}
 use mathlib.Core.Path.{_≡_}
-use mathlib.Core.Bool.{Bool, true, false, not}
+use mathlib.Core.Bool.{Bool, true, false, not, _&&_, _||_}
 use mathlib.Core.List.{List, [], _∷_}
 use mathlib.Core.Logic.{_⊎_}
 use mathlib.Core.Option.{Option, some, none}
 use lib.Dec.{eqb}
 use lib.ListN.{length, getD}
-use Rattle.text.specs.Pick.{both, either, pick}
+use Rattle.text.specs.Pick.{pick}
 use Rattle.tape.specs.Nodes.{count, kindAt, linkAt, isClose}
 use Rattle.tape.specs.Reading.{Refusal, refuse, onlyIf, orElse, firstBad, badKind, badSpan, opensTo, goodRoot, read, Step, go, stop, opened, closed}
 use Rattle.tape.specs.declared.TapeCheck.{TapeCheck}
@@ -78,7 +78,7 @@ pub record Held (t : List ℕ) (root i kind : ℕ) (stack : List ℕ) (r : Readi
 
 -- 7 of the root by its link, whether a close stands there, and whether an open has that link
 abbrev pub rootBy : ℕ → ℕ → Bool → Bool → Bool
-rootBy link n closes taken = either (eqb link n) (both (eqb (link + 1) n) (both closes (not taken)))
+rootBy link n closes taken = eqb link n || (eqb (link + 1) n && (closes && not taken))
 
 -- an open that is left unclosed at the end
 abbrev pub leftOpen : ℕ → ℕ → Option Refusal

@@ -1,10 +1,10 @@
 -- Document 01, "Lent lists": "Tape: 1 to 65,535 nodes of 16 bytes, little-endian: kind u8 (0 to 8 in `NodeKind` order), flags u8, marker u16, start, len, link u32."
 use Prim.Native.Nat.{ℕ, zero, suc, _+_, _*_, _/_}
-use mathlib.Core.Bool.{Bool, true, false}
+use mathlib.Core.Bool.{Bool, true, false, _||_}
 use mathlib.Core.List.{List, [], _∷_}
 use lib.Dec.{eqb}
 use lib.ListN.{length, getD}
-use Rattle.text.specs.Pick.{Part, either, cut}
+use Rattle.text.specs.Pick.{Part, cut}
 use Rattle.tape.specs.declared.NodeKind.{NodeKind}
 use Rattle.tape.specs.declared.NodeKind.the-variants.{Root, MarkerOpen, MarkerClose, Chapter, Verse, Text, Attribute, BlockEnd, Error}
 
@@ -40,7 +40,7 @@ linkAt t i = word t (16 * i + 12)
 
 -- "kinds MarkerClose, BlockEnd"
 abbrev pub isClose : ℕ → Bool
-isClose k = either (eqb k 2) (eqb k 7)
+isClose k = eqb k 2 || eqb k 7
 
 abbrev pub isOpen : ℕ → Bool
 isOpen k = eqb k 1

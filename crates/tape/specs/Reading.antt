@@ -1,11 +1,11 @@
 -- Numbers 4 to 8. "Each gives number and place"; "Of several nodes the first counts."
 use Prim.Native.Nat.{ℕ, zero, suc, _+_, _-_, _%_}
-use mathlib.Core.Bool.{Bool, true, false, not}
+use mathlib.Core.Bool.{Bool, true, false, not, _&&_, _||_}
 use mathlib.Core.List.{List, [], _∷_}
 use mathlib.Core.Option.{Option, some, none}
 use lib.Dec.{eqb, ltb}
 use lib.ListN.{length}
-use Rattle.text.specs.Pick.{both, either, within, pick}
+use Rattle.text.specs.Pick.{within, pick}
 use Rattle.text.specs.Characters.{starts}
 use Rattle.tape.specs.Nodes.{count, kindAt, startAt, lenAt, linkAt, isClose, isOpen}
 use Rattle.tape.specs.declared.TapeCheck.{TapeCheck}
@@ -38,7 +38,7 @@ isNone (some r) = false
 
 -- 4: "The tape's length is 0, no multiple of 16, or over 65,535 nodes; place 0."
 abbrev pub badLength : List ℕ → Bool
-badLength t = either (eqb (length t) 0) (either (not (eqb (length t % 16) 0)) (ltb 65535 (count t)))
+badLength t = eqb (length t) 0 || (not (eqb (length t % 16) 0) || ltb 65535 (count t))
 
 -- 5: "A kind is over 8, or Root is missing at 0 or present elsewhere; place: that node."
 abbrev pub badKind : List ℕ → ℕ → Bool
@@ -48,17 +48,15 @@ badKind t (suc i) = not (within 1 8 (kindAt t (suc i)))
 -- 6: "A span from node 1 on leaves the source or splits a character; place: that node."
 abbrev pub badSpan : List ℕ → List ℕ → ℕ → Bool
 badSpan s t i =
-    either (ltb (length s) (startAt t i + lenAt t i)) (either (not (starts s (startAt t i))) (not (starts s (startAt t i + lenAt t i))))
+    ltb (length s) (startAt t i + lenAt t i) || (not (starts s (startAt t i)) || not (starts s (startAt t i + lenAt t i)))
 
 -- 7, the root: "The root's link is n, or n − 1 with a close there that is the link of no other open."
 abbrev pub opensTo : List ℕ → ℕ → ℕ → Bool
-opensTo t link i = both (isOpen (kindAt t i)) (eqb (linkAt t i) link)
+opensTo t link i = isOpen (kindAt t i) && eqb (linkAt t i) link
 
 abbrev pub goodRoot : List ℕ → Bool
 goodRoot t =
-    either (eqb (linkAt t 0) (count t))
-    (both (eqb (linkAt t 0 + 1) (count t))
-    (both (isClose (kindAt t (linkAt t 0))) (isNone (firstBad 7 (opensTo t (linkAt t 0)) 1 (count t - 1)))))
+    eqb (linkAt t 0) (count t) || (eqb (linkAt t 0 + 1) (count t) && (isClose (kindAt t (linkAt t 0)) && isNone (firstBad 7 (opensTo t (linkAt t 0)) 1 (count t - 1))))
 
 -- 7 and 8, the others: "Read nodes from 1 with the opens not yet closed, the root outermost. A close (kinds MarkerClose, BlockEnd) at i must be the link of the innermost open."
 -- "A 65th open nests inside 64, root not counted; place: that node"

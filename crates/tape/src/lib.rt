@@ -1,11 +1,11 @@
 // The tape: nodes of 16 bytes, and the check of numbers 4 to 8.
 ghost use mathlib.Core.Path.{_≡_};
-ghost use mathlib.Core.Bool.{true, false, not};
+ghost use mathlib.Core.Bool.{true, false, not, _||_};
 ghost use mathlib.Core.List.{[]};
 ghost use mathlib.Core.Option.{none};
 ghost use Prim.Native.Nat.{_+_, _-_, _<_, _≤_};
 ghost use lib.ListN.{length};
-ghost use Rattle.text.specs.Pick.{either, within, pick};
+ghost use Rattle.text.specs.Pick.{within, pick};
 ghost use Rattle.text.specs.Characters.{starts};
 ghost use Rattle.tape.specs.Nodes.{count, half, word, kindAt, markerAt, startAt, lenAt, linkAt, isClose, kindOf};
 ghost use Rattle.tape.specs.Reading.{badSpan, opensTo, refusalOf, tapeRefusal};
@@ -220,7 +220,7 @@ fn step(tape: &[u8], root: u32, i: usize, kind: u8, stack: &mut [u32], r: Readin
 // Whether an open so far has the root's link.
 fn taken_step(tape: &[u8], root: u32, i: usize, kind: u8, taken: bool) -> bool
     requires { ⌜ (i < count (now tape)) × (kind ≡ kindAt (now tape) i) ⌝ }
-    ensures { λ r. ⌜ r ≡ either taken (opensTo (now (tape .entry)) root i) ⌝ }
+    ensures { λ r. ⌜ r ≡ (taken || opensTo (now (tape .entry)) root i) ⌝ }
 {
     if taken {
         return true;

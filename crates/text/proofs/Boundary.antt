@@ -1,7 +1,7 @@
 -- Where a character may start: by the byte that stands there, and, in well-formed text, by the widths of the characters before.
 -- Assumes nothing.
 use mathlib.Core.Path.{_≡_, refl, sym, ap, _∙_}
-use mathlib.Core.Bool.{Bool, true, false, not}
+use mathlib.Core.Bool.{Bool, true, false, not, _&&_, _||_}
 use mathlib.Core.List.{List, [], _∷_, _++_, List·Memᴰ}
 use Prim.Native.Nat.{ℕ, zero, suc, _+_, _-_, _<_, _≤_}
 use native.Mathlib.Nat.{not-suc-le-zero}
@@ -11,7 +11,7 @@ use lib.Dec.{leb, ltb, eqb}
 use lib.ListN.{length, getD, drop, length-append, List·getD-append}
 use lib.Seq.{drop-append-seam, getD-append-add}
 use borrow.Author.Tests.{eq-eqb, ne-eqb, le-leb, lt-leb, lt-ltb, le-ltb, eqb-true, eqb-false, leb-true, leb-false}
-use Rattle.text.specs.Pick.{Range, both, either, within}
+use Rattle.text.specs.Pick.{Range, within}
 use Rattle.text.specs.Utf8.{table, widthOf, fits, Made, nothing, more, decoded, decode}
 use Rattle.text.specs.Characters.{chars, between, starts}
 use Rattle.text.proofs.Rows.{row-long, row-short, row-begins}
@@ -25,7 +25,7 @@ at-zero s at e = rw (eq-eqb at 0 e)
 pub past-end : (s : List ℕ) (at : ℕ) → length s ≤ at → starts s at ≡ eqb at (length s)
 past-end s at h = zero-or (eqb at 0) refl
   where
-    go : (t : Bool) → eqb at (length s) ≡ t → either t (both (leb at (length s)) (not (within 0x80 0xBF (getD s at 0)))) ≡ t
+    go : (t : Bool) → eqb at (length s) ≡ t → (t || (leb at (length s) && not (within 0x80 0xBF (getD s at 0)))) ≡ t
     go true e = refl
     go false e = let m = eqb-false at (length s) e in rw (lt-leb at (length s) (omega arith))
 
@@ -97,7 +97,7 @@ shift a s k h first =
     rw (ne-eqb (length a + k) 0 (λ e. omega arith), length-append a s, eqb-add (length a) k (length s), leb-add (length a) k (length s), getD-append-add a s k 0)
     (go k s first)
   where
-    go : (k : ℕ) (s : List ℕ) → (0 < length s → within 0x80 0xBF (getD s 0 0) ≡ false) → either (eqb k (length s)) (both (leb k (length s)) (not (within 0x80 0xBF (getD s k 0)))) ≡ starts s k
+    go : (k : ℕ) (s : List ℕ) → (0 < length s → within 0x80 0xBF (getD s 0 0) ≡ false) → (eqb k (length s) || (leb k (length s) && not (within 0x80 0xBF (getD s k 0)))) ≡ starts s k
     go zero [] f = refl
     go zero (b ∷ s) f = rw (ne-eqb 0 (suc (length s)) (λ e. omega arith), le-leb 0 (suc (length s)) (omega arith), f (omega arith))
     go (suc k) s f = rw (ne-eqb (suc k) 0 (λ e. omega arith))
@@ -107,7 +107,7 @@ pub boundary : {s : List ℕ} → Made s → (at : ℕ) → starts s at ≡ betw
 unfolding between
 boundary nothing at = rw chars-nil (go (eqb at 0) refl)
   where
-    go : (t : Bool) → eqb at 0 ≡ t → either t (either t (both (leb at 0) (not (within 0x80 0xBF (getD [] at 0))))) ≡ t
+    go : (t : Bool) → eqb at 0 ≡ t → (t || (t || (leb at 0 && not (within 0x80 0xBF (getD [] at 0))))) ≡ t
     go true e = refl
     go false e = let n = eqb-false at 0 e in rw (lt-leb at 0 (omega arith))
 boundary (more row [] m f r e) at = absurd (omega (arith, row-long row m, fits-length row [] f))
@@ -120,11 +120,11 @@ boundary (more row (b ∷ a) {s} {l} m f r e) at =
         inside (b ∷ a ++ s) (suc k) (λ z. omega arith) (omega (arith, length-append a s))
         ∙ rw (List·getD-append a s 0 k (omega arith), row-further row b a k m f (omega arith)) (sym (ne-eqb (suc k) 0 (λ z. omega arith)))
 
-    either-false : (t : Bool) → t ≡ either t false
+    either-false : (t : Bool) → t ≡ (t || false)
     either-false true = refl
     either-false false = refl
 
-    go : Dec (at < suc (length a)) → ((k : ℕ) → starts s k ≡ between (chars s) k) → starts (b ∷ a ++ s) at ≡ either (eqb at 0) (both (leb (suc (length a)) at) (between (chars s) (at - suc (length a))))
+    go : Dec (at < suc (length a)) → ((k : ℕ) → starts s k ≡ between (chars s) k) → starts (b ∷ a ++ s) at ≡ (eqb at 0 || (leb (suc (length a)) at && between (chars s) (at - suc (length a))))
     go (yes h) ih = inner at h ∙ rw (lt-leb (suc (length a)) at h) (either-false (eqb at 0))
     go (no h) ih =
         let split : at ≡ suc (length a) + (at - suc (length a)) = omega arith in

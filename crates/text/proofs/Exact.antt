@@ -12,7 +12,7 @@ use lib.Dec.{leb}
 use lib.ListN.{length, getD, take, drop, length-append, length-drop, take-append-drop}
 use lib.Seq.{drop-append-seam, take-append-seam, drop-drop, take-add, length-take-le}
 use borrow.Author.Tests.{leb-true}
-use Rattle.text.specs.Pick.{Range, both, within, pick}
+use Rattle.text.specs.Pick.{Range, within, pick}
 use Rattle.text.specs.Utf8.{begins, widthBy, table, widthOf, scan, firstIllFormed, fits, Made, nothing, more, FirstIllFormed}
 use Rattle.text.proofs.Induction.{by-length}
 use Rattle.text.proofs.Rows.{both-left, both-right, width-le, row-long, row-begins}

@@ -11,7 +11,7 @@ use lib.Dec.{leb, eqb}
 use lib.ListN.{length, getD, take, drop, length-drop}
 use lib.Seq.{getD-take}
 use borrow.Author.Tests.{ne-eqb, lt-leb}
-use Rattle.text.specs.Pick.{Range, span, both, within, pick}
+use Rattle.text.specs.Pick.{Range, span, within, pick}
 use Rattle.text.specs.declared.Decoded.{Decoded}
 use Rattle.text.specs.Utf8.{begins, table, widthOf, fits, decoded, decode}
 use Rattle.text.specs.Number.{digit}

@@ -1,7 +1,7 @@
 -- How many bytes a text has up to the end of its last character that isn't blank: from the front, and from the back where the last byte is ASCII.
 -- Assumes nothing.
 use mathlib.Core.Path.{_≡_, refl, sym, ap, _∙_}
-use mathlib.Core.Bool.{Bool, true, false, not}
+use mathlib.Core.Bool.{Bool, true, false, not, _&&_}
 use mathlib.Core.List.{List, [], _∷_, _++_}
 use Prim.Native.Nat.{ℕ, zero, suc, _+_, _-_, _<_, _≤_, zero-le}
 use native.Mathlib.Nat.{add-zero, zero-add, not-suc-le-zero}
@@ -11,7 +11,7 @@ use lib.Dec.{leb}
 use lib.ListN.{length, getD, take, drop, length-drop, length-append, drop-of-length-le, List·getD-append}
 use lib.Seq.{drop-append-le, take-suc, take-length, length-take-le}
 use borrow.Author.Tests.{lt-leb, leb-true, leb-false}
-use Rattle.text.specs.Pick.{Range, span, both, within, pick}
+use Rattle.text.specs.Pick.{Range, span, within, pick}
 use Rattle.text.specs.declared.Decoded.{Decoded}
 use Rattle.text.specs.Utf8.{begins, table, widthBy, widthOf, decoded, decode}
 use Rattle.text.specs.Blank.{blank}
@@ -121,7 +121,7 @@ module _ (b : ℕ) (low : b < 0x80) where
   begins-snoc (r ∷ rs) [] e =
       let up : 0x80 ≤ r .lo = further-lo r rs e in
       rw (lt-leb (r .lo) b (omega arith))
-  begins-snoc (r ∷ rs) (x ∷ s) e = ap (both (within (r .lo) (r .hi) x)) (begins-snoc rs s (further-rest r rs e))
+  begins-snoc (r ∷ rs) (x ∷ s) e = ap (_&&_ (within (r .lo) (r .hi) x)) (begins-snoc rs s (further-rest r rs e))
 
   rows-snoc : (rows : List (List Range)) (x : ℕ) (s : List ℕ) → every shaped rows ≡ true → widthBy rows (x ∷ s ++ b ∷ []) ≡ widthBy rows (x ∷ s)
   unfolding widthBy every shaped begins

@@ -9,7 +9,6 @@ use native.Mathlib.Nat.{le-refl, le-trans}
 use native.Mathlib.Omega.{arith}
 use borrow.Author.Tests.{le-leb, lt-leb, eq-eqb, ne-eqb}
 use lib.ListN.{length, getD, drop, drop-of-length-le}
-use Rattle.text.specs.Pick.{both}
 use Rattle.text.specs.Number.{digit, allDigits, valueFrom, digitsFrom, digits, parsed}
 use Rattle.text.proofs.Rows.{both-false, place}
 

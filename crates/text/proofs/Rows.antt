@@ -1,7 +1,7 @@
 -- What the rows of Table 3-7 say at a place of a list. The first ranges of the rows lie one above the other, so that a first byte picks its row.
 -- Assumes nothing.
 use mathlib.Core.Path.{_≡_, refl, sym, ap, _∙_}
-use mathlib.Core.Bool.{Bool, true, false, not, false≢true}
+use mathlib.Core.Bool.{Bool, true, false, not, false≢true, _&&_}
 use mathlib.Core.List.{List, [], _∷_, List·Memᴰ, List·Memᴰ·head, List·Memᴰ·tail}
 use Prim.Native.Nat.{ℕ, zero, suc, _+_, _-_, _<_, _≤_, zero-le, suc-le-suc}
 use native.Mathlib.Nat.{not-suc-le-zero, le-of-suc-le-suc}
@@ -11,18 +11,18 @@ use lib.Dec.{leb, ltb}
 use lib.ListN.{length, getD, drop, length-drop}
 use lib.Seq.{drop-cons}
 use borrow.Author.Tests.{le-leb, lt-leb, ltb-true, leb-true}
-use Rattle.text.specs.Pick.{Range, span, both, within, pick}
+use Rattle.text.specs.Pick.{Range, span, within, pick}
 use Rattle.text.specs.Utf8.{begins, widthBy, table, widthOf}
 
-pub both-false : (a : Bool) → both a false ≡ false
+pub both-false : (a : Bool) → (a && false) ≡ false
 both-false true = refl
 both-false false = refl
 
-pub both-left : (a b : Bool) → both a b ≡ true → a ≡ true
+pub both-left : (a b : Bool) → (a && b) ≡ true → a ≡ true
 both-left true b e = refl
 both-left false b e = absurd (false≢true e)
 
-pub both-right : (a b : Bool) → both a b ≡ true → b ≡ true
+pub both-right : (a b : Bool) → (a && b) ≡ true → b ≡ true
 both-right true b e = e
 both-right false b e = absurd (false≢true e)
 
@@ -41,17 +41,17 @@ unfolding begins
 begins-nil s = refl
 
 -- one byte of a row at a place
-begins-at : (r : Range) (rs : List Range) (s : List ℕ) (at : ℕ) → at < length s → begins (r ∷ rs) (drop at s) ≡ both (within (r .lo) (r .hi) (getD s at 0)) (begins rs (drop (at + 1) s))
+begins-at : (r : Range) (rs : List Range) (s : List ℕ) (at : ℕ) → at < length s → begins (r ∷ rs) (drop at s) ≡ (within (r .lo) (r .hi) (getD s at 0) && begins rs (drop (at + 1) s))
 unfolding begins
 begins-at r rs s at h = rw (place s at h)
 
 pub begins-yes : (lo hi : ℕ) (rs : List Range) (s : List ℕ) (at : ℕ) → at < length s → within lo hi (getD s at 0) ≡ true → begins (span lo hi ∷ rs) (drop at s) ≡ begins rs (drop (at + 1) s)
-begins-yes lo hi rs s at h e = begins-at (span lo hi) rs s at h ∙ ap (λ (t : Bool). both t (begins rs (drop (at + 1) s))) e
+begins-yes lo hi rs s at h e = begins-at (span lo hi) rs s at h ∙ ap (λ (t : Bool). (t && begins rs (drop (at + 1) s))) e
 
 pub begins-no : (lo hi : ℕ) (rs : List Range) (s : List ℕ) (at : ℕ) → at < length s → within lo hi (getD s at 0) ≡ false → begins (span lo hi ∷ rs) (drop at s) ≡ false
-begins-no lo hi rs s at h e = begins-at (span lo hi) rs s at h ∙ ap (λ (t : Bool). both t (begins rs (drop (at + 1) s))) e
+begins-no lo hi rs s at h e = begins-at (span lo hi) rs s at h ∙ ap (λ (t : Bool). (t && begins rs (drop (at + 1) s))) e
 
-pub both-true : (a : Bool) → both a true ≡ a
+pub both-true : (a : Bool) → (a && true) ≡ a
 both-true true = refl
 both-true false = refl
 
@@ -89,7 +89,7 @@ width-le s = width-by-le table s
 -- what a test says of every row of the table, it says of each
 unfoldable pub every : (List Range → Bool) → List (List Range) → Bool
 every p [] = true
-every p (row ∷ rows) = both (p row) (every p rows)
+every p (row ∷ rows) = p row && every p rows
 
 pub every-in : (p : List Range → Bool) (rows : List (List Range)) (row : List Range) → every p rows ≡ true → List·Memᴰ row rows → p row ≡ true
 unfolding every
@@ -139,13 +139,13 @@ module _ (r : Range) (rs : List Range) (rows : List (List Range)) (b : ℕ) (s :
 unfoldable above : ℕ → List (List Range) → Bool
 above h [] = true
 above h ([] ∷ rows) = false
-above h ((r ∷ rs) ∷ rows) = both (ltb h (r .lo)) (above h rows)
+above h ((r ∷ rs) ∷ rows) = ltb h (r .lo) && above h rows
 
 -- the first ranges of the rows lie one above the other
 unfoldable rising : List (List Range) → Bool
 rising [] = true
 rising ([] ∷ rows) = false
-rising ((r ∷ rs) ∷ rows) = both (above (r .hi) rows) (rising rows)
+rising ((r ∷ rs) ∷ rows) = above (r .hi) rows && rising rows
 
 table-rises : rising table ≡ true
 unfolding rising above table
@@ -163,7 +163,7 @@ under-all h ((r ∷ rs) ∷ rows) b s e l =
 unfoldable beneath : ℕ → List (List Range) → Bool
 beneath h [] = true
 beneath h ([] ∷ rows) = false
-beneath h ((r ∷ rs) ∷ rows) = both (leb (r .hi) h) (beneath h rows)
+beneath h ((r ∷ rs) ∷ rows) = leb (r .hi) h && beneath h rows
 
 over-all : (h : ℕ) (rows : List (List Range)) (b : ℕ) (s : List ℕ) → beneath h rows ≡ true → h < b → widthBy rows (b ∷ s) ≡ 0
 unfolding beneath widthBy

@@ -1,7 +1,7 @@
 -- The further bytes of a sequence lie from 80 to BF, and its first byte does not.
 -- Assumes nothing.
 use mathlib.Core.Path.{_≡_, refl, sym, ap, _∙_}
-use mathlib.Core.Bool.{Bool, true, false, false≢true}
+use mathlib.Core.Bool.{Bool, true, false, false≢true, _&&_, _||_}
 use mathlib.Core.List.{List, [], _∷_, List·Memᴰ}
 use Prim.Native.Nat.{ℕ, zero, suc, _<_, _≤_}
 use native.Mathlib.Nat.{not-suc-le-zero, le-of-suc-le-suc}
@@ -9,34 +9,34 @@ use native.Mathlib.Omega.{arith}
 use lib.Dec.{leb, ltb}
 use lib.ListN.{length, getD}
 use borrow.Author.Tests.{le-leb, lt-leb, leb-true, ltb-true}
-use Rattle.text.specs.Pick.{Range, both, either, within}
+use Rattle.text.specs.Pick.{Range, within}
 use Rattle.text.specs.Utf8.{table, fits, Made, nothing, more}
 use Rattle.text.proofs.Rows.{both-false, both-left, both-right, within-lo, within-hi, every, every-in}
 
 -- the ranges of further bytes
 unfoldable pub further : List Range → Bool
 further [] = true
-further (r ∷ rs) = both (both (leb 0x80 (r .lo)) (leb (r .hi) 0xBF)) (further rs)
+further (r ∷ rs) = (leb 0x80 (r .lo) && leb (r .hi) 0xBF) && further rs
 
 pub further-lo : (r : Range) (rs : List Range) → further (r ∷ rs) ≡ true → 0x80 ≤ r .lo
 unfolding further
-further-lo r rs e = leb-true 0x80 (r .lo) (both-left (leb 0x80 (r .lo)) (leb (r .hi) 0xBF) (both-left (both (leb 0x80 (r .lo)) (leb (r .hi) 0xBF)) (further rs) e))
+further-lo r rs e = leb-true 0x80 (r .lo) (both-left (leb 0x80 (r .lo)) (leb (r .hi) 0xBF) (both-left (leb 0x80 (r .lo) && leb (r .hi) 0xBF) (further rs) e))
 
 pub further-hi : (r : Range) (rs : List Range) → further (r ∷ rs) ≡ true → r .hi ≤ 0xBF
 unfolding further
-further-hi r rs e = leb-true (r .hi) 0xBF (both-right (leb 0x80 (r .lo)) (leb (r .hi) 0xBF) (both-left (both (leb 0x80 (r .lo)) (leb (r .hi) 0xBF)) (further rs) e))
+further-hi r rs e = leb-true (r .hi) 0xBF (both-right (leb 0x80 (r .lo)) (leb (r .hi) 0xBF) (both-left (leb 0x80 (r .lo) && leb (r .hi) 0xBF) (further rs) e))
 
 pub further-rest : (r : Range) (rs : List Range) → further (r ∷ rs) ≡ true → further rs ≡ true
 unfolding further
-further-rest r rs e = both-right (both (leb 0x80 (r .lo)) (leb (r .hi) 0xBF)) (further rs) e
+further-rest r rs e = both-right (leb 0x80 (r .lo) && leb (r .hi) 0xBF) (further rs) e
 
 -- the range of a first byte
 abbrev pub apart : Range → Bool
-apart r = either (ltb (r .hi) 0x80) (ltb 0xBF (r .lo))
+apart r = ltb (r .hi) 0x80 || ltb 0xBF (r .lo)
 
 unfoldable pub shaped : List Range → Bool
 shaped [] = false
-shaped (r ∷ rs) = both (apart r) (further rs)
+shaped (r ∷ rs) = apart r && further rs
 
 pub table-shaped : every shaped table ≡ true
 unfolding every shaped further table
@@ -59,7 +59,7 @@ further-byte (r ∷ rs) (b ∷ a) (suc k) e f h =
 first-byte : (r : Range) (b : ℕ) → apart r ≡ true → within (r .lo) (r .hi) b ≡ true → within 0x80 0xBF b ≡ false
 first-byte r b e f = go (ltb (r .hi) 0x80) refl e
   where
-    go : (t : Bool) → ltb (r .hi) 0x80 ≡ t → either t (ltb 0xBF (r .lo)) ≡ true → within 0x80 0xBF b ≡ false
+    go : (t : Bool) → ltb (r .hi) 0x80 ≡ t → (t || ltb 0xBF (r .lo)) ≡ true → within 0x80 0xBF b ≡ false
     go true y z = let l = ltb-true (r .hi) 0x80 y in rw (lt-leb 0x80 b (omega (arith, within-hi (r .lo) (r .hi) b f)))
     go false y z = let l = ltb-true 0xBF (r .lo) z in rw (lt-leb b 0xBF (omega (arith, within-lo (r .lo) (r .hi) b f)), both-false (leb 0x80 b))
 

@@ -1,10 +1,10 @@
 -- A text as its characters, and the places between them.
 use Prim.Native.Nat.{ℕ, zero, suc, pred, _+_, _-_}
-use mathlib.Core.Bool.{Bool, true, false, not}
+use mathlib.Core.Bool.{Bool, true, false, not, _&&_, _||_}
 use mathlib.Core.List.{List, [], _∷_}
 use lib.Dec.{leb, eqb}
 use lib.ListN.{length, getD}
-use Rattle.text.specs.Pick.{both, either, within, pick}
+use Rattle.text.specs.Pick.{within, pick}
 use Rattle.text.specs.declared.Decoded.{Decoded}
 use Rattle.text.specs.Utf8.{decode}
 
@@ -34,8 +34,8 @@ findByte p (b ∷ s) = pick (p b) 0 (suc (findByte p s))
 -- the place lies between two characters, before the first or after the last: some first characters take just that many bytes
 unfoldable pub between : List Decoded → ℕ → Bool
 between [] at = eqb at 0
-between (c ∷ cs) at = either (eqb at 0) (both (leb (c .width) at) (between cs (at - c .width)))
+between (c ∷ cs) at = eqb at 0 || (leb (c .width) at && between cs (at - c .width))
 
 -- the place is inside the text, or at its end, and no further byte of a sequence stands there
 abbrev pub starts : List ℕ → ℕ → Bool
-starts s at = either (eqb at 0) (either (eqb at (length s)) (both (leb at (length s)) (not (within 0x80 0xBF (getD s at 0)))))
+starts s at = eqb at 0 || (eqb at (length s) || (leb at (length s) && not (within 0x80 0xBF (getD s at 0))))

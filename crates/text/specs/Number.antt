@@ -1,10 +1,10 @@
 -- Document 01, module 1: "`parse` to u32: one optional `+`, then one or more digits, value at most 4,294,967,295."
 use Prim.Native.Nat.{ℕ, _+_, _-_, _*_}
-use mathlib.Core.Bool.{Bool, true, false, not}
+use mathlib.Core.Bool.{Bool, true, false, not, _&&_}
 use mathlib.Core.List.{List, [], _∷_}
 use mathlib.Core.Option.{Option, some, none}
 use lib.Dec.{leb, eqb}
-use Rattle.text.specs.Pick.{both, within, pick}
+use Rattle.text.specs.Pick.{within, pick}
 use Rattle.text.specs.declared.Parsed.{Parsed}
 use Rattle.text.specs.declared.Parsed.the-variants.{Value, NotANumber}
 
@@ -14,7 +14,7 @@ digit b = within 0x30 0x39 b
 
 unfoldable pub allDigits : List ℕ → Bool
 allDigits [] = true
-allDigits (b ∷ s) = both (digit b) (allDigits s)
+allDigits (b ∷ s) = digit b && allDigits s
 
 -- the number that the digits make behind the number n
 unfoldable pub valueFrom : ℕ → List ℕ → ℕ
@@ -23,7 +23,7 @@ valueFrom n (b ∷ s) = valueFrom (n * 10 + (b - 0x30)) s
 
 -- the digits behind the number n, if they are digits and their number is at most the limit
 unfoldable pub digitsFrom : ℕ → List ℕ → Option ℕ
-digitsFrom n s = pick (both (allDigits s) (leb (valueFrom n s) 4294967295)) (some (valueFrom n s)) none
+digitsFrom n s = pick (allDigits s && leb (valueFrom n s) 4294967295) (some (valueFrom n s)) none
 
 unfoldable pub digits : List ℕ → Option ℕ
 digits [] = none

@@ -1,6 +1,6 @@
 -- Ranges of numbers, tests on numbers, and the choice between two values by a test, for every crate.
 use Prim.Native.Nat.{ℕ, _+_}
-use mathlib.Core.Bool.{Bool, true, false, not}
+use mathlib.Core.Bool.{Bool, true, false, not, _&&_, _||_}
 use mathlib.Core.List.{List, [], _∷_}
 use mathlib.Core.Option.{Option}
 use lib.Dec.{leb}
@@ -14,14 +14,6 @@ pub record Range : Type 0 where
 abbrev pub span : ℕ → ℕ → Range
 span lo hi = record { lo = lo; hi = hi }
 
-abbrev pub both : Bool → Bool → Bool
-both true b = b
-both false b = false
-
-abbrev pub either : Bool → Bool → Bool
-either true b = true
-either false b = b
-
 -- the two are equal
 abbrev pub same : Bool → Bool → Bool
 same true b = b
@@ -34,12 +26,12 @@ pick false a b = b
 
 -- the number lies between the two ends, both included
 abbrev pub within : ℕ → ℕ → ℕ → Bool
-within lo hi b = both (leb lo b) (leb b hi)
+within lo hi b = leb lo b && leb b hi
 
 -- the number lies in one of the ranges
 unfoldable pub inAny : List Range → ℕ → Bool
 inAny [] c = false
-inAny (r ∷ rs) c = either (within (r .lo) (r .hi) c) (inAny rs c)
+inAny (r ∷ rs) c = within (r .lo) (r .hi) c || inAny rs c
 
 -- a part of a list, by the place where it starts and its length
 pub record Part : Type 0 where

@@ -1,11 +1,11 @@
 -- UTF-8 by Table 3-7 of the Unicode Standard, row by row, and the place of the first ill-formed sequence of a text.
 use Prim.Native.Nat.{ℕ, zero, suc, _+_, _*_, _%_, _<_}
 use mathlib.Core.Path.{_≡_}
-use mathlib.Core.Bool.{Bool, true, false}
+use mathlib.Core.Bool.{Bool, true, false, _&&_}
 use mathlib.Core.List.{List, [], _∷_, _++_, List·Memᴰ}
 use mathlib.Core.Option.{Option, some, none}
 use lib.ListN.{length, getD, take, drop}
-use Rattle.text.specs.Pick.{Range, span, both, within, pick}
+use Rattle.text.specs.Pick.{Range, span, within, pick}
 use Rattle.text.specs.declared.Decoded.{Decoded}
 use Rattle.text.specs.declared.Utf8.{Utf8}
 use Rattle.text.specs.declared.Utf8.the-variants.{WellFormed, IllFormed}
@@ -28,7 +28,7 @@ table =
 unfoldable pub begins : List Range → List ℕ → Bool
 begins [] s = true
 begins (r ∷ rs) [] = false
-begins (r ∷ rs) (b ∷ s) = both (within (r .lo) (r .hi) b) (begins rs s)
+begins (r ∷ rs) (b ∷ s) = within (r .lo) (r .hi) b && begins rs s
 
 -- how long the sequence is that the list begins with, by the first of the rows that it fits; 0 where it fits none
 unfoldable pub widthBy : List (List Range) → List ℕ → ℕ
@@ -63,7 +63,7 @@ abbrev pub fits : List Range → List ℕ → Bool
 fits [] [] = true
 fits [] (b ∷ s) = false
 fits (r ∷ rs) [] = false
-fits (r ∷ rs) (b ∷ s) = both (within (r .lo) (r .hi) b) (fits rs s)
+fits (r ∷ rs) (b ∷ s) = within (r .lo) (r .hi) b && fits rs s
 
 -- the text is made of sequences that are rows of the table (the Unicode Standard, D85 to D92)
 pub data Made : List ℕ → Type 0 where

@@ -10,7 +10,6 @@ use native.Mathlib.Omega.{arith}
 use lib.Dec.{ltb}
 use lib.ListN.{length}
 use borrow.Author.Tests.{lt-ltb, le-ltb}
-use Rattle.text.specs.Pick.{either}
 use Rattle.tape.specs.Reading.{Refusal, refuse, onlyIf, orElse, tapeRefusal}
 use Rattle.tape.specs.Forest.{Accepted}
 use Rattle.tape.proofs.OneNumber.{accepted}

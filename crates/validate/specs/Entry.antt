@@ -1,14 +1,13 @@
 -- What the entry's answer says, in document 01's numbers, and what the functions below it promise.
 use Prim.Native.Nat.{ℕ, zero, suc, _+_, _-_, _<_, _≤_}
 use mathlib.Core.Path.{_≡_}
-use mathlib.Core.Bool.{Bool, true, false}
+use mathlib.Core.Bool.{Bool, true, false, _||_}
 use mathlib.Core.List.{List, [], _∷_, _++_}
 use mathlib.Core.Option.{Option, some, none}
 use lib.Dec.{ltb}
 use lib.ListN.{length}
 use Rattle.tape.specs.Nodes.{count, linkAt}
 use Rattle.tape.specs.Forest.{top, forest, Accepted}
-use Rattle.text.specs.Pick.{either}
 use Rattle.text.specs.Utf8.{firstIllFormed}
 use Rattle.tape.specs.Reading.{Refusal, refuse, onlyIf, orElse, tapeRefusal}
 use Rattle.table.specs.Lines.{badTable}
@@ -70,7 +69,7 @@ abbrev pub sourceRefusal : List ℕ → Option Refusal
 sourceRefusal s = orElse (onlyIf (ltb 1048576 (length s)) (refuse 2 0)) (atPlace 3 (firstIllFormed s))
 
 abbrev pub listsRefusal : ℕ → ℕ → ℕ → Option Refusal
-listsRefusal n seen opens = onlyIf (either (ltb seen n) (ltb opens n)) (refuse 10 n)
+listsRefusal n seen opens = onlyIf (ltb seen n || ltb opens n) (refuse 10 n)
 
 abbrev pub fromLabels : List ℕ → List ℕ → List ℕ → ℕ → ℕ → Option Refusal
 fromLabels table s t seen opens = orElse (labelRefusal table s t) (listsRefusal (count t) seen opens)

@@ -1,11 +1,11 @@
 -- `chapter_verse::is_in_block` meets its contract. The invariant: what is found so far, with what is known of the words before the block, is what the words up to here have.
 -- Assumes nothing.
+use mathlib.Core.Bool.{_||_}
 use Prim.Native.Nat.{ℕ, _+_, _-_, _≤_}
 use denote.Ref.{now}
 use native.Mathlib.Omega.{arith}
 use native.Mathlib.Nat.{add-zero}
 use mathlib.Core.Path.{_≡_, refl, ap, _∙_}
-use Rattle.text.specs.Pick.{either}
 use Rattle.attachment.specs.Attached.{among}
 use Rattle.state.specs.Running.{latest}
 use Rattle.chapter_verse.proofs.Seen.{block-more}
@@ -14,7 +14,7 @@ use Rattle.chapter_verse.proofs.is_in_block.Statement.{statement}
 use Rattle.chapter_verse.proofs.is_in_block.Tie as tie
 
 abbrev Inv-loop : tie.InvT-loop
-Inv-loop seen at num found₀ i₀ found i = (i ≤ 16) × (either found (among num (latest seen at)) ≡ among num (latest seen (at + i)))
+Inv-loop seen at num found₀ i₀ found i = (i ≤ 16) × ((found || among num (latest seen at)) ≡ among num (latest seen (at + i)))
 
 abbrev μ-loop : tie.MeasureT-loop
 μ-loop seen at num found₀ i₀ found i = 16 - i

@@ -3,10 +3,9 @@
 use Prim.Native.Nat.{ℕ, _+_, _-_, _≤_}
 use native.Mathlib.Omega.{arith}
 use mathlib.Core.Path.{_≡_, refl, sym, ap, _∙_}
-use mathlib.Core.Bool.{Bool, true, false}
+use mathlib.Core.Bool.{Bool, true, false, _||_}
 use denote.Ref.{now}
 use lib.ListN.{length}
-use Rattle.text.specs.Pick.{either}
 use Rattle.attachment.specs.Attached.{among}
 use Rattle.state.specs.Running.{latest}
 use borrow.Author.Needs.{needs}
@@ -26,12 +25,12 @@ is-in-block-requires : tie.Need-is-in-block-requires Inv-loop μ-loop
 is-in-block-requires c κs = omega arith
 
 -- what the block says of the words up to its end
-block : (c : tie.After-is-in-block Inv-loop μ-loop) (r : Bool) → c .is-in-block .result ≡ r → either r (among (c .before .before .before .before .args .num) (latest (now (c .before .before .before .before .args .seen)) (c .before .before .loop .i - 16))) ≡ among (c .before .before .before .before .args .num) (latest (now (c .before .before .before .before .args .seen)) (c .before .before .before .before .args .k))
+block : (c : tie.After-is-in-block Inv-loop μ-loop) (r : Bool) → c .is-in-block .result ≡ r → (r || among (c .before .before .before .before .args .num) (latest (now (c .before .before .before .before .args .seen)) (c .before .before .loop .i - 16))) ≡ among (c .before .before .before .before .args .num) (latest (now (c .before .before .before .before .args .seen)) (c .before .before .before .before .args .k))
 block c r h =
     let a = c .before .before .before .before .args in
     let l = c .before .before .loop in
     let e : l .i - 16 + 16 ≡ l .i = omega (arith, c .before .loop-test .taken) in
-    ap (λ (x : Bool). either x (among (a .num) (latest (now (a .seen)) (l .i - 16)))) (sym h) ∙ c .is-in-block .ensures ∙ ap (λ (i : ℕ). among (a .num) (latest (now (a .seen)) i)) e ∙ l .inv .1
+    ap (λ (x : Bool). (x || among (a .num) (latest (now (a .seen)) (l .i - 16)))) (sym h) ∙ c .is-in-block .ensures ∙ ap (λ (i : ℕ). among (a .num) (latest (now (a .seen)) i)) e ∙ l .inv .1
 
 returns : tie.Need-returns Inv-loop μ-loop
 returns c = block (c .before) true (c .if1 .taken)

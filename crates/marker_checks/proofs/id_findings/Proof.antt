@@ -4,11 +4,11 @@ use borrow.Author.Needs.{needs}
 use denote.Ref.{now}
 use mathlib.Core.Path.{_≡_, refl, ap, _∙_}
 use Prim.Native.Nat.{ℕ, _+_}
-use mathlib.Core.Bool.{not}
+use mathlib.Core.Bool.{not, _&&_}
 use mathlib.Core.List.{List, []}
 use lib.Dec.{eqb}
 use lib.ListN.{length, drop}
-use Rattle.text.specs.Pick.{both, pick}
+use Rattle.text.specs.Pick.{pick}
 use Rattle.tape.specs.Nodes.{nodeAt}
 use Rattle.tape.specs.Forest.{forest}
 use Rattle.findings.specs.declared.Counts.{Counts}
@@ -30,7 +30,7 @@ Due c k l d = Left (given (checks c)) (now (c .args .list)) (c .args .c) (given 
 all : (c : tie.Start) → let a = c .args in Due c 0 (now (a .list)) (a .c)
 all c = left-start (given (checks c)) (now (c .args .list)) (c .args .c)
 
-again : (c : tie.Else1) → let a = c .before .before .before .before .args in a .rec .«has_id» ≡ both (a .named) (a .rec .«has_id»)
+again : (c : tie.Else1) → let a = c .before .before .before .before .args in a .rec .«has_id» ≡ (a .named && a .rec .«has_id»)
 again c =
     let a = c .before .before .before .before .args in
     both-holds (a .named) (a .named) refl _ _ (not-false _ (c .if1 .left)) refl
@@ -38,10 +38,10 @@ again c =
 left-1 : (c : tie.After-push-for-node) → Due (c .before .before .before .before .before .before .before) 1 (c .push-for-node .last .1 .1 .1 .1 .1 .1 .0) (c .push-for-node .result)
 left-1 c = given-wrote _ _ _ _ (all (c .before .before .before .before .before .before .before)) (c .before .before .before .before .before .before .before .args .rec .«has_id») _ (again (c .before .before .before)) refl _ _ (c .push-for-node .ensures)
 
-bad : (c : tie.After-is-bad-code) → let a = c .before .before .before .before .before .before .before .before .before .before .args in c .is-bad-code .result ≡ both (a .named) (both (not (eqb (length (bookCode (forest (now (a .source)) (now (a .tape)) (a .i + 1) (a .link)))) 0)) (not (isBook (bookCode (forest (now (a .source)) (now (a .tape)) (a .i + 1) (a .link))))))
+bad : (c : tie.After-is-bad-code) → let a = c .before .before .before .before .before .before .before .before .before .before .args in c .is-bad-code .result ≡ (a .named && (not (eqb (length (bookCode (forest (now (a .source)) (now (a .tape)) (a .i + 1) (a .link)))) 0) && not (isBook (bookCode (forest (now (a .source)) (now (a .tape)) (a .i + 1) (a .link))))))
 bad c =
     let a = c .before .before .before .before .before .before .before .before .before .before .args in
-    both-holds (a .named) (a .named) refl _ _ (not-false _ (c .before .before .before .before .before .before .if1 .left)) (c .is-bad-code .ensures ∙ ap (λ (s : List ℕ). both (not (eqb (length s) 0)) (not (isBook s))) (c .before .before .before .before .before .book-code .ensures))
+    both-holds (a .named) (a .named) refl _ _ (not-false _ (c .before .before .before .before .before .before .if1 .left)) (c .is-bad-code .ensures ∙ ap (λ (s : List ℕ). (not (eqb (length s) 0) && not (isBook s))) (c .before .before .before .before .before .book-code .ensures))
 
 form : (c : tie.After-code-form) → let a = c .before .before .before .before .before .before .before .before .before .before .before .args in warning (nodeAt [] (now (a .tape)) (a .i)) 5 (c .code-form .result) ≡ warning (nodeAt [] (now (a .tape)) (a .i)) 5 (pick (isBook (upper (bookCode (forest (now (a .source)) (now (a .tape)) (a .i + 1) (a .link))))) 0 1)
 form c =

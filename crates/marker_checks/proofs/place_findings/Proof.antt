@@ -4,10 +4,9 @@ use borrow.Author.Needs.{needs}
 use denote.Ref.{now}
 use mathlib.Core.Path.{_≡_, refl, ap, _∙_}
 use Prim.Native.Nat.{ℕ, _+_}
-use mathlib.Core.Bool.{Bool, not}
+use mathlib.Core.Bool.{Bool, not, _&&_}
 use mathlib.Core.List.{List}
 use lib.ListN.{drop}
-use Rattle.text.specs.Pick.{both}
 use Rattle.tape.specs.Nodes.{nodeAt, startAt}
 use Rattle.tape.specs.Forest.{forest}
 use Rattle.findings.specs.declared.Counts.{Counts}
@@ -36,15 +35,15 @@ Due c k l d = Left (given (checks c)) (now (c .args .list)) (c .args .c) (given 
 all : (c : tie.Start) → let a = c .args in Due c 0 (now (a .list)) (a .c)
 all c = left-start (given (checks c)) (now (c .args .list)) (c .args .c)
 
-filled : (c : tie.After-filled-blank-line) → let a = c .before .before .before .before .before .before .before .args in c .filled-blank-line .result ≡ both (equal (now (a .name)) bName) (inlineContent (childrenAt (now (a .source)) (now (a .tape)) (a .i)))
+filled : (c : tie.After-filled-blank-line) → let a = c .before .before .before .before .before .before .before .args in c .filled-blank-line .result ≡ (equal (now (a .name)) bName && inlineContent (childrenAt (now (a .source)) (now (a .tape)) (a .i)))
 filled c =
     let a = c .before .before .before .before .before .before .before .args in
-    c .filled-blank-line .ensures ∙ ap (λ (n : ℕ). both (equal (now (a .name)) bName) (inlineContent (forest (now (a .source)) (now (a .tape)) (a .i + 1) n))) (c .before .before .link-at .ensures)
+    c .filled-blank-line .ensures ∙ ap (λ (n : ℕ). (equal (now (a .name)) bName && inlineContent (forest (now (a .source)) (now (a .tape)) (a .i + 1) n))) (c .before .before .link-at .ensures)
 
-misplaced : (c : tie.After-is-misplaced) → let a = c .before .before .before .before .before .before .before .before .before .args in c .is-misplaced .result ≡ both (oneOf numberMarkers (now (a .name))) (both (oneOf numberMarkers (nameOf (nodeAt (now (a .source)) (now (a .tape)) (a .i) .text))) (not (attachedTo (anchorOf (now (a .source)) (now (a .tape)) (a .rec .anchor) (a .i)) (forest (now (a .source)) (now (a .tape)) (a .i) (a .to)) (startAt (now (a .tape)) (a .i)))))
+misplaced : (c : tie.After-is-misplaced) → let a = c .before .before .before .before .before .before .before .before .before .args in c .is-misplaced .result ≡ (oneOf numberMarkers (now (a .name)) && (oneOf numberMarkers (nameOf (nodeAt (now (a .source)) (now (a .tape)) (a .i) .text)) && not (attachedTo (anchorOf (now (a .source)) (now (a .tape)) (a .rec .anchor) (a .i)) (forest (now (a .source)) (now (a .tape)) (a .i) (a .to)) (startAt (now (a .tape)) (a .i)))))
 misplaced c =
     let a = c .before .before .before .before .before .before .before .before .before .args in
-    c .is-misplaced .ensures ∙ ap (λ (v : Bool). both (oneOf numberMarkers (now (a .name))) (both (oneOf numberMarkers (nameOf (nodeAt (now (a .source)) (now (a .tape)) (a .i) .text))) (not v))) (ap (among (startAt (now (a .tape)) (a .i))) (c .before .before .before .before .before .before .before .before .before .pre .3) ∙ attached-is (anchorOf (now (a .source)) (now (a .tape)) (a .rec .anchor) (a .i)) (forest (now (a .source)) (now (a .tape)) (a .i) (a .to)) _)
+    c .is-misplaced .ensures ∙ ap (λ (v : Bool). (oneOf numberMarkers (now (a .name)) && (oneOf numberMarkers (nameOf (nodeAt (now (a .source)) (now (a .tape)) (a .i) .text)) && not v))) (ap (among (startAt (now (a .tape)) (a .i))) (c .before .before .before .before .before .before .before .before .before .pre .3) ∙ attached-is (anchorOf (now (a .source)) (now (a .tape)) (a .rec .anchor) (a .i)) (forest (now (a .source)) (now (a .tape)) (a .i) (a .to)) _)
 
 left-1 : (c : tie.After-push-for-node) → Due (c .before .before .before .before .before .before .before .before .before .before .before) 1 (c .push-for-node .last .1 .1 .1 .1 .1 .1 .0) (c .push-for-node .result)
 left-1 c =

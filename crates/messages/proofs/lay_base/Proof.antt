@@ -1,5 +1,6 @@
 -- `messages::lay_base` meets its contract.
 -- Assumes nothing.
+use mathlib.Core.Bool.{_||_}
 use Prim.Native.Nat.{ℕ, _≤_, _-_}
 use mathlib.Core.Path.{refl, ap, _∙_}
 use mathlib.Core.List.{List, []}
@@ -7,7 +8,6 @@ use native.Mathlib.Omega.{arith}
 use denote.Ref.{now}
 use lib.ListN.{length}
 use borrow.Author.Tests.{not-true, not-false}
-use Rattle.text.specs.Pick.{either}
 use Rattle.tape.specs.Nodes.{nodeAt}
 use Rattle.cursor.specs.Names.{nameOf}
 use Rattle.cursor.specs.Info.{infoAt}
@@ -48,7 +48,7 @@ returns-2 c =
     let n = c .before .before .name-shown in
     let is = by-source (a .q .code) (nameOr (now (a .table)) (infoAt (now (a .table)) (now (a .tape)) (a .q .node))) (nameOf (nodeAt (now (a .source)) (now (a .tape)) (a .q .node) .text)) (now (n .result)) (n .ensures) 16 refl (s .pre .1) in
     let b = c .before .is-paired in
-    let paired = b .ensures ∙ ap (λ (x : List ℕ). either (endsIn 0x73 x) (endsIn 0x65 x)) is in
+    let paired = b .ensures ∙ ap (λ (x : List ℕ). (endsIn 0x73 x || endsIn 0x65 x)) is in
     laid-lacks (now (a .table)) (now (a .source)) (now (a .tape)) (askedBy (a .q)) texts.base texts.empty texts.empty (holes-16 (a .q .code) (s .pre .1))
     (no-base (now (a .table)) (now (a .source)) (now (a .tape)) (askedBy (a .q)) (b .result) paired (not-true _ (c .if2 .taken)) (c .before .before .before .if1 .left))
     (now (a .out))
@@ -83,7 +83,7 @@ returns-3 c =
     let n = c .before .before .before .before .before .before .before .before .before .name-shown in
     let is = by-source (a .q .code) (nameOr (now (a .table)) (infoAt (now (a .table)) (now (a .tape)) (a .q .node))) (nameOf (nodeAt (now (a .source)) (now (a .tape)) (a .q .node) .text)) (now (n .result)) (n .ensures) 16 refl (s .pre .1) in
     let b = c .before .before .before .before .before .before .before .before .is-paired in
-    let paired = b .ensures ∙ ap (λ (x : List ℕ). either (endsIn 0x73 x) (endsIn 0x65 x)) is in
+    let paired = b .ensures ∙ ap (λ (x : List ℕ). (endsIn 0x73 x || endsIn 0x65 x)) is in
     let m = c .before .before .before .before .before .before .base in
     laid-with (now (a .table)) (now (a .source)) (now (a .tape)) (askedBy (a .q)) texts.base texts.empty texts.empty (holes-16 (a .q .code) (s .pre .1))
     (now (m .result)) [] []

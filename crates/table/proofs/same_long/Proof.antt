@@ -6,10 +6,9 @@ use Prim.Native.Nat.{_+_, _-_, _≤_}
 use borrow.Author.Tests.{not-true, not-false}
 use denote.Ref.{now}
 use lib.ListN.{length, drop}
-use mathlib.Core.Bool.{Bool, true, false}
+use mathlib.Core.Bool.{Bool, true, false, _&&_}
 use mathlib.Core.Path.{_≡_, refl, sym, _∙_}
 use native.Mathlib.Omega.{arith}
-use Rattle.text.specs.Pick.{both}
 use Rattle.table.specs.Bytes.{equal}
 use Rattle.table.proofs.Blocks.{block, ending, ends-apart, ends-same}
 use Rattle.table.proofs.same_long.Statement.{statement}
@@ -49,7 +48,7 @@ same-8-requires-2 : tie.Need-same-8-requires-2 Inv-loop μ-loop
 same-8-requires-2 c κs = (omega arith, omega arith)
 
 -- what a block says of the lists
-past : (c : tie.After-same-82 Inv-loop μ-loop) (t : Bool) → c .same-82 .result ≡ t → equal (now (c .before .before .before .before .before .before .before .args .a)) (now (c .before .before .before .before .before .before .before .args .b)) ≡ both t (equal (drop (c .before .before .loop .i + 8) (now (c .before .before .before .before .before .before .before .args .a))) (drop (c .before .before .loop .i + 8) (now (c .before .before .before .before .before .before .before .args .b))))
+past : (c : tie.After-same-82 Inv-loop μ-loop) (t : Bool) → c .same-82 .result ≡ t → equal (now (c .before .before .before .before .before .before .before .args .a)) (now (c .before .before .before .before .before .before .before .args .b)) ≡ (t && equal (drop (c .before .before .loop .i + 8) (now (c .before .before .before .before .before .before .before .args .a))) (drop (c .before .before .loop .i + 8) (now (c .before .before .before .before .before .before .before .args .b))))
 past c t e =
     let l = c .before .before .loop in
     l .inv .4 ∙ block _ _ (l .i) 8 (l .inv .0) (omega (arith, l .inv .1)) ∙ rw (← c .same-82 .ensures, e)

@@ -2,12 +2,11 @@
 -- Assumes nothing.
 use borrow.Author.Needs.{needs}
 use denote.Ref.{now}
-use mathlib.Core.Bool.{Bool, not}
+use mathlib.Core.Bool.{Bool, not, _&&_}
 use mathlib.Core.Path.{sym, ap, _∙_}
 use native.Mathlib.Omega.{arith}
 use Rattle.tape.proofs.Last.{root-whole, root-other, root-last}
 use Rattle.tape.specs.Nodes.{kindAt, isClose}
-use Rattle.text.specs.Pick.{both}
 use Rattle.tape.proofs.good_root.Statement.{statement}
 use Rattle.tape.proofs.good_root.Tie as tie
 
@@ -35,7 +34,7 @@ returns-3 c =
     let a = c .before .before .before .before .before .before .args in
     let k = c .before .before .kind-at in
     let x = c .before .is-close in
-    sym (ap (λ (y : Bool). both y (not (a .taken))) (c .if3 .taken))
+    sym (ap (λ (y : Bool). (y && not (a .taken))) (c .if3 .taken))
     ∙ root-last (a .root) (a .n) (isClose (kindAt (now (a .tape)) (a .root))) (a .taken) (x .result) (c .before .before .before .before .if1 .left) (omega (arith, c .before .before .before .if2 .left)) (omega arith) (x .ensures ∙ ap isClose (k .ensures))
 
 returns-4 : tie.Need-returns-4
@@ -43,7 +42,7 @@ returns-4 c =
     let a = c .before .before .before .before .before .before .args in
     let k = c .before .before .kind-at in
     let x = c .before .is-close in
-    sym (ap (λ (y : Bool). both y (not (a .taken))) (c .if3 .left))
+    sym (ap (λ (y : Bool). (y && not (a .taken))) (c .if3 .left))
     ∙ root-last (a .root) (a .n) (isClose (kindAt (now (a .tape)) (a .root))) (a .taken) (x .result) (c .before .before .before .before .if1 .left) (omega (arith, c .before .before .before .if2 .left)) (omega arith) (x .ensures ∙ ap isClose (k .ensures))
 
 pub good-root-spec : {M : Type 1} → statement M
