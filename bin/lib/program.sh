@@ -19,11 +19,12 @@ fail() {
 
 command -v rt > /dev/null || fail "there is no rt on PATH: this needs the Rattle kit"
 
-# Prints one sum over all that a program is made of: the kit, the list of crates, and the names and contents of their sources.
+# Prints one sum over all that a program and its proofs are made of: the kit, the list of crates, and the names and contents of
+# their files.
 sum_of_sources() { # FOLDER
     (
         rt version && uname -m && cd "$1" && sha256sum crates.txt &&
-            find -L crates/*/src -type f -print0 | LC_ALL=C sort -z | xargs -0 sha256sum
+            find -L crates -type f -print0 | LC_ALL=C sort -z | xargs -0 sha256sum
     ) | sha256sum | cut -d ' ' -f 1
 }
 
@@ -80,7 +81,7 @@ compile() { # NAME
 PATH=${PATH@Q} work=${work@Q}
 ${tools@Q}/bin/ld.lld "\$@" || exit
 [ -e "\$work/first" ] || { : > "\$work/first"; exit; }
-while [ "\$1" != -o ]; do shift; done
+while [ \$# -gt 0 ] && [ "\$1" != -o ]; do shift; done
 cp "\$2" "\$work/copy" && mv "\$work/copy" "\$work/program"
 exit 1
 LINKER
@@ -145,7 +146,7 @@ find_program() { # NAME
         work=$(mktemp -d)
         # A copy, so that an edit made meanwhile can't get into the program under the sum of what was there before it.
         mkdir "$work/sources"
-        (cd "$repository" && cp -RL --parents crates.txt crates/*/src "$work/sources")
+        (cd "$repository" && cp -RL --parents crates.txt crates "$work/sources")
         sum=$(sum_of_sources "$work/sources")
         program=$repository/target/quick/$sum/$1
         if ! compile "$1"; then

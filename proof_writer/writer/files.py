@@ -7,6 +7,8 @@ from .terms import (bracketed, capitals, dashed, flat, listed, of_pairs, pairs, 
 from .walk import Walk
 from . import mir
 
+# how the first line of a written file begins
+WRITTEN = '-- Written by proof_writer/write'
 MODEL = '{M : Type 1} (𝓤 : URA M) (H : Heap 𝓤) (A : Atoms 𝓤)'
 TABLES = '(tablesOf 𝓤 H 𝓜 (tables 𝓤 H 𝓜 𝓡 code.env))'
 ALWAYS = ['use prog.Wp.{afterTurn}', 'use contract.Running.{tablesOf}', 'use denote.Struct.Laws as LL', 'use denote.Enum.Laws as EL']
@@ -28,7 +30,7 @@ class Crate:
         self.mir = mir.functions(sources.root, name)
         self.written = {}
         self.walk_words = public_names(os.path.join(sources.root, 'crates/reference_laws/proofs/Walk.antt'))
-        self.header = '-- Written by proof_writer/write from proof_writer/descriptions/%s.py, from the code and its contracts.\n' % name
+        self.header = WRITTEN + ' from proof_writer/descriptions/%s.py, from the code and its contracts.\n' % name
 
     def default(self, type_):
         return description_default(self.description, type_)

@@ -33,7 +33,7 @@ class Function:
 
 
 def functions(root, crate):
-    run = subprocess.run(['rt', 'mir', crate], capture_output=True, text=True, cwd=root, env=None)
+    run = subprocess.run(['rt', 'mir', crate], capture_output=True, text=True, cwd=root)
     found = {}
 
     def search(x):
@@ -46,7 +46,7 @@ def functions(root, crate):
             for y in x:
                 search(y)
     search(expression(run.stdout))
-    if not found:
+    if run.returncode != 0 or not found:
         raise SystemExit('rt mir %s gave no function:\n%s' % (crate, run.stderr[-2000:]))
     return found
 

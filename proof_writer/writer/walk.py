@@ -372,7 +372,7 @@ class Walk(Statements, Calls):
     def loop_(self, body, state, rest):
         if self.next('loop') > 1:
             raise Refused('%s: a second loop' % self.where)
-        said = dict(self.description['loop'])
+        said = dict(description_of(self.description, 'loop', 'key', self.where))
         said['values'] = said['changes']
         said['holds'] = said['keeps']
         stand = self.stand(said, state, mir.assigned(body), 'kept')
@@ -412,7 +412,7 @@ class Walk(Statements, Calls):
         if 'arms' in self.description:
             proof = description_of(self.description['arms'], ', '.join(self.path) or 'end', 'arm', self.where)
         else:
-            proof = self.description['returns']
+            proof = description_of(self.description, 'returns', 'key', self.where)
         if isinstance(proof, dict):
             proof = pairs([description_of(proof, clause[0], 'ensures', self.where) for clause in self.function.ensures])
         value = state.cells[0]

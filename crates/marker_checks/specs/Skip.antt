@@ -1,4 +1,4 @@
--- A test of a marker. Where it holds, nothing is said of the marker and its children change nothing, which `skipped-marked` and, in `checker`, `visited-skipped` prove; it holds of most markers of a book.
+-- A test of a marker. Where it holds, nothing is said of the marker and its children change nothing, which `skipped-marked` and, in `walk`, `visited-skipped` prove; it holds of most markers of a book.
 use Prim.Native.Nat.{ℕ}
 use mathlib.Core.Bool.{Bool, true, false, not, _&&_, _||_}
 use mathlib.Core.List.{List}
