@@ -2,7 +2,7 @@
 -- Assumes nothing.
 use Prim.Native.Nat.{ℕ, zero, suc, _<_}
 use mathlib.Core.Path.{_≡_, refl, sym, _∙_}
-use mathlib.Core.Bool.{Bool, true, false, not, _&&_, _||_}
+use mathlib.Core.Bool.{Bool, true, false, not, _&&_, _||_, and-true, or-false}
 use mathlib.Core.List.{List, [], _∷_, _++_}
 use native.Mathlib.Omega.{arith}
 use lib.Dec.{eqb}
@@ -10,7 +10,7 @@ use lib.ListN.{length, getD, take}
 use borrow.Author.Tests.{eq-eqb, ne-eqb}
 use Rattle.text.specs.Pick.{cut}
 use Rattle.text.specs.Words.{blankText}
-use Rattle.tape.specs.Nodes.{nodeAt, kindAt, span}
+use Rattle.tape.specs.Nodes.{nodeAt, kindAt, span, chapterKind}
 use Rattle.table.specs.Bytes.{equal}
 use Rattle.table.proofs.Words.{equal-apart}
 use Rattle.cursor.specs.Names.{nameOf}
@@ -18,15 +18,11 @@ use Rattle.attachment.specs.Attached.{letter, isAlternate, isPublished, 
 use Rattle.attachment.specs.Inner.{claimsAt, takenAlternate, takenPublished}
 use Rattle.attachment.specs.declared.Attached.{Attached}
 
-pub letter-chapter : (kind : ℕ) → kind ≡ 3 → 0x63 ≡ letter kind
-letter-chapter kind e = rw (eq-eqb kind 3 e)
+pub letter-chapter : (kind : ℕ) → kind ≡ chapterKind → 0x63 ≡ letter kind
+letter-chapter kind e = rw (eq-eqb kind chapterKind e)
 
-pub letter-verse : (kind : ℕ) → (kind ≡ 3 → ⊥) → 0x76 ≡ letter kind
-letter-verse kind n = rw (ne-eqb kind 3 n)
-
-both-true : (v : Bool) → v ≡ (v && true)
-both-true true = refl
-both-true false = refl
+pub letter-verse : (kind : ℕ) → (kind ≡ chapterKind → ⊥) → 0x76 ≡ letter kind
+letter-verse kind n = rw (ne-eqb kind chapterKind n)
 
 -- a name of two bytes
 pub pair-length : (s : List ℕ) (a b : ℕ) → (length s ≡ 2 → ⊥) → false ≡ equal s (a ∷ b ∷ [])
@@ -34,7 +30,7 @@ pair-length s a b h = sym (equal-apart s (a ∷ b ∷ []) h)
 
 pub pair-first : (s : List ℕ) (a b : ℕ) → length s ≡ 2 → getD s 0 0 ≡ a → eqb (getD s 1 0) b ≡ equal s (a ∷ b ∷ [])
 unfolding equal
-pair-first (x ∷ y ∷ []) a b h e = rw (eq-eqb x a e) (both-true (eqb y b))
+pair-first (x ∷ y ∷ []) a b h e = rw (eq-eqb x a e) (sym (and-true (eqb y b)))
 pair-first [] a b h e = absurd (omega arith)
 pair-first (x ∷ []) a b h e = absurd (omega arith)
 pair-first (x ∷ y ∷ z ∷ s) a b h e = absurd (omega arith)
@@ -95,10 +91,6 @@ pub added-second : (a : Attached) (n : ℕ) → (a .count ≡ 0 → ⊥) → len
 added-second a n e h = rw (lone (a .count) (a .first) (a .second) e h)
 
 -- whether an offset is among those found
-either-none : (v : Bool) → v ≡ (v || false)
-either-none true = refl
-either-none false = refl
-
 module _ (at x y : ℕ) where
   pub among-none : (k : ℕ) → k ≡ 0 → false ≡ among at (take k (x ∷ y ∷ []))
   unfolding among
@@ -117,5 +109,5 @@ module _ (at x y : ℕ) where
   unfolding among
   among-second zero n f m = absurd (n refl)
   among-second (suc zero) n f m = absurd (m refl)
-  among-second (suc (suc zero)) n f m = rw (ne-eqb x at f) (either-none (eqb y at))
-  among-second (suc (suc (suc k))) n f m = rw (ne-eqb x at f) (either-none (eqb y at))
+  among-second (suc (suc zero)) n f m = rw (ne-eqb x at f) (sym (or-false (eqb y at)))
+  among-second (suc (suc (suc k))) n f m = rw (ne-eqb x at f) (sym (or-false (eqb y at)))

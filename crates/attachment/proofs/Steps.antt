@@ -8,8 +8,7 @@ use native.Mathlib.Omega.{arith}
 use lib.ListN.{length, length-append}
 use borrow.Author.Tests.{eq-eqb, ne-eqb, eqb-true}
 use Rattle.text.specs.Pick.{pick}
-use Rattle.text.proofs.Rows.{both-left, both-right}
-use Rattle.tape.specs.Nodes.{Node, nodeAt, kindAt, startAt, linkAt, isOpen}
+use Rattle.tape.specs.Nodes.{Node, nodeAt, kindAt, startAt, linkAt, isOpen, markerOpenKind, textKind}
 use Rattle.tape.specs.Forest.{forest}
 use Rattle.tape.proofs.Nest.{forest-done}
 use Rattle.cursor.specs.Names.{nameOf}
@@ -19,18 +18,19 @@ use Rattle.cursor.proofs.Runs.{run-next, run-children, forest-at-leaf, forest-a
 use Rattle.attachment.specs.Attached.{isAlternate, isPublished, claims, isBlank, plain, onlyIf, runOf, attachedNumbers, starts, startsOf}
 use Rattle.attachment.specs.Inner.{claimsAt, takenAlternate, takenPublished}
 use Rattle.attachment.specs.declared.Attached.{Attached}
+use Rattle.text.proofs.Bool.{and-left, and-right}
 
 -- plainness
 module _ (s t : List ℕ) (a b : ℕ) (run : Run s t a b) (more : a < b) where
-  pub plain-not : kindAt t a ≡ 1 → plain (forest s t a b) ≡ false
+  pub plain-not : kindAt t a ≡ markerOpenKind → plain (forest s t a b) ≡ false
   unfolding plain
-  plain-not e = rw (forest-at-open s t a b run more (eq-eqb (kindAt t a) 1 e))
+  plain-not e = rw (forest-at-open s t a b run more (eq-eqb (kindAt t a) markerOpenKind e))
 
-  pub plain-past : (kindAt t a ≡ 1 → ⊥) → plain (forest s t a b) ≡ plain (forest s t (pastNode t a) b)
+  pub plain-past : (kindAt t a ≡ markerOpenKind → ⊥) → plain (forest s t a b) ≡ plain (forest s t (pastNode t a) b)
   unfolding plain
-  plain-past n = rw (forest-at-leaf s t a b run more (ne-eqb (kindAt t a) 1 n))
+  plain-past n = rw (forest-at-leaf s t a b run more (ne-eqb (kindAt t a) markerOpenKind n))
 
-pub plain-going : (s t : List ℕ) (from i to : ℕ) → (Run s t i to) × (plain (forest s t i to) ≡ plain (forest s t from to)) → i < to → (kindAt t i ≡ 1 → ⊥) → (j : ℕ) → j ≡ pastNode t i → (Run s t j to) × (plain (forest s t j to) ≡ plain (forest s t from to))
+pub plain-going : (s t : List ℕ) (from i to : ℕ) → (Run s t i to) × (plain (forest s t i to) ≡ plain (forest s t from to)) → i < to → (kindAt t i ≡ markerOpenKind → ⊥) → (j : ℕ) → j ≡ pastNode t i → (Run s t j to) × (plain (forest s t j to) ≡ plain (forest s t from to))
 plain-going s t from i to h l n j e = rw e (run-next s t i to (h .0) l, sym (plain-past s t i to (h .0) l n) ∙ h .1)
 
 pub plain-end : (s t : List ℕ) (a b : ℕ) → b ≤ a → plain (forest s t a b) ≡ true
@@ -100,8 +100,8 @@ module _ (s t : List ℕ) (kind from to : ℕ) (found : Attached) (alt pubn : Bo
 
     pub going-blank : (j : ℕ) → isBlank (nodeAt s t i) ≡ true → j ≡ pastNode t i → Going s t kind from to found alt pubn j
     going-blank j h e =
-        let k : kindAt t i ≡ 5 = eqb-true (kindAt t i) 5 (both-left _ _ h) in
-        let o : isOpen (kindAt t i) ≡ false = ne-eqb (kindAt t i) 1 (omega arith) in
+        let k : kindAt t i ≡ textKind = eqb-true (kindAt t i) textKind (and-left _ _ h) in
+        let o : isOpen (kindAt t i) ≡ false = ne-eqb (kindAt t i) markerOpenKind (omega arith) in
         rw e
         (record {
           run = run-next s t i to (g .run) more;
@@ -121,10 +121,10 @@ module _ (s t : List ℕ) (kind from to : ℕ) (found : Attached) (alt pubn : Bo
 
     module _ (claimed : claimsAt kind alt pubn (nodeAt s t i) ≡ true) where
       pub going-open : isOpen (kindAt t i) ≡ true
-      going-open = both-left (isOpen (kindAt t i)) _ claimed
+      going-open = and-left (isOpen (kindAt t i)) _ claimed
 
       named : claims kind alt pubn (nameOf (nodeAt s t i .text)) ≡ true
-      named = both-right (isOpen (kindAt t i)) _ claimed
+      named = and-right (isOpen (kindAt t i)) _ claimed
 
       one-more : bit alt + bit pubn < bit (takenAlternate kind alt (nodeAt s t i)) + bit (takenPublished kind pubn (nodeAt s t i))
       one-more = taken-more (isAlternate kind (nameOf (nodeAt s t i .text))) (isPublished kind (nameOf (nodeAt s t i .text))) alt pubn named

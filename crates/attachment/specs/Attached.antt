@@ -7,7 +7,7 @@ use lib.Dec.{eqb}
 use lib.ListN.{take}
 use Rattle.text.specs.Pick.{pick}
 use Rattle.text.specs.Words.{blankText}
-use Rattle.tape.specs.Nodes.{Node}
+use Rattle.tape.specs.Nodes.{Node, chapterKind, textKind}
 use Rattle.tape.specs.Forest.{Forest, end, leaf, node}
 use Rattle.table.specs.Bytes.{equal}
 use Rattle.cursor.specs.Names.{nameOf}
@@ -15,7 +15,7 @@ use Rattle.attachment.specs.declared.Attached.{Attached}
 
 -- `c` of a Chapter, `v` of a Verse: the letter with which the names of its numbers begin
 abbrev pub letter : ℕ → ℕ
-letter kind = pick (eqb kind 3) 0x63 0x76
+letter kind = pick (eqb kind chapterKind) 0x63 0x76
 
 -- "`\ca`/`\va` (alternate)"
 unfoldable pub isAlternate : ℕ → List ℕ → Bool
@@ -31,7 +31,7 @@ claims kind alt pubn name = (isAlternate kind name && not alt) || (isPublished k
 
 -- a blank or empty Text
 abbrev pub isBlank : Node → Bool
-isBlank x = eqb (x .kind) 5 && blankText (x .text)
+isBlank x = eqb (x .kind) textKind && blankText (x .text)
 
 -- "no nested marker children"
 unfoldable pub plain : Forest → Bool

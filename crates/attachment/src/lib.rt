@@ -22,7 +22,7 @@ pub struct Attached {
 fn letter(kind: u8) -> u8
     ensures { λ r. ⌜ r ≡ Rattle.attachment.specs.Attached.letter kind ⌝ }
 {
-    if kind == 3 { b'c' } else { b'v' }
+    if kind == tape::CHAPTER { b'c' } else { b'v' }
 }
 
 fn is_pair(name: &[u8], a: u8, b: u8) -> bool
@@ -51,7 +51,7 @@ pub fn is_blank(source: &[u8], tape: &[u8], i: usize) -> bool
     requires { ⌜ Spanned (now source) (now tape) i ⌝ }
     ensures { λ r. ⌜ r ≡ isBlank (nodeAt (now (source .entry)) (now (tape .entry)) i) ⌝ }
 {
-    if tape::kind_at(tape, i) != 5 {
+    if tape::kind_at(tape, i) != tape::TEXT {
         return false;
     }
     text::is_blank_text(cursor::text(source, tape, i))
@@ -64,7 +64,7 @@ pub fn is_plain_text(source: &[u8], tape: &[u8], from: usize, to: usize) -> bool
 {
     let mut i = from;
     while i < to {
-        if tape::kind_at(tape, i) == 1 {
+        if tape::kind_at(tape, i) == tape::MARKER_OPEN {
             return false;
         }
         i = cursor::past_node(tape, i);
@@ -94,7 +94,7 @@ fn claims_at(source: &[u8], tape: &[u8], i: usize, kind: u8, alt: bool, pubn: bo
     requires { ⌜ Spanned (now source) (now tape) i ⌝ }
     ensures { λ r. ⌜ r ≡ claimsAt kind alt pubn (nodeAt (now (source .entry)) (now (tape .entry)) i) ⌝ }
 {
-    if tape::kind_at(tape, i) != 1 {
+    if tape::kind_at(tape, i) != tape::MARKER_OPEN {
         return false;
     }
     claims(kind, alt, pubn, cursor::marker_name(source, tape, i))

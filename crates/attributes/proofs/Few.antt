@@ -19,6 +19,7 @@ use Rattle.table.specs.Names.{defaultOf}
 use Rattle.cursor.specs.Names.{pastOne}
 use Rattle.findings.specs.Finding.{Finding, Kind}
 use Rattle.attributes.specs.Attributes.{emptyList, noDefault, Mode, between, key, value, opened, quoted, escaping, unquoted, Step, go, tell, stop, step, ended, resume, scan, afterBar, body, hasDefault, holdsEquals, attributeKinds, findingsAt, attributeFindings, attributesFindings}
+use Rattle.tape.specs.Nodes.{attributeKind}
 
 chars-few : (k : ℕ) (s : List ℕ) → length (charsPast k s) ≤ length s
 unfolding charsPast
@@ -72,7 +73,7 @@ at-few start len number owner (k ∷ ks) = ap suc (at-few start len number owner
 pub attributes-few : (owner : ℕ) (marker : List ℕ) (f : Forest) → length (attributesFindings owner marker f) ≤ breadth f
 unfolding attributesFindings breadth
 attributes-few owner marker end = le-refl 0
-attributes-few owner marker (leaf x r) = choose (eqb (x .kind) 6) (attributes-few owner marker r)
+attributes-few owner marker (leaf x r) = choose (eqb (x .kind) attributeKind) (attributes-few owner marker r)
   where
     choose : (b : Bool) → length (attributesFindings owner marker r) ≤ breadth r → length (pick b (attributeFindings owner marker x) [] ++ attributesFindings owner marker r) ≤ 1 + length (x .text) + breadth r
     choose true h =

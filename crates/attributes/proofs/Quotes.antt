@@ -1,7 +1,7 @@
 -- A value between quotes: the scan of its characters, and the search for its closing quote among its bytes.
 -- Assumes nothing.
 use mathlib.Core.Path.{_≡_, refl, sym, _∙_}
-use mathlib.Core.Bool.{Bool, true, false, not, false≢true, _&&_, _||_}
+use mathlib.Core.Bool.{Bool, true, false, not, false≢true, _&&_, _||_, and-false}
 use mathlib.Core.List.{List, [], _∷_, _++_}
 use Prim.Native.Nat.{ℕ, zero, suc, _+_, _-_, _<_, _≤_}
 use native.Mathlib.Nat.{not-suc-le-zero, add-zero}
@@ -13,12 +13,13 @@ use borrow.Author.Tests.{lt-ltb, le-ltb, eq-eqb, ne-eqb, eqb-true}
 use Rattle.text.specs.Pick.{pick}
 use Rattle.text.specs.Utf8.{decode}
 use Rattle.text.specs.Characters.{chars, findByte}
-use Rattle.text.proofs.Rows.{both-false, both-left, place}
+use Rattle.text.proofs.Rows.{place}
 use Rattle.text.proofs.Find.{find-bytes}
 use Rattle.findings.specs.Finding.{Kind}
 use Rattle.attributes.specs.Attributes.{Mode, between, value, opened, quoted, escaping, go, inQuotes, step, scan, emptyValue, unterminated}
 use Rattle.attributes.specs.Inner.{leads, escapes, closing}
 use Rattle.attributes.proofs.Scanning.{scan-end, scan-char, scan-byte, same-code, neither, stay, leads-at}
+use Rattle.text.proofs.Bool.{and-left}
 
 -- a quote or a backslash
 abbrev special : ℕ → Bool
@@ -85,8 +86,8 @@ quoted-closes false [] = scan-end quoted
 quoted-closes e (b ∷ s) = test (eqb b 0x22 && not e) refl (quoted-closes (eqb b 0x5C) s)
   where
     closes-at : (e : Bool) → (eqb b 0x22 && not e) ≡ true → scan (inside e) (chars (b ∷ s)) ≡ closedBy 0 (b ∷ s)
-    closes-at true h = absurd (false≢true (sym (both-false (eqb b 0x22)) ∙ h))
-    closes-at false h = closes-here b s (both-left (eqb b 0x22) true h)
+    closes-at true h = absurd (false≢true (sym (and-false (eqb b 0x22)) ∙ h))
+    closes-at false h = closes-here b s (and-left (eqb b 0x22) true h)
 
     test : (t : Bool) → (eqb b 0x22 && not e) ≡ t → scan (inside (eqb b 0x5C)) (chars s) ≡ closedBy (closing (eqb b 0x5C) s) s → scan (inside e) (chars (b ∷ s)) ≡ closedBy (pick t 0 (suc (closing (eqb b 0x5C) s))) (b ∷ s)
     test true h ih = closes-at e h
@@ -130,7 +131,7 @@ jump : (l : List ℕ) (r : ℕ) → r ≡ pick (escapes l) 2 1 → leads 0x22 l 
 unfolding closing
 jump [] r e h g = absurd (not-suc-le-zero g)
 jump (b ∷ []) r e h g =
-    let z : r ≡ 1 = e ∙ rw (both-false (eqb b 0x5C)) in
+    let z : r ≡ 1 = e ∙ rw (and-false (eqb b 0x5C)) in
     rw (z, h) (omega arith, omega arith, omega arith)
 jump (b ∷ x ∷ s) r e h g = rw (e, h) (test (eqb b 0x5C) (eqb x 0x22) refl)
   where

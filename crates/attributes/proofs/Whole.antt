@@ -9,7 +9,7 @@ use lib.ListN.{length}
 use borrow.Author.Tests.{eq-eqb, ne-eqb, eqb-true, lt-ltb, le-ltb}
 use Rattle.text.specs.Pick.{cut, pick}
 use Rattle.text.specs.Characters.{chars, findByte}
-use Rattle.tape.specs.Nodes.{nodeAt, kindAt, startAt, lenAt, span, isOpen}
+use Rattle.tape.specs.Nodes.{nodeAt, kindAt, startAt, lenAt, span, isOpen, markerOpenKind, attributeKind}
 use Rattle.tape.specs.Forest.{forest}
 use Rattle.tape.proofs.Nest.{forest-done}
 use Rattle.table.specs.Names.{defaultOf}
@@ -43,8 +43,8 @@ module _ (marker text b : List ℕ) (is : b ≡ body text) where
         test false = refl
 
 -- of a node that is an Attribute
-pub of-attribute : (owner : ℕ) (marker s t : List ℕ) (i a n : ℕ) (text : List ℕ) → marker ≡ cut (span t owner) s → kindAt t i ≡ 6 → a ≡ startAt t i → n ≡ lenAt t i → text ≡ cut (span t i) s → findingsAt a n i owner (attributeKinds (nameOf marker) text) ≡ ofNode owner (nameOf (nodeAt s t owner .text)) (nodeAt s t i)
-of-attribute owner marker s t i a n text m k e f g = rw (m, eq-eqb (kindAt t i) 6 k, e, f, g)
+pub of-attribute : (owner : ℕ) (marker s t : List ℕ) (i a n : ℕ) (text : List ℕ) → marker ≡ cut (span t owner) s → kindAt t i ≡ attributeKind → a ≡ startAt t i → n ≡ lenAt t i → text ≡ cut (span t i) s → findingsAt a n i owner (attributeKinds (nameOf marker) text) ≡ ofNode owner (nameOf (nodeAt s t owner .text)) (nodeAt s t i)
+of-attribute owner marker s t i a n text m k e f g = rw (m, eq-eqb (kindAt t i) attributeKind k, e, f, g)
 
 module _ (owner : ℕ) (s t : List ℕ) where
   abbrev marker : List ℕ
@@ -58,7 +58,7 @@ module _ (owner : ℕ) (s t : List ℕ) where
   among-next i b r h = test (isOpen (kindAt t i)) refl
     where
       test : (v : Bool) → isOpen (kindAt t i) ≡ v → among i b ≡ ofNode owner marker (nodeAt s t i) ++ among (pastNode t i) b
-      test true e = rw (forest-at-open s t i b r h e, eqb-true (kindAt t i) 1 e)
+      test true e = rw (forest-at-open s t i b r h e, eqb-true (kindAt t i) markerOpenKind e)
       test false e = rw (forest-at-leaf s t i b r h e)
 
   -- Before a node of the run, or at its end: what is left to write, of the list and the counts at the start, and now.

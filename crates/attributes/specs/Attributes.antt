@@ -9,36 +9,37 @@ use Rattle.text.specs.Blank.{blank}
 use Rattle.text.specs.declared.Decoded.{Decoded}
 use Rattle.text.specs.Characters.{chars, findByte}
 use Rattle.text.specs.Words.{trim}
-use Rattle.tape.specs.Nodes.{Node}
+use Rattle.tape.specs.Nodes.{Node, attributeKind}
 use Rattle.tape.specs.Forest.{Forest, end, leaf, node}
 use Rattle.table.specs.declared.DefaultAttribute.{DefaultAttribute}
 use Rattle.table.specs.declared.DefaultAttribute.the-variants.{Lemma, Gloss, Href, Loc, LinkHref, Id, Who, NoDefault}
 use Rattle.table.specs.Names.{defaultOf}
 use Rattle.cursor.specs.Names.{pastOne}
-use Rattle.findings.specs.Finding.{Finding, Kind}
+use Rattle.findings.specs.Finding.{Finding, Kind, errorSeverity, infoSeverity}
+use Rattle.findings.specs.Codes.{invalidAttributes, emptyListForm, keyAloneForm, emptyValueForm, unterminatedForm, unquotedAttributeValue, defaultAttributeNotDefined}
 
 abbrev pub kind : ℕ → ℕ → ℕ → Kind
 kind severity code form = record { severity = severity; code = code; form = form }
 
 -- "InvalidAttributes: 0 empty list, 1 key without a value, 2 empty value (the info), 3 unterminated"
 abbrev pub emptyList : Kind
-emptyList = kind 0 17 0
+emptyList = kind errorSeverity invalidAttributes emptyListForm
 
 abbrev pub keyAlone : Kind
-keyAlone = kind 0 17 1
+keyAlone = kind errorSeverity invalidAttributes keyAloneForm
 
 abbrev pub emptyValue : Kind
-emptyValue = kind 2 17 2
+emptyValue = kind infoSeverity invalidAttributes emptyValueForm
 
 abbrev pub unterminated : Kind
-unterminated = kind 0 17 3
+unterminated = kind errorSeverity invalidAttributes unterminatedForm
 
 -- UnquotedAttributeValue and DefaultAttributeNotDefined
 abbrev pub unquotedValue : Kind
-unquotedValue = kind 0 22 0
+unquotedValue = kind errorSeverity unquotedAttributeValue 0
 
 abbrev pub noDefault : Kind
-noDefault = kind 0 32 0
+noDefault = kind errorSeverity defaultAttributeNotDefined 0
 
 -- where the scan stands: before a key; in one; after its `=`; after the opening quote; in a quoted value; there, after a backslash; in a value without quotes
 pub data Mode : Type 0 where
@@ -128,7 +129,7 @@ findingsAt start len number owner (k ∷ ks) =
       len = len;
       node = number;
       form = k .form;
-      first = pick (eqb (k .code) 32) owner 0;
+      first = pick (eqb (k .code) defaultAttributeNotDefined) owner 0;
       second = 0;
     }
     ∷ findingsAt start len number owner ks
@@ -139,5 +140,5 @@ attributeFindings owner marker x = findingsAt (x .start) (x .len) (x .number) ow
 -- of all Attributes among the children of a node
 unfoldable pub attributesFindings : ℕ → List ℕ → Forest → List Finding
 attributesFindings owner marker end = []
-attributesFindings owner marker (leaf x r) = pick (eqb (x .kind) 6) (attributeFindings owner marker x) [] ++ attributesFindings owner marker r
+attributesFindings owner marker (leaf x r) = pick (eqb (x .kind) attributeKind) (attributeFindings owner marker x) [] ++ attributesFindings owner marker r
 attributesFindings owner marker (node x c r) = attributesFindings owner marker r

@@ -6,7 +6,7 @@ use lib.Dec.{eqb}
 use lib.ListN.{drop}
 use Rattle.text.specs.Pick.{pick}
 use Rattle.text.specs.Blank.{blank}
-use Rattle.tape.specs.Nodes.{Node}
+use Rattle.tape.specs.Nodes.{Node, attributeKind}
 use Rattle.findings.specs.Finding.{Finding, Kind}
 use Rattle.attributes.specs.declared.Where.{Where}
 use Rattle.attributes.specs.Attributes.{attributeFindings}
@@ -45,4 +45,4 @@ told w k first =
 
 -- of a node by itself
 abbrev pub ofNode : ℕ → List ℕ → Node → List Finding
-ofNode owner marker x = pick (eqb (x .kind) 6) (attributeFindings owner marker x) []
+ofNode owner marker x = pick (eqb (x .kind) attributeKind) (attributeFindings owner marker x) []

@@ -138,7 +138,13 @@ fn scan_list(body: &[u8], w: Where, list: &mut [u64], counts: Counts) -> Counts
     'scan: while i < body.len() {
         let key = key_end(body, i);
         if !byte_is(body, key, b'=') {
-            let alone = finding(w, Severity::Error, INVALID_ATTRIBUTES, 1, 0);
+            let alone = finding(
+                w,
+                Severity::Error,
+                INVALID_ATTRIBUTES,
+                findings::KEY_ALONE_FORM,
+                0,
+            );
             c = findings::push(list, c, alone);
             break 'scan;
         }
@@ -150,11 +156,23 @@ fn scan_list(body: &[u8], w: Where, list: &mut [u64], counts: Counts) -> Counts
         }
         let close = closing_quote(body, key + 2);
         if close == body.len() {
-            let unterminated = finding(w, Severity::Error, INVALID_ATTRIBUTES, 3, 0);
+            let unterminated = finding(
+                w,
+                Severity::Error,
+                INVALID_ATTRIBUTES,
+                findings::UNTERMINATED_FORM,
+                0,
+            );
             c = findings::push(list, c, unterminated);
             break 'scan;
         }
-        let empty = finding(w, Severity::Info, INVALID_ATTRIBUTES, 2, 0);
+        let empty = finding(
+            w,
+            Severity::Info,
+            INVALID_ATTRIBUTES,
+            findings::EMPTY_VALUE_FORM,
+            0,
+        );
         c = findings::push_if(list, c, close == key + 2, empty);
         i = text::find_from(body, close + 1, false);
     }
@@ -174,7 +192,13 @@ pub fn validate_attribute(
 {
     let body = text::trim(after_bar(text));
     if body.len() == 0 {
-        let none = finding(w, Severity::Error, INVALID_ATTRIBUTES, 0, 0);
+        let none = finding(
+            w,
+            Severity::Error,
+            INVALID_ATTRIBUTES,
+            findings::EMPTY_LIST_FORM,
+            0,
+        );
         return findings::push(list, c, none);
     }
     if text::find_byte(body, b'=') < body.len() {
@@ -203,7 +227,7 @@ fn attribute_at(
     requires { ⌜ (Spanned (now source) (now tape) i) × (Spanned (now source) (now tape) owner) × Room c (ofNode owner (nameOf (nodeAt (now source) (now tape) owner .text)) (nodeAt (now source) (now tape) i)) ⌝ }
     ensures { λ r. ⌜ Wrote (ofNode owner (nameOf (nodeAt (now (source .entry)) (now (tape .entry)) owner .text)) (nodeAt (now (source .entry)) (now (tape .entry)) i)) (now (list .entry)) c (now (list .exit)) r ⌝ }
 {
-    if tape::kind_at(tape, i) != 6 {
+    if tape::kind_at(tape, i) != tape::ATTRIBUTE {
         return c;
     }
     let span = cursor::span(tape, i);

@@ -10,8 +10,7 @@ use lib.Dec.{eqb}
 use lib.ListN.{length, set}
 use borrow.Author.Tests.{eq-eqb, ne-eqb}
 use Rattle.text.specs.Pick.{cut}
-use Rattle.tape.specs.Nodes.{nodeAt, kindAt, linkAt, span}
-use Rattle.tape.proofs.OneNumber.{either-false}
+use Rattle.tape.specs.Nodes.{nodeAt, kindAt, linkAt, span, chapterKind, verseKind}
 use Rattle.table.specs.Entries.{Entry}
 use Rattle.cursor.specs.Info.{infoAt}
 use Rattle.findings.specs.declared.Counts.{Counts}
@@ -29,6 +28,7 @@ use Rattle.state.specs.declared.Record.{Record}
 use Rattle.chapter_verse.specs.Inner.{PassedChapter, PassedVerse}
 use Rattle.chapter_verse.specs.Leaves.{LeafVisited}
 use Rattle.chapter_verse.proofs.Seen.{latest-push}
+use Rattle.text.proofs.Bool.{or-parts}
 
 -- the record as the code makes it of the chapter's number
 abbrev pub chapterRecord : ℕ → Record → Record
@@ -135,11 +135,11 @@ module _ (table s t : List ℕ) (o : state.Around) (i k : ℕ) (is-kind : k ≡ 
     module _ (chapter : k ≡ 3) where
       pub told-chapter : (st : State) → leafTold table o st (nodeAt s t i) .findings ≡ given (chapterChecks e st (nodeAt s t i))
       unfolding leafTold infoAt
-      told-chapter st = rw (eq-eqb (kindAt t i) 3 (sym is-kind ∙ chapter), is-entry) refl
+      told-chapter st = rw (eq-eqb (kindAt t i) chapterKind (sym is-kind ∙ chapter), is-entry) refl
 
       state-chapter : (st : State) → leafTold table o st (nodeAt s t i) .state ≡ afterChapter st (nodeAt s t i)
       unfolding leafTold
-      state-chapter st = rw (eq-eqb (kindAt t i) 3 (sym is-kind ∙ chapter)) refl
+      state-chapter st = rw (eq-eqb (kindAt t i) chapterKind (sym is-kind ∙ chapter)) refl
 
       pub room-chapter : (st : State) (c : Counts) → Room c (leafTold table o st (nodeAt s t i) .findings) → Room c (given (chapterChecks e st (nodeAt s t i)))
       room-chapter st c h = rw (told-chapter st) at h
@@ -159,16 +159,16 @@ module _ (table s t : List ℕ) (o : state.Around) (i k : ℕ) (is-kind : k ≡ 
           }
 
     module _ (number : numbered k ≡ true) (no-chapter : k ≡ 3 → ⊥) where
-      is-four : eqb (kindAt t i) 4 ≡ true
+      is-four : eqb (kindAt t i) verseKind ≡ true
       is-four = rw (← is-kind) (rw (ne-eqb k 3 no-chapter) at number)
 
       pub told-verse : (st : State) → leafTold table o st (nodeAt s t i) .findings ≡ given (verseChecks e o st (nodeAt s t i))
       unfolding leafTold infoAt
-      told-verse st = rw (ne-eqb (kindAt t i) 3 (λ z. no-chapter (is-kind ∙ z)), is-four, is-entry) refl
+      told-verse st = rw (ne-eqb (kindAt t i) chapterKind (λ z. no-chapter (is-kind ∙ z)), is-four, is-entry) refl
 
       state-verse : (st : State) → leafTold table o st (nodeAt s t i) .state ≡ afterVerse e o st (nodeAt s t i)
       unfolding leafTold infoAt
-      state-verse st = rw (ne-eqb (kindAt t i) 3 (λ z. no-chapter (is-kind ∙ z)), is-four, is-entry) refl
+      state-verse st = rw (ne-eqb (kindAt t i) chapterKind (λ z. no-chapter (is-kind ∙ z)), is-four, is-entry) refl
 
       pub room-verse : (st : State) (c : Counts) → Room c (leafTold table o st (nodeAt s t i) .findings) → Room c (given (verseChecks e o st (nodeAt s t i)))
       room-verse st c h = rw (told-verse st) at h
@@ -190,7 +190,7 @@ module _ (table s t : List ℕ) (o : state.Around) (i k : ℕ) (is-kind : k ≡ 
   pub visited-other : numbered k ≡ false → (seen l : List ℕ) (r : Record) → Sane r → LeafVisited table s t o i seen l r seen l r
   unfolding leafTold given
   visited-other no-number seen l r h =
-      let z = either-false (eqb (kindAt t i) 3) (eqb (kindAt t i) 4) (ap numbered (sym is-kind) ∙ no-number) in
+      let z = or-parts (eqb (kindAt t i) chapterKind) (eqb (kindAt t i) verseKind) (ap numbered (sym is-kind) ∙ no-number) in
       record {
         wrote = rw (z .0, z .1) (wrote-none l (countsOf r));
         state = λ opens. rw (z .0, z .1) refl;

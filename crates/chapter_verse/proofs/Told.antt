@@ -18,6 +18,8 @@ use Rattle.attachment.specs.Attached.{among}
 use Rattle.definition.specs.State.{State, Around}
 use Rattle.definition.specs.Checks.{Check, when, about, error, warning, isEmpty, breaks, letterByte}
 use Rattle.chapter_verse.specs.Inner.{LabelRead}
+use Rattle.findings.specs.Finding.{warningSeverity}
+use Rattle.findings.specs.Codes.{missingSpaceBeforeNumber, leadingZeros, missingChapterNumber, verseOutsideParagraph, charCrossesVerseBoundary, missingVerseNumber, duplicateChapter, invalidChapterSequence, invalidVerseSequence}
 
 abbrev pub label : Option Entry → Node → List ℕ
 label e x = labelOf e (x .text)
@@ -27,31 +29,31 @@ abbrev pub led : List ℕ → Bool
 led s = ltb 1 (length s) && eqb (getD s 0 0) 0x30
 
 abbrev pub spaced : Option Entry → Node → Check
-spaced e x = when (isGlued e (nameOf (x .text))) (warning x 34 0)
+spaced e x = when (isGlued e (nameOf (x .text))) (warning x missingSpaceBeforeNumber 0)
 
 abbrev pub zeros : ℕ → Option Entry → Node → Check
-zeros form e x = when (led (label e x)) (error x 15 form)
+zeros form e x = when (led (label e x)) (error x leadingZeros form)
 
 abbrev pub bareChapter : Option Entry → Node → Check
-bareChapter e x = when (isEmpty (label e x)) (error x 18 0)
+bareChapter e x = when (isEmpty (label e x)) (error x missingChapterNumber 0)
 
 abbrev pub twice : State → Node → Check
-twice st x = when (among (x .link) (st .seen)) (about x 1 10 0 (x .link) 0)
+twice st x = when (among (x .link) (st .seen)) (about x warningSeverity duplicateChapter 0 (x .link) 0)
 
 abbrev pub leaps : State → Node → Check
-leaps st x = when (not (eqb (x .link) (st .chapter))) (about x 1 9 0 (st .chapter) (x .link))
+leaps st x = when (not (eqb (x .link) (st .chapter))) (about x warningSeverity invalidChapterSequence 0 (st .chapter) (x .link))
 
 abbrev pub stray : Around → State → Node → Check
-stray o st x = when (not (o .body) && not (st .outsideWarned)) (warning x 12 0)
+stray o st x = when (not (o .body) && not (st .outsideWarned)) (warning x verseOutsideParagraph 0)
 
 abbrev pub crossing : Around → Node → Check
-crossing o x = when (o .char) (error x 20 0)
+crossing o x = when (o .char) (error x charCrossesVerseBoundary 0)
 
 abbrev pub bareVerse : Option Entry → Node → Check
-bareVerse e x = when (isEmpty (label e x)) (error x 19 0)
+bareVerse e x = when (isEmpty (label e x)) (error x missingVerseNumber 0)
 
 abbrev pub amiss : Option Entry → State → Node → Check
-amiss e st x = when (breaks (versePart (label e x)) (st .verse)) (about x 1 11 0 (st .verse .number) (letterByte (st .verse .letter)))
+amiss e st x = when (breaks (versePart (label e x)) (st .verse)) (about x warningSeverity invalidVerseSequence 0 (st .verse .number) (letterByte (st .verse .letter)))
 
 -- the label by its places in the node's text
 pub label-read : (e : Option Entry) (x : Node) (text : List ℕ) (at : LabelSpan) → text ≡ x .text → Labelled e text at → LabelRead e x (take (at .end - at .start) (drop (at .start) text)) (at .glued)
@@ -73,14 +75,14 @@ module _ (st : State) (x : Node) (n : ℕ) (is : n ≡ x .link) where
   pub is-twice : (b : Bool) → b ≡ among n (st .seen) → b ≡ twice st x .holds
   is-twice b h = h ∙ ap (λ (m : ℕ). among m (st .seen)) is
 
-  pub says-twice : about x 1 10 0 n 0 ≡ twice st x .finding
-  says-twice = ap (λ (m : ℕ). about x 1 10 0 m 0) is
+  pub says-twice : about x warningSeverity duplicateChapter 0 n 0 ≡ twice st x .finding
+  says-twice = ap (λ (m : ℕ). about x warningSeverity duplicateChapter 0 m 0) is
 
   pub is-leap : not (eqb n (st .chapter)) ≡ leaps st x .holds
   is-leap = ap (λ (m : ℕ). not (eqb m (st .chapter))) is
 
-  pub says-leap : about x 1 9 0 (st .chapter) n ≡ leaps st x .finding
-  says-leap = ap (λ (m : ℕ). about x 1 9 0 (st .chapter) m) is
+  pub says-leap : about x warningSeverity invalidChapterSequence 0 (st .chapter) n ≡ leaps st x .finding
+  says-leap = ap (λ (m : ℕ). about x warningSeverity invalidChapterSequence 0 (st .chapter) m) is
 
-pub says-amiss : (e : Option Entry) (st : State) (x : Node) (n : ℕ) → n ≡ letterByte (st .verse .letter) → about x 1 11 0 (st .verse .number) n ≡ amiss e st x .finding
-says-amiss e st x n h = ap (λ (m : ℕ). about x 1 11 0 (st .verse .number) m) h
+pub says-amiss : (e : Option Entry) (st : State) (x : Node) (n : ℕ) → n ≡ letterByte (st .verse .letter) → about x warningSeverity invalidVerseSequence 0 (st .verse .number) n ≡ amiss e st x .finding
+says-amiss e st x n h = ap (λ (m : ℕ). about x warningSeverity invalidVerseSequence 0 (st .verse .number) m) h

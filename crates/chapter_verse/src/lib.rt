@@ -181,7 +181,17 @@ fn chapter_findings(
     let d = error_if(tape, i, MISSING_CHAPTER_NUMBER, 0, bare, list, c);
     let e = warn_if(tape, i, DUPLICATE_CHAPTER, n, 0, twice, list, d);
     let g = warn_if(tape, i, INVALID_CHAPTER_SEQUENCE, next, n, leaps, list, e);
-    check_number_form(0, info, label, glued, source, tape, i, list, g)
+    check_number_form(
+        findings::CHAPTER_FORM,
+        info,
+        label,
+        glued,
+        source,
+        tape,
+        i,
+        list,
+        g,
+    )
 }
 
 // Whether what is read of a label breaks the sequence of verses.
@@ -234,7 +244,17 @@ fn verse_findings(
     let e = error_if(tape, i, CHAR_CROSSES_VERSE_BOUNDARY, 0, crosses, list, d);
     let g = error_if(tape, i, MISSING_VERSE_NUMBER, 0, bare, list, e);
     let h = warn_if(tape, i, INVALID_VERSE_SEQUENCE, n, letter, amiss, list, g);
-    check_number_form(1, info, label, glued, source, tape, i, list, h)
+    check_number_form(
+        findings::VERSE_FORM,
+        info,
+        label,
+        glued,
+        source,
+        tape,
+        i,
+        list,
+        h,
+    )
 }
 
 // The record after a Chapter, which is among those seen from now on.
@@ -353,7 +373,7 @@ pub fn visit_leaf(
     let to = at.end;
     let label = &text[from..to];
     let glued = at.glued;
-    if kind == 3 {
+    if kind == tape::CHAPTER {
         let c = chapter_findings(info, label, glued, source, tape, i, seen, rec, list);
         let q = after_chapter(tape, i, rec, seen);
         return state::with_counts(q, c);

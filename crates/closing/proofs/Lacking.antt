@@ -5,12 +5,13 @@ use mathlib.Core.Bool.{Bool, not, _&&_, _||_}
 use Rattle.definition.specs.Checks.{Check, when}
 use Rattle.definition.specs.Document.{ofDocument}
 use Rattle.state.specs.declared.Record.{Record}
+use Rattle.findings.specs.Codes.{missingIdMarker, missingChapterMarker}
 
 abbrev pub noId : Record → Check
-noId r = when (not (r .«has_id») && (r .«has_chapter» || r .«has_verse»)) (ofDocument 4)
+noId r = when (not (r .«has_id») && (r .«has_chapter» || r .«has_verse»)) (ofDocument missingIdMarker)
 
 abbrev pub noChapter : Record → Check
-noChapter r = when ((r .«has_id» || r .«has_verse») && (not (r .«has_chapter») && not (r .«front_matter»))) (ofDocument 8)
+noChapter r = when ((r .«has_id» || r .«has_verse») && (not (r .«has_chapter») && not (r .«front_matter»))) (ofDocument missingChapterMarker)
 
 pub is-no-id : (r : Record) (numbered b : Bool) → numbered ≡ (r .«has_chapter» || r .«has_verse») → b ≡ (not (r .«has_id») && numbered) → b ≡ noId r .holds
 is-no-id r numbered b e f = f ∙ rw e

@@ -9,21 +9,22 @@ use lib.Dec.{eqb}
 use borrow.Author.Tests.{eq-eqb, ne-eqb, eqb-true}
 use Rattle.text.specs.Pick.{cut}
 use Rattle.text.specs.Words.{blankText}
-use Rattle.tape.specs.Nodes.{nodeAt, kindAt, span, isOpen}
+use Rattle.tape.specs.Nodes.{nodeAt, kindAt, span, isOpen, markerOpenKind, textKind}
 use Rattle.tape.specs.Forest.{forest}
 use Rattle.tape.proofs.Nest.{forest-done}
 use Rattle.cursor.specs.Inner.{Run}
 use Rattle.cursor.proofs.Runs.{forest-at-leaf, forest-at-open}
-use Rattle.findings.specs.Finding.{Finding}
+use Rattle.findings.specs.Finding.{Finding, warningSeverity}
 use Rattle.findings.specs.declared.Counts.{Counts}
 use Rattle.findings.specs.Written.{Wrote, Room, only}
 use Rattle.findings.proofs.Overlay.{wrote-none}
 use Rattle.definition.specs.Checks.{about, warning}
 use Rattle.definition.specs.Document.{textBefore}
+use Rattle.findings.specs.Codes.{textBeforeId}
 
 -- whether a node is a Text that isn't blank
 abbrev pub solidAt : List ℕ → List ℕ → ℕ → Bool
-solidAt s t i = eqb (kindAt t i) 5 && not (blankText (nodeAt s t i .text))
+solidAt s t i = eqb (kindAt t i) textKind && not (blankText (nodeAt s t i .text))
 
 module _ (s t : List ℕ) (i k : ℕ) (kind-is : k ≡ kindAt t i) where
   pub solid-other : (k ≡ 5 → ⊥) → false ≡ solidAt s t i
@@ -38,20 +39,20 @@ before-none s t to l c₀ c h e = rw (forest-done s t 1 to h, e) (wrote-none l c
 
 open-solid : (s t : List ℕ) (i : ℕ) → isOpen (kindAt t i) ≡ true → solidAt s t i ≡ false
 open-solid s t i h =
-    let e : kindAt t i ≡ 1 = eqb-true (kindAt t i) 1 h in
-    rw (ne-eqb (kindAt t i) 5 (λ q. omega arith))
+    let e : kindAt t i ≡ markerOpenKind = eqb-true (kindAt t i) markerOpenKind h in
+    rw (ne-eqb (kindAt t i) textKind (λ q. omega arith))
 
 module _ (s t : List ℕ) (to : ℕ) (run : Run s t 1 to) (more : 1 < to) where
-  before-is : textBefore (forest s t 1 to) ≡ only (solidAt s t 1) (warning (nodeAt s t 1) 7 0)
+  before-is : textBefore (forest s t 1 to) ≡ only (solidAt s t 1) (warning (nodeAt s t 1) textBeforeId 0)
   unfolding textBefore
   before-is = go (isOpen (kindAt t 1)) refl
     where
-      go : (v : Bool) → isOpen (kindAt t 1) ≡ v → textBefore (forest s t 1 to) ≡ only (solidAt s t 1) (warning (nodeAt s t 1) 7 0)
-      go true e = ap textBefore (forest-at-open s t 1 to run more e) ∙ ap (λ (v : Bool). only v (warning (nodeAt s t 1) 7 0)) (sym (open-solid s t 1 e))
+      go : (v : Bool) → isOpen (kindAt t 1) ≡ v → textBefore (forest s t 1 to) ≡ only (solidAt s t 1) (warning (nodeAt s t 1) textBeforeId 0)
+      go true e = ap textBefore (forest-at-open s t 1 to run more e) ∙ ap (λ (v : Bool). only v (warning (nodeAt s t 1) textBeforeId 0)) (sym (open-solid s t 1 e))
       go false e = ap textBefore (forest-at-leaf s t 1 to run more e)
 
   -- the test and the finding as the code has them
-  module _ (there : Bool) (f : Finding) (is : there ≡ solidAt s t 1) (says : f ≡ about (nodeAt [] t 1) 1 7 0 0 0) (c₀ c : Counts) (same : c ≡ c₀) where
+  module _ (there : Bool) (f : Finding) (is : there ≡ solidAt s t 1) (says : f ≡ about (nodeAt [] t 1) warningSeverity textBeforeId 0 0 0) (c₀ c : Counts) (same : c ≡ c₀) where
     one : only there f ≡ textBefore (forest s t 1 to)
     one = rw (is, says) (sym before-is)
 

@@ -19,11 +19,12 @@ use Rattle.definition.specs.declared.OpenStart.{OpenStart}
 use Rattle.definition.proofs.Few.{unclosed-length}
 use Rattle.state.proofs.Opened.{starts-length}
 use Rattle.closing.specs.Ends.{ofOpen, Tellable}
+use Rattle.findings.specs.Codes.{milestoneMismatch, unclosedStart}
 
 left-length : (s t : List ℕ) (opens : List OpenStart) (k : ℕ) → length (unclosed (starts s t opens k)) ≡ k
 left-length s t opens k = unclosed-length (starts s t opens k) ∙ starts-length s t opens k
 
-unclosed-more : (s t : List ℕ) (opens : List OpenStart) (k : ℕ) → unclosed (starts s t opens (k + 1)) ≡ unclosed (starts s t opens k) ++ error (nodeAt s t (getD opens k noStart .node)) 16 0 ∷ []
+unclosed-more : (s t : List ℕ) (opens : List OpenStart) (k : ℕ) → unclosed (starts s t opens (k + 1)) ≡ unclosed (starts s t opens k) ++ error (nodeAt s t (getD opens k noStart .node)) milestoneMismatch unclosedStart ∷ []
 unfolding unclosed starts
 unclosed-more s t opens k = rw add-one
 

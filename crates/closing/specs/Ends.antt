@@ -11,12 +11,13 @@ use Rattle.definition.specs.declared.OpenStart.{OpenStart}
 use Rattle.definition.specs.Document.{ofDocument, unclosed}
 use Rattle.state.specs.Running.{starts, countsOf, Opens}
 use Rattle.state.specs.declared.Record.{Record}
+use Rattle.findings.specs.Codes.{milestoneMismatch, unclosedStart, missingIdMarker, missingChapterMarker}
 
 -- MissingIdMarker, MissingChapterMarker: the conditions of `closing`, of the code's record
 abbrev pub missingChecks : Record → List Check
 missingChecks r =
-    when (not (r .«has_id») && (r .«has_chapter» || r .«has_verse»)) (ofDocument 4)
-    ∷ when ((r .«has_id» || r .«has_verse») && (not (r .«has_chapter») && not (r .«front_matter»))) (ofDocument 8)
+    when (not (r .«has_id») && (r .«has_chapter» || r .«has_verse»)) (ofDocument missingIdMarker)
+    ∷ when ((r .«has_id» || r .«has_verse») && (not (r .«has_chapter») && not (r .«front_matter»))) (ofDocument missingChapterMarker)
     ∷ []
 
 -- the open starts that are left are known, and there is room for what is said of them
@@ -26,7 +27,7 @@ pub record Left (s t : List ℕ) (opens : List OpenStart) (r : Record) : Type 0 
 
 -- what is said of one
 abbrev pub ofOpen : List ℕ → OpenStart → List Finding
-ofOpen t o = error (nodeAt [] t (o .node)) 16 0 ∷ []
+ofOpen t o = error (nodeAt [] t (o .node)) milestoneMismatch unclosedStart ∷ []
 
 pub record Tellable (t : List ℕ) (o : OpenStart) (c : Counts) : Type 0 where
   pub inside : o .node < count t

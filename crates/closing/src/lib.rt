@@ -14,7 +14,7 @@ ghost use Prim.Native.Nat.{_≤_};
 ghost use lib.Dec.{eqb};
 ghost use lib.ListN.{length};
 ghost use Rattle.text.specs.Words.{blankText};
-ghost use Rattle.tape.specs.Nodes.{nodeAt, kindAt};
+ghost use Rattle.tape.specs.Nodes.{nodeAt, kindAt, textKind};
 ghost use Rattle.tape.specs.Forest.{forest};
 ghost use Rattle.cursor.specs.Inner.{Run, Spanned};
 ghost use Rattle.findings.specs.Finding.{findingOf};
@@ -44,9 +44,9 @@ fn of_document(code: u64) -> Finding
 
 fn is_solid_text(source: &[u8], tape: &[u8], i: usize) -> bool
     requires { ⌜ Spanned (now source) (now tape) i ⌝ }
-    ensures { λ r. ⌜ r ≡ (eqb (kindAt (now (tape .entry)) i) 5 && not (blankText (nodeAt (now (source .entry)) (now (tape .entry)) i .text))) ⌝ }
+    ensures { λ r. ⌜ r ≡ (eqb (kindAt (now (tape .entry)) i) textKind && not (blankText (nodeAt (now (source .entry)) (now (tape .entry)) i .text))) ⌝ }
 {
-    if tape::kind_at(tape, i) != 5 {
+    if tape::kind_at(tape, i) != tape::TEXT {
         return false;
     }
     !text::is_blank_text(cursor::text(source, tape, i))
@@ -80,7 +80,7 @@ fn tell_open(tape: &[u8], o: OpenStart, list: &mut [u64], c: Counts) -> Counts
         o.node as usize,
         Severity::Error,
         MILESTONE_MISMATCH,
-        0,
+        findings::UNCLOSED_START,
         0,
         0,
     );

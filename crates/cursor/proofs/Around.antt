@@ -12,7 +12,7 @@ use lib.Dec.{eqb, ltb}
 use lib.ListN.{length}
 use borrow.Author.Tests.{eq-eqb, ne-eqb, lt-ltb, le-ltb, ltb-false, eqb-true, not-true, not-false}
 use Rattle.text.specs.Pick.{pick}
-use Rattle.tape.specs.Nodes.{count, kindAt, startAt, lenAt, linkAt, isClose}
+use Rattle.tape.specs.Nodes.{count, kindAt, startAt, lenAt, linkAt, isClose, rootKind, markerOpenKind}
 use Rattle.tape.specs.Forest.{Nested, done, one, inner, nextAt, Accepted}
 use Rattle.tape.proofs.Nest.{nested-le}
 use Rattle.cursor.specs.Inner.{Spanned}
@@ -65,8 +65,8 @@ module _ (t : List ℕ) (i k : ℕ) (is-kind : k ≡ kindAt t i) where
 
 -- in a run of siblings that ends at a close or at the tape's end, the next sibling is the next node of the run, and after its last there is none
 module _ (t : List ℕ) where
-  pub past-next : (a : ℕ) → (kindAt t a ≡ 0 → ⊥) → pastNode t a ≡ nextAt t a
-  past-next a h = rw (ne-eqb (kindAt t a) 0 h) (go (eqb (kindAt t a) 1))
+  pub past-next : (a : ℕ) → (kindAt t a ≡ rootKind → ⊥) → pastNode t a ≡ nextAt t a
+  past-next a h = rw (ne-eqb (kindAt t a) rootKind h) (go (eqb (kindAt t a) markerOpenKind))
     where
       go : (b : Bool) → pick b (linkAt t a + 1) (a + 1) ≡ pick b (linkAt t a + 1) (a + 1)
       go true = refl
@@ -80,14 +80,14 @@ module _ (t : List ℕ) where
   no-close : {d a b : ℕ} → Nested t d a b → a < b → isClose (kindAt t a) ≡ false
   no-close (done e) l = absurd (omega arith)
   no-close (one h z r) l = z
-  no-close {d} {a} (inner h z c r) l = let k = eqb-true (kindAt t a) 1 h in rw k
+  no-close {d} {a} (inner h z c r) l = let k = eqb-true (kindAt t a) markerOpenKind h in rw k
 
   pub next-nested : {d a b : ℕ} → Nested t d a b → a < b → Nested t d (nextAt t a) b
   next-nested (done e) l = absurd (omega arith)
   next-nested (one h z r) l = rw h r
   next-nested (inner h z c r) l = rw h r
 
-  pub next-in : {d a b : ℕ} → Nested t d a b → a < b → (kindAt t a ≡ 0 → ⊥) → Border b → nextSibling t a ≡ pick (ltb (nextAt t a) b) (some (nextAt t a)) none
+  pub next-in : {d a b : ℕ} → Nested t d a b → a < b → (kindAt t a ≡ rootKind → ⊥) → Border b → nextSibling t a ≡ pick (ltb (nextAt t a) b) (some (nextAt t a)) none
   unfolding nextSibling
   next-in {d} {a} {b} n l k border =
       let p = past-next a k in

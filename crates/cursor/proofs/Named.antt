@@ -17,10 +17,10 @@ use Rattle.text.specs.Characters.{find}
 use Rattle.text.proofs.Blank.{low-not-blank}
 use Rattle.text.proofs.Find.{past-ascii}
 use Rattle.text.proofs.Hits.{find-on}
-use Rattle.tape.proofs.OneNumber.{either-false}
 use Rattle.cursor.specs.declared.NameSpan.{NameSpan}
 use Rattle.cursor.specs.Names.{pastOne, endsName, namePart, nameOf}
 use Rattle.cursor.specs.Inner.{Reached, Plain, Named}
+use Rattle.text.proofs.Bool.{or-parts}
 
 module _ (s : List ℕ) (i b : ℕ) where
   pub one-end : b < 256 → length s ≤ i → i ≤ length s → Reached s (pastOne b s i) i
@@ -143,4 +143,4 @@ unfolding namePart
 name-solid s =
     over-one s 0 0x5C blank (omega arith) (ascii-solid 0x5C (omega arith) (omega arith))
     ∙ over-one s (pastOne 0x5C s 0) 0x2B blank (omega arith) (ascii-solid 0x2B (omega arith) (omega arith))
-    ∙ find-on blank endsName (λ c y. either-false (blank c) _ y .0) s (pastOne 0x2B s (pastOne 0x5C s 0))
+    ∙ find-on blank endsName (λ c y. or-parts (blank c) _ y .0) s (pastOne 0x2B s (pastOne 0x5C s 0))

@@ -11,7 +11,7 @@ use lib.Dec.{eqb, ltb}
 use lib.ListN.{length}
 use borrow.Author.Tests.{eq-eqb, ne-eqb, eqb-true}
 use Rattle.text.specs.Pick.{within}
-use Rattle.tape.specs.Nodes.{count, nodeAt, kindAt, startAt, lenAt, linkAt, isOpen, isClose}
+use Rattle.tape.specs.Nodes.{count, nodeAt, kindAt, startAt, lenAt, linkAt, isOpen, isClose, rootKind}
 use Rattle.tape.specs.Reading.{badKind}
 use Rattle.tape.specs.Forest.{Forest, end, leaf, node, forest, Nested, done, one, inner, Accepted, nextAt}
 use Rattle.tape.proofs.OneNumber.{rooted}
@@ -21,7 +21,7 @@ use Rattle.cursor.specs.Steps.{holdsNodes, pastNode}
 use Rattle.cursor.proofs.Around.{past-next, next-nested, spanned}
 
 -- no node of an accepted tape but node 0 is of kind 0
-kind-some : (s t : List ℕ) (i : ℕ) → Accepted s t → 1 ≤ i → i < count t → kindAt t i ≡ 0 → ⊥
+kind-some : (s t : List ℕ) (i : ℕ) → Accepted s t → 1 ≤ i → i < count t → kindAt t i ≡ rootKind → ⊥
 kind-some s t zero h g l e = absurd (omega arith)
 kind-some s t (suc i) h g l e = false≢true (sym (h .kinds (suc i) l) ∙ rw e)
 
@@ -29,7 +29,7 @@ module _ (s t : List ℕ) (a b : ℕ) (run : Run s t a b) (more : a < b) where
   below : a < count t
   below = let i = run .inside in omega arith
 
-  no-root : kindAt t a ≡ 0 → ⊥
+  no-root : kindAt t a ≡ rootKind → ⊥
   no-root = kind-some s t a (run .accepted) (run .from) below
 
   pub run-spanned : Spanned s t a

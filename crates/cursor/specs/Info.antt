@@ -5,12 +5,12 @@ use mathlib.Core.List.{List}
 use mathlib.Core.Option.{Option, some, none}
 use lib.Dec.{eqb}
 use Rattle.text.specs.Pick.{within}
-use Rattle.tape.specs.Nodes.{kindAt, markerAt}
+use Rattle.tape.specs.Nodes.{kindAt, markerAt, markerOpenKind, verseKind, blockEndKind}
 use Rattle.table.specs.Entries.{Entry, entries, nth}
 
 -- MarkerOpen, MarkerClose, Chapter, Verse, BlockEnd
 abbrev pub hasMarker : ℕ → Bool
-hasMarker k = within 1 4 k || eqb k 7
+hasMarker k = within markerOpenKind verseKind k || eqb k blockEndKind
 
 abbrev pub onlyFor : Bool → Option Entry → Option Entry
 onlyFor true e = e

@@ -7,7 +7,7 @@ use mathlib.Core.Option.{Option, some, none}
 use lib.Dec.{eqb, ltb}
 use lib.ListN.{length}
 use Rattle.text.specs.Pick.{pick}
-use Rattle.tape.specs.Nodes.{count, kindAt, startAt, lenAt, linkAt, isClose}
+use Rattle.tape.specs.Nodes.{count, kindAt, startAt, lenAt, linkAt, isClose, chapterKind, verseKind, rootKind, markerOpenKind}
 use Rattle.cursor.specs.declared.Place.{Place}
 use Rattle.cursor.specs.declared.Place.the-variants as place
 use Rattle.cursor.specs.declared.NumberRead.{NumberRead}
@@ -15,7 +15,7 @@ use Rattle.cursor.specs.declared.NumberRead.the-variants as number
 
 -- Root and MarkerOpen have children
 abbrev pub holdsNodes : ℕ → Bool
-holdsNodes k = eqb k 0 || eqb k 1
+holdsNodes k = eqb k rootKind || eqb k markerOpenKind
 
 -- "no children if it is adjacent": the node after a node that holds others, if it stands before the node's link
 unfoldable pub firstChild : List ℕ → ℕ → Option ℕ
@@ -31,7 +31,7 @@ nextSibling t i = pick (ltb (pastNode t i) (count t) && not (isClose (kindAt t (
 
 -- "for `\c`/`\v` leaves, the parsed chapter/verse number (packed in `link`)"
 unfoldable pub numberAt : List ℕ → ℕ → Option ℕ
-numberAt t i = pick (eqb (kindAt t i) 3 || eqb (kindAt t i) 4) (some (linkAt t i)) none
+numberAt t i = pick (eqb (kindAt t i) chapterKind || eqb (kindAt t i) verseKind) (some (linkAt t i)) none
 
 -- what the answers say
 abbrev pub placeOf : Place → Option ℕ

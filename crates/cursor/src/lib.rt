@@ -160,7 +160,11 @@ pub fn marker_name<'a, 'b>(source: &'a [u8], tape: &'b [u8], i: usize) -> &'a [u
 fn holds_nodes(kind: u8) -> bool
     ensures { λ r. ⌜ r ≡ holdsNodes kind ⌝ }
 {
-    if kind == 0 { true } else { kind == 1 }
+    if kind == tape::ROOT {
+        true
+    } else {
+        kind == tape::MARKER_OPEN
+    }
 }
 
 pub fn first_child(tape: &[u8], i: usize) -> Place
@@ -209,10 +213,10 @@ pub fn number(tape: &[u8], i: usize) -> NumberRead
     ensures { λ r. ⌜ valueOf r ≡ numberAt (now (tape .entry)) i ⌝ }
 {
     let kind = tape::kind_at(tape, i);
-    if kind == 3 {
+    if kind == tape::CHAPTER {
         return NumberRead::Is(tape::link_at(tape, i));
     }
-    if kind == 4 {
+    if kind == tape::VERSE {
         return NumberRead::Is(tape::link_at(tape, i));
     }
     NumberRead::NoNumber
@@ -221,10 +225,14 @@ pub fn number(tape: &[u8], i: usize) -> NumberRead
 fn has_marker(kind: u8) -> bool
     ensures { λ r. ⌜ r ≡ hasMarker kind ⌝ }
 {
-    if kind < 1 {
+    if kind < tape::MARKER_OPEN {
         return false;
     }
-    if kind <= 4 { true } else { kind == 7 }
+    if kind <= tape::VERSE {
+        true
+    } else {
+        kind == tape::BLOCK_END
+    }
 }
 
 // The table entry of a node that bears a marker.

@@ -16,7 +16,7 @@ use Rattle.attachment.specs.Attached.{among}
 use Rattle.text.specs.Blank.{blank}
 use Rattle.text.specs.Characters.{chars}
 use Rattle.text.specs.declared.Decoded.{Decoded}
-use Rattle.tape.specs.Nodes.{Node, nodeAt, count, linkAt}
+use Rattle.tape.specs.Nodes.{Node, nodeAt, count, linkAt, chapterKind, verseKind, textKind, attributeKind}
 use Rattle.tape.specs.Forest.{Forest, end, leaf, node, forest, Nested, done, one, inner, Accepted, top}
 use Rattle.tape.proofs.Nest.{nested-le, forest-done, forest-leaf, forest-node}
 use Rattle.tape.proofs.Sizes.{nodesIn, nodes-le}
@@ -24,7 +24,7 @@ use Rattle.cursor.proofs.Runs.{run-top}
 use Rattle.table.specs.Entries.{Entry}
 use Rattle.table.specs.Names.{defaultOf, noteOnly}
 use Rattle.cursor.specs.Names.{nameOf}
-use Rattle.findings.specs.Finding.{Finding, Kind, codes}
+use Rattle.findings.specs.Finding.{Finding, Kind}
 use Rattle.findings.specs.Written.{only, room}
 use Rattle.attributes.specs.Attributes.{emptyList, noDefault, Mode, between, key, value, opened, quoted, escaping, unquoted, inQuotes, Step, go, tell, stop, step, ended, resume, scan, body, hasDefault, holdsEquals, attributeKinds, findingsAt, attributeFindings, attributesFindings}
 use Rattle.rows.specs.Cells.{Range}
@@ -38,6 +38,7 @@ use Rattle.definition.specs.Walk.{Walked, leafAnchor, openTold, inside, 
 use Rattle.definition.specs.Document.{textBefore, ofDocument, unclosed, closing, walked, running, findings, versesVisited}
 use Rattle.definition.specs.Outcome.{Lent, refusal, addIf, ofSeverity, smaller, listOf, writtenOf, checkedOf}
 use Rattle.definition.proofs.Demand3.{checked-accepted}
+use Rattle.findings.specs.Codes.{codes, milestoneMismatch, unclosedStart, textBeforeId}
 
 -- "severity (0 error, 1 warning, 2 info)"; of the codes "the last is 34"
 abbrev pub Listed : ℕ → ℕ → Type 0
@@ -143,7 +144,7 @@ attributes-graded : (owner : ℕ) (marker : List ℕ) (f : Forest) → Graded (a
 unfolding attributesFindings
 attributes-graded owner marker end = tt
 attributes-graded owner marker (leaf x r) =
-    graded-append (pick (eqb (x .kind) 6) (attributeFindings owner marker x) []) (attributesFindings owner marker r) (graded-pick (eqb (x .kind) 6) _ [] (at-graded (x .start) (x .len) (x .number) owner (attributeKinds marker (x .text)) (low-kinds marker (x .text))) tt) (attributes-graded owner marker r)
+    graded-append (pick (eqb (x .kind) attributeKind) (attributeFindings owner marker x) []) (attributesFindings owner marker r) (graded-pick (eqb (x .kind) attributeKind) _ [] (at-graded (x .start) (x .len) (x .number) owner (attributeKinds marker (x .text)) (low-kinds marker (x .text))) tt) (attributes-graded owner marker r)
 attributes-graded owner marker (node x c r) = attributes-graded owner marker r
 
 -- and of the checks of a node
@@ -158,7 +159,7 @@ given-graded (c ∷ cs) h = graded-append (only (c .holds) (c .finding)) (given 
 
 leaf-graded : (table : List ℕ) (o : Around) (st : State) (x : Node) → Graded (leafTold table o st x .findings)
 unfolding leafTold
-leaf-graded table o st x = given-graded _ (go (eqb (x .kind) 3) (eqb (x .kind) 4))
+leaf-graded table o st x = given-graded _ (go (eqb (x .kind) chapterKind) (eqb (x .kind) verseKind))
   where
     go : (b v : Bool) → Fair (pick b (chapterChecks (entryOf table x) st x) (pick v (verseChecks (entryOf table x) o st x) []))
     go true v = (omega arith, (omega arith, (omega arith, (omega arith, (omega arith, tt)))))
@@ -196,7 +197,7 @@ walk-graded table o a (node x c r) st =
 unclosed-graded : (xs : List Node) → Graded (unclosed xs)
 unfolding unclosed
 unclosed-graded [] = tt
-unclosed-graded (x ∷ xs) = graded-append (unclosed xs) (error x 16 0 ∷ []) (unclosed-graded xs) (omega arith, tt)
+unclosed-graded (x ∷ xs) = graded-append (unclosed xs) (error x milestoneMismatch unclosedStart ∷ []) (unclosed-graded xs) (omega arith, tt)
 
 closing-graded : (st : State) → Graded (closing st)
 unfolding closing
@@ -205,7 +206,7 @@ closing-graded st = graded-append (unclosed (st .openStarts)) (given _) (unclose
 text-graded : (f : Forest) → Graded (textBefore f)
 unfolding textBefore
 text-graded end = tt
-text-graded (leaf x r) = graded-only (eqb (x .kind) 5 && not (blankText (x .text))) (warning x 7 0) (omega arith)
+text-graded (leaf x r) = graded-only (eqb (x .kind) textKind && not (blankText (x .text))) (warning x textBeforeId 0) (omega arith)
 text-graded (node x c r) = tt
 
 -- the whole list
@@ -226,7 +227,7 @@ severities (f ∷ fs) h = go (f .severity) (h .0 .0) (severities fs (h .1))
 
 leaf-verses : (table : List ℕ) (o : Around) (st : State) (x : Node) → leafTold table o st x .state .verses ≤ st .verses + 1
 unfolding leafTold afterChapter afterVerse
-leaf-verses table o st x = go (eqb (x .kind) 3) (eqb (x .kind) 4)
+leaf-verses table o st x = go (eqb (x .kind) chapterKind) (eqb (x .kind) verseKind)
   where
     go : (b v : Bool) → pick b (afterChapter st x) (pick v (afterVerse (entryOf table x) o st x) st) .verses ≤ st .verses + 1
     go true v = omega arith

@@ -11,9 +11,11 @@ use lib.Dec.{ltb}
 use Rattle.tape.specs.Nodes.{Node, nodeAt, linkAt}
 use Rattle.tape.specs.Forest.{Forest, end, leaf, node, followed, forest, Nested, done, one, inner, Accepted, top}
 use Rattle.tape.specs.Alike.{Alike, BeginAlike}
-use Rattle.tape.specs.Reading.{Refusal, orElse, tapeRefusal}
+use Rattle.refusals.specs.Refusal.{Refusal, orElse}
+use Rattle.tape.specs.Reading.{tapeRefusal}
 use Rattle.tape.proofs.Nest.{nested-le, forest-done, forest-leaf, forest-node}
-use Rattle.tape.proofs.OneNumber.{accepted, neither}
+use Rattle.refusals.proofs.First.{neither}
+use Rattle.tape.proofs.OneNumber.{accepted}
 use Rattle.tape.proofs.Begins.{top-longer, rest-nested}
 use Rattle.table.specs.Entries.{Entry}
 use Rattle.definition.specs.Checks.{entryOf}

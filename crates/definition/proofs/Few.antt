@@ -11,7 +11,7 @@ use lib.Dec.{eqb}
 use lib.ListN.{length, length-append}
 use Rattle.text.specs.Pick.{cut, pick}
 use Rattle.text.specs.Words.{blankText}
-use Rattle.tape.specs.Nodes.{Node}
+use Rattle.tape.specs.Nodes.{Node, chapterKind, verseKind, textKind}
 use Rattle.tape.specs.Forest.{Forest, end, leaf, node}
 use Rattle.tape.proofs.Sizes.{amount, breadth, weight, breadth-le, nodesIn}
 use Rattle.table.specs.Bytes.{equal}
@@ -28,6 +28,7 @@ use Rattle.definition.specs.Checks.{warning, Check, when, given, entryOf
 use Rattle.definition.specs.Milestones.{milestoneChecks}
 use Rattle.definition.specs.Walk.{Walked, leafAnchor, openTold, inside, after, thenWalk, byEntry, walk}
 use Rattle.definition.specs.Document.{textBefore, ofDocument, unclosed, closing, walked, running, findings}
+use Rattle.findings.specs.Codes.{textBeforeId, missingIdMarker, missingChapterMarker}
 
 pub given-few : (cs : List Check) → length (given cs) ≤ length cs
 unfolding given
@@ -40,7 +41,7 @@ given-few (c ∷ cs) = go (c .holds) (given-few cs)
 
 leaf-few : (table : List ℕ) (o : Around) (st : State) (x : Node) → length (leafTold table o st x .findings) ≤ 6
 unfolding leafTold
-leaf-few table o st x = go (eqb (x .kind) 3) (eqb (x .kind) 4)
+leaf-few table o st x = go (eqb (x .kind) chapterKind) (eqb (x .kind) verseKind)
   where
     go : (b v : Bool) → length (given (pick b (chapterChecks (entryOf table x) st x) (pick v (verseChecks (entryOf table x) o st x) []))) ≤ 6
     go true v = let h = given-few (chapterChecks (entryOf table x) st x) in omega arith
@@ -91,7 +92,7 @@ walk-few table o a (node x c r) st =
 pub text-few : (f : Forest) → length (textBefore f) ≤ 1
 unfolding textBefore
 text-few end = omega arith
-text-few (leaf x r) = only-few (eqb (x .kind) 5 && not (blankText (x .text))) (warning x 7 0)
+text-few (leaf x r) = only-few (eqb (x .kind) textKind && not (blankText (x .text))) (warning x textBeforeId 0)
 text-few (node x c r) = omega arith
 
 pub unclosed-length : (xs : List Node) → length (unclosed xs) ≡ length xs
@@ -102,7 +103,7 @@ unclosed-length (x ∷ xs) = length-append (unclosed xs) _ ∙ (let h = unclosed
 closing-few : (st : State) → length (closing st) ≤ length (st .openStarts) + 2
 unfolding closing
 closing-few st =
-    let checks = when (not (st .hasId) && (st .hasChapter || st .hasVerse)) (ofDocument 4) ∷ when ((st .hasId || st .hasVerse) && (not (st .hasChapter) && not (st .frontMatter))) (ofDocument 8) ∷ [] in
+    let checks = when (not (st .hasId) && (st .hasChapter || st .hasVerse)) (ofDocument missingIdMarker) ∷ when ((st .hasId || st .hasVerse) && (not (st .hasChapter) && not (st .frontMatter))) (ofDocument missingChapterMarker) ∷ [] in
     let h = unclosed-length (st .openStarts) in
     let k = given-few checks in
     omega (arith, length-append (unclosed (st .openStarts)) (given checks))

@@ -20,6 +20,7 @@ use Rattle.definition.specs.Walk.{Walked, walk}
 use Rattle.definition.specs.Document.{textBefore, walked, running, unclosed, unclosedOf, those, Beginning}
 use Rattle.definition.proofs.Then.{walk-then}
 use Rattle.definition.proofs.Untaken.{visits-then, marks-then, open-starts-are-untaken}
+use Rattle.findings.specs.Codes.{milestoneMismatch, unclosedStart}
 
 -- the findings of the walk of a longer run begin with those of the shorter
 walked-then : (table : List ℕ) (f g : Forest) → walked table (followed f g) .findings ≡ walked table f .findings ++ walk table outside (walked table f .anchor) g (walked table f .state) .findings
@@ -298,7 +299,7 @@ free-longer m b xs ys p q =
 
 -- the findings of kept starts are the kept findings
 abbrev ofStart : (Finding → Bool) → Node → Bool
-ofStart p x = p (error x 16 0)
+ofStart p x = p (error x milestoneMismatch unclosedStart)
 
 those-append : (p : Finding → Bool) (fs gs : List Finding) → those p (fs ++ gs) ≡ those p fs ++ those p gs
 unfolding those
@@ -312,10 +313,10 @@ those-append p (f ∷ fs) gs = go (p f) (those-append p fs gs)
 those-unclosed : (p : Finding → Bool) (xs : List Node) → those p (unclosed xs) ≡ unclosed (keep (ofStart p) xs)
 unfolding unclosed those keep
 those-unclosed p [] = refl
-those-unclosed p (x ∷ xs) = those-append p (unclosed xs) (error x 16 0 ∷ []) ∙ go (p (error x 16 0)) (those-unclosed p xs)
+those-unclosed p (x ∷ xs) = those-append p (unclosed xs) (error x milestoneMismatch unclosedStart ∷ []) ∙ go (p (error x milestoneMismatch unclosedStart)) (those-unclosed p xs)
   where
-    go : (b : Bool) → those p (unclosed xs) ≡ unclosed (keep (ofStart p) xs) → those p (unclosed xs) ++ pick b (error x 16 0 ∷ []) [] ≡ unclosed (pick b (x ∷ keep (ofStart p) xs) (keep (ofStart p) xs))
-    go true h = ap (_++ error x 16 0 ∷ []) h
+    go : (b : Bool) → those p (unclosed xs) ≡ unclosed (keep (ofStart p) xs) → those p (unclosed xs) ++ pick b (error x milestoneMismatch unclosedStart ∷ []) [] ≡ unclosed (pick b (x ∷ keep (ofStart p) xs) (keep (ofStart p) xs))
+    go true h = ap (_++ error x milestoneMismatch unclosedStart ∷ []) h
     go false h = append-nil (those p (unclosed xs)) ∙ h
 
 -- demand 3, of forests: of the starts numbered below m, the longer run leaves unclosed just those that the shorter leaves so and that no end numbered from m on takes

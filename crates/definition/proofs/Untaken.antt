@@ -7,7 +7,7 @@ use mathlib.Core.List.{List, [], _∷_, _++_, append-assoc, append-nil}
 use mathlib.Core.Option.{Option, some, none}
 use lib.Dec.{eqb}
 use Rattle.text.specs.Pick.{pick}
-use Rattle.tape.specs.Nodes.{Node}
+use Rattle.tape.specs.Nodes.{Node, chapterKind, verseKind}
 use Rattle.tape.specs.Forest.{Forest, end, leaf, node, followed}
 use Rattle.table.specs.Entries.{Entry}
 use Rattle.definition.specs.State.{State, initial, Around, Anchor, past, Told}
@@ -53,7 +53,7 @@ met-open x ms = go (isStart x) refl
 
 leaf-open : (table : List ℕ) (o : Around) (st : State) (x : Node) → leafTold table o st x .state .openStarts ≡ st .openStarts
 unfolding leafTold afterChapter afterVerse
-leaf-open table o st x = go (eqb (x .kind) 3) (eqb (x .kind) 4)
+leaf-open table o st x = go (eqb (x .kind) chapterKind) (eqb (x .kind) verseKind)
   where
     go : (b v : Bool) → pick b (afterChapter st x) (pick v (afterVerse (entryOf table x) o st x) st) .openStarts ≡ st .openStarts
     go true v = refl

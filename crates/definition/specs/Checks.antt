@@ -7,20 +7,21 @@ use lib.Dec.{eqb, ltb}
 use lib.ListN.{length, getD, take, drop}
 use Rattle.text.specs.Pick.{within, cut, pick}
 use Rattle.text.specs.Words.{firstWord, blankText}
-use Rattle.tape.specs.Nodes.{Node}
+use Rattle.tape.specs.Nodes.{Node, chapterKind, verseKind, textKind, attributeKind}
 use Rattle.tape.specs.Forest.{Forest, end, leaf, node, followed}
 use Rattle.table.specs.Bytes.{equal, oneOf}
-use Rattle.table.specs.Entries.{Entry, entries, nth}
+use Rattle.table.specs.Entries.{Entry, entries, nth, paragraphCategory, characterCategory, boundaryRole}
 use Rattle.table.specs.Names.{frontMatter, noteOnly}
 use Rattle.table.specs.Books.{bookOf}
 use Rattle.cursor.specs.Names.{nameOf}
 use Rattle.cursor.specs.Info.{hasMarker, onlyFor}
-use Rattle.findings.specs.Finding.{Finding}
+use Rattle.findings.specs.Finding.{Finding, warningSeverity, errorSeverity}
 use Rattle.findings.specs.Written.{only}
 use Rattle.numbers.specs.Label.{isGlued, labelOf, numbered}
 use Rattle.numbers.specs.Verse.{Position, versePart, verseEnd, next, inSequence}
 use Rattle.attachment.specs.Attached.{among, isAttached}
 use Rattle.definition.specs.State.{State, firstVerse, Around, Anchor, Told}
+use Rattle.findings.specs.Codes.{missingSpaceBeforeNumber, leadingZeros, missingChapterNumber, verseOutsideParagraph, charCrossesVerseBoundary, missingVerseNumber, duplicateId, invalidBookCode, noteSubmarkerOutsideNote, nonEmptyBlankLine, bodyParagraphBeforeChapter, misplacedNumberMarker, emptyFigure, emptyWordMarker, missingRequiredAttribute, duplicateChapter, invalidChapterSequence, invalidVerseSequence, chapterForm, verseForm, shouldBeUppercase, notValid}
 
 -- a finding with the span of a node: severity, code, form, two numbers
 abbrev pub about : Node → ℕ → ℕ → ℕ → ℕ → ℕ → Finding
@@ -37,10 +38,10 @@ about x severity code form first second =
     }
 
 abbrev pub error : Node → ℕ → ℕ → Finding
-error x code form = about x 0 code form 0 0
+error x code form = about x errorSeverity code form 0 0
 
 abbrev pub warning : Node → ℕ → ℕ → Finding
-warning x code form = about x 1 code form 0 0
+warning x code form = about x warningSeverity code form 0 0
 
 abbrev pub known : Option ℕ → Bool
 known none = false
@@ -68,17 +69,17 @@ isEmpty s = eqb (length s) 0
 -- MissingSpaceBeforeNumber, LeadingZeros ("0 chapter, 1 verse")
 abbrev pub numberForm : ℕ → Option Entry → Node → List Check
 numberForm form e x =
-    when (isGlued e (nameOf (x .text))) (warning x 34 0)
-    ∷ when (ltb 1 (length (labelOf e (x .text))) && eqb (getD (labelOf e (x .text)) 0 0) 0x30) (error x 15 form)
+    when (isGlued e (nameOf (x .text))) (warning x missingSpaceBeforeNumber 0)
+    ∷ when (ltb 1 (length (labelOf e (x .text))) && eqb (getD (labelOf e (x .text)) 0 0) 0x30) (error x leadingZeros form)
     ∷ []
 
 -- MissingChapterNumber, DuplicateChapter, InvalidChapterSequence; a chapter's number is its link
 abbrev pub chapterChecks : Option Entry → State → Node → List Check
 chapterChecks e st x =
-    when (isEmpty (labelOf e (x .text))) (error x 18 0)
-    ∷ when (among (x .link) (st .seen)) (about x 1 10 0 (x .link) 0)
-    ∷ when (not (eqb (x .link) (st .chapter))) (about x 1 9 0 (st .chapter) (x .link))
-    ∷ numberForm 0 e x
+    when (isEmpty (labelOf e (x .text))) (error x missingChapterNumber 0)
+    ∷ when (among (x .link) (st .seen)) (about x warningSeverity duplicateChapter 0 (x .link) 0)
+    ∷ when (not (eqb (x .link) (st .chapter))) (about x warningSeverity invalidChapterSequence 0 (st .chapter) (x .link))
+    ∷ numberForm chapterForm e x
 
 unfoldable pub afterChapter : State → Node → State
 afterChapter st x =
@@ -117,11 +118,11 @@ nextBy (some p) label expected = next (endOr (verseEnd label) p)
 -- VerseOutsideParagraph once, CharCrossesVerseBoundary, MissingVerseNumber, InvalidVerseSequence ("expected number, letter byte or 0")
 abbrev pub verseChecks : Option Entry → Around → State → Node → List Check
 verseChecks e o st x =
-    when (not (o .body) && not (st .outsideWarned)) (warning x 12 0)
-    ∷ when (o .char) (error x 20 0)
-    ∷ when (isEmpty (labelOf e (x .text))) (error x 19 0)
-    ∷ when (breaks (versePart (labelOf e (x .text))) (st .verse)) (about x 1 11 0 (st .verse .number) (letterByte (st .verse .letter)))
-    ∷ numberForm 1 e x
+    when (not (o .body) && not (st .outsideWarned)) (warning x verseOutsideParagraph 0)
+    ∷ when (o .char) (error x charCrossesVerseBoundary 0)
+    ∷ when (isEmpty (labelOf e (x .text))) (error x missingVerseNumber 0)
+    ∷ when (breaks (versePart (labelOf e (x .text))) (st .verse)) (about x warningSeverity invalidVerseSequence 0 (st .verse .number) (letterByte (st .verse .letter)))
+    ∷ numberForm verseForm e x
 
 unfoldable pub afterVerse : Option Entry → Around → State → Node → State
 afterVerse e o st x =
@@ -142,14 +143,14 @@ afterVerse e o st x =
 unfoldable pub leafTold : List ℕ → Around → State → Node → Told
 leafTold table o st x =
     record {
-      findings = given (pick (eqb (x .kind) 3) (chapterChecks (entryOf table x) st x) (pick (eqb (x .kind) 4) (verseChecks (entryOf table x) o st x) []));
-      state = pick (eqb (x .kind) 3) (afterChapter st x) (pick (eqb (x .kind) 4) (afterVerse (entryOf table x) o st x) st);
+      findings = given (pick (eqb (x .kind) chapterKind) (chapterChecks (entryOf table x) st x) (pick (eqb (x .kind) verseKind) (verseChecks (entryOf table x) o st x) []));
+      state = pick (eqb (x .kind) chapterKind) (afterChapter st x) (pick (eqb (x .kind) verseKind) (afterVerse (entryOf table x) o st x) st);
     }
 
 -- "The book code = first whitespace token of the `\id` line's text", its first Text; empty where there is none
 unfoldable pub bookCode : Forest → List ℕ
 bookCode end = []
-bookCode (leaf x r) = pick (eqb (x .kind) 5) (cut (firstWord (x .text)) (x .text)) (bookCode r)
+bookCode (leaf x r) = pick (eqb (x .kind) textKind) (cut (firstWord (x .text)) (x .text)) (bookCode r)
 bookCode (node x c r) = bookCode r
 
 abbrev pub isBook : List ℕ → Bool
@@ -162,8 +163,8 @@ upper (b ∷ s) = pick (within 0x61 0x7A b) (b - 32) b ∷ upper s
 -- `id`: DuplicateId, InvalidBookCode ("0 should be uppercase, 1 not valid")
 abbrev pub idChecks : Bool → State → List ℕ → Node → List Check
 idChecks named st code x =
-    when (named && st .hasId) (error x 6 0)
-    ∷ when (named && (not (isEmpty code) && not (isBook code))) (warning x 5 (pick (isBook (upper code)) 0 1))
+    when (named && st .hasId) (error x duplicateId 0)
+    ∷ when (named && (not (isEmpty code) && not (isBook code))) (warning x invalidBookCode (pick (isBook (upper code)) shouldBeUppercase notValid))
     ∷ []
 
 -- without a book code the front-matter flag stays as it was
@@ -188,18 +189,18 @@ afterId named st c =
 -- content of a `\b`: a Text that isn't blank or a marker, before any Verse or Chapter
 unfoldable pub inlineContent : Forest → Bool
 inlineContent end = false
-inlineContent (leaf x r) = pick (numbered (x .kind)) false (pick (eqb (x .kind) 5 && not (blankText (x .text))) true (inlineContent r))
+inlineContent (leaf x r) = pick (numbered (x .kind)) false (pick (eqb (x .kind) textKind && not (blankText (x .text))) true (inlineContent r))
 inlineContent (node x c r) = true
 
 -- a Text that isn't blank
 unfoldable pub hasText : Forest → Bool
 hasText end = false
-hasText (leaf x r) = (eqb (x .kind) 5 && not (blankText (x .text))) || hasText r
+hasText (leaf x r) = (eqb (x .kind) textKind && not (blankText (x .text))) || hasText r
 hasText (node x c r) = hasText r
 
 unfoldable pub hasAttribute : Forest → Bool
 hasAttribute end = false
-hasAttribute (leaf x r) = eqb (x .kind) 6 || hasAttribute r
+hasAttribute (leaf x r) = eqb (x .kind) attributeKind || hasAttribute r
 hasAttribute (node x c r) = hasAttribute r
 
 unfoldable pub hasMarkers : Forest → Bool
@@ -242,21 +243,21 @@ trName = 0x74 ∷ 0x72 ∷ []
 
 -- a paragraph that can hold verse text
 abbrev pub isBody : Entry → Bool
-isBody e = eqb (e .category) 3 && eqb (e .role) 2
+isBody e = eqb (e .category) paragraphCategory && eqb (e .role) boundaryRole
 
 -- NoteSubmarkerOutsideNote, NonEmptyBlankLine, BodyParagraphBeforeChapter, MisplacedNumberMarker: of a marker with its table name, the record after `id`, the anchor, its children and the siblings from it on
 abbrev pub placeChecks : List ℕ → Entry → Around → Option Anchor → State → Node → Forest → Forest → List Check
 placeChecks name e o a st x c f =
-    when (eqb (e .category) 4 && (not (o .note) && oneOf noteOnly name)) (error x 13 0)
-    ∷ when (equal name bName && inlineContent c) (error x 14 0)
-    ∷ when (isBody e && (not (st .hasChapter) && not (st .frontMatter))) (error x 24 0)
-    ∷ when (oneOf numberMarkers name && (oneOf numberMarkers (nameOf (x .text)) && not (attachedTo a f (x .start)))) (warning x 33 0)
+    when (eqb (e .category) characterCategory && (not (o .note) && oneOf noteOnly name)) (error x noteSubmarkerOutsideNote 0)
+    ∷ when (equal name bName && inlineContent c) (error x nonEmptyBlankLine 0)
+    ∷ when (isBody e && (not (st .hasChapter) && not (st .frontMatter))) (error x bodyParagraphBeforeChapter 0)
+    ∷ when (oneOf numberMarkers name && (oneOf numberMarkers (nameOf (x .text)) && not (attachedTo a f (x .start)))) (warning x misplacedNumberMarker 0)
     ∷ []
 
 -- EmptyFigure, EmptyWordMarker, MissingRequiredAttribute
 abbrev pub contentChecks : List ℕ → Node → Forest → List Check
 contentChecks name x c =
-    when (equal name figName && not (hasText c)) (error x 21 0)
-    ∷ when (equal name wName && not (hasText c || (hasAttribute c || hasMarkers c))) (error x 25 0)
-    ∷ when (equal name rbName && not (hasAttribute c)) (error x 23 0)
+    when (equal name figName && not (hasText c)) (error x emptyFigure 0)
+    ∷ when (equal name wName && not (hasText c || (hasAttribute c || hasMarkers c))) (error x emptyWordMarker 0)
+    ∷ when (equal name rbName && not (hasAttribute c)) (error x missingRequiredAttribute 0)
     ∷ []

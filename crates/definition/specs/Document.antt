@@ -6,37 +6,38 @@ use mathlib.Core.Option.{Option, some, none}
 use lib.Dec.{eqb}
 use Rattle.text.specs.Pick.{pick}
 use Rattle.text.specs.Words.{blankText}
-use Rattle.tape.specs.Nodes.{Node}
+use Rattle.tape.specs.Nodes.{Node, textKind}
 use Rattle.tape.specs.Forest.{Forest, end, leaf, node}
-use Rattle.findings.specs.Finding.{Finding}
+use Rattle.findings.specs.Finding.{Finding, errorSeverity}
 use Rattle.findings.specs.Written.{only}
 use mathlib.Core.Path.{_≡_}
 use Rattle.definition.specs.State.{State, initial, outside}
 use Rattle.definition.specs.Checks.{error, warning, when, given}
 use Rattle.definition.specs.Walk.{Walked, walk}
+use Rattle.findings.specs.Codes.{textBeforeId, milestoneMismatch, unclosedStart, missingIdMarker, missingChapterMarker}
 
 -- TextBeforeId: the first child of the root is a Text that isn't blank
 unfoldable pub textBefore : Forest → List Finding
 textBefore end = []
-textBefore (leaf x r) = only (eqb (x .kind) 5 && not (blankText (x .text))) (warning x 7 0)
+textBefore (leaf x r) = only (eqb (x .kind) textKind && not (blankText (x .text))) (warning x textBeforeId 0)
 textBefore (node x c r) = []
 
 -- "its finding is a MilestoneMismatch of form 0 with its node"; the open starts are held the latest first, and given "in opening order"
 unfoldable pub unclosed : List Node → List Finding
 unclosed [] = []
-unclosed (x ∷ xs) = unclosed xs ++ error x 16 0 ∷ []
+unclosed (x ∷ xs) = unclosed xs ++ error x milestoneMismatch unclosedStart ∷ []
 
 -- of no node: "0 for the document"
 abbrev pub ofDocument : ℕ → Finding
-ofDocument code = record { severity = 0; code = code; start = 0; len = 0; node = 0; form = 0; first = 0; second = 0 }
+ofDocument code = record { severity = errorSeverity; code = code; start = 0; len = 0; node = 0; form = 0; first = 0; second = 0 }
 
 -- "Unclosed starts in opening order, then MissingIdMarker, then MissingChapterMarker: these are the closing findings."
 unfoldable pub closing : State → List Finding
 closing st =
     unclosed (st .openStarts)
     ++ given
-    (when (not (st .hasId) && (st .hasChapter || st .hasVerse)) (ofDocument 4)
-    ∷ when ((st .hasId || st .hasVerse) && (not (st .hasChapter) && not (st .frontMatter))) (ofDocument 8)
+    (when (not (st .hasId) && (st .hasChapter || st .hasVerse)) (ofDocument missingIdMarker)
+    ∷ when ((st .hasId || st .hasVerse) && (not (st .hasChapter) && not (st .frontMatter))) (ofDocument missingChapterMarker)
     ∷ [])
 
 -- the walk of the root's children

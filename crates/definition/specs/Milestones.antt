@@ -9,10 +9,11 @@ use Rattle.text.specs.Pick.{pick}
 use Rattle.tape.specs.Nodes.{Node}
 use Rattle.tape.specs.Forest.{Forest, end, leaf, node}
 use Rattle.table.specs.Bytes.{equal}
-use Rattle.table.specs.Entries.{Entry}
+use Rattle.table.specs.Entries.{Entry, milestoneCategory}
 use Rattle.cursor.specs.Names.{nameOf}
 use Rattle.definition.specs.State.{State}
 use Rattle.definition.specs.Checks.{error, entryOf, Check, when}
+use Rattle.findings.specs.Codes.{milestoneMismatch, endAlone}
 
 -- the name ends in a hyphen and the letter
 abbrev pub endsIn : ℕ → List ℕ → Bool
@@ -33,7 +34,7 @@ abbrev pub sameBase : Node → Node → Bool
 sameBase x y = equal (baseOf x) (baseOf y)
 
 abbrev pub isMilestone : Entry → Node → Bool
-isMilestone e x = eqb (e .category) 6 && (isStart x || isEnd x)
+isMilestone e x = eqb (e .category) milestoneCategory && (isStart x || isEnd x)
 
 abbrev pub withOpen : State → List Node → State
 withOpen st starts =
@@ -65,7 +66,7 @@ openAfter begins x xs = pick begins (x ∷ xs) (without x xs)
 
 -- MilestoneMismatch: "1 end"
 abbrev pub milestoneChecks : Entry → State → Node → List Check
-milestoneChecks e st x = when (isMilestone e x && (not (isStart x) && not (waits x (st .openStarts)))) (error x 16 1) ∷ []
+milestoneChecks e st x = when (isMilestone e x && (not (isStart x) && not (waits x (st .openStarts)))) (error x milestoneMismatch endAlone) ∷ []
 
 unfoldable pub afterMilestone : Entry → State → Node → State
 afterMilestone e st x = withOpen st (pick (isMilestone e x) (openAfter (isStart x) x (st .openStarts)) (st .openStarts))

@@ -9,9 +9,10 @@ use Rattle.text.specs.Pick.{pick}
 use Rattle.text.specs.Utf8.{firstIllFormed}
 use Rattle.tape.specs.Nodes.{count}
 use Rattle.tape.specs.Forest.{top}
-use Rattle.tape.specs.Reading.{Refusal, refuse, onlyIf, orElse, tapeRefusal}
+use Rattle.refusals.specs.Refusal.{Refusal, refuse, onlyIf, orElse, badTableLayout, sourceTooLong, sourceNotUtf8, workingListTooShort}
+use Rattle.tape.specs.Reading.{tapeRefusal}
 use Rattle.table.specs.Lines.{badTable}
-use Rattle.findings.specs.Finding.{Finding}
+use Rattle.findings.specs.Finding.{Finding, errorSeverity, warningSeverity, infoSeverity}
 use Rattle.findings.specs.Written.{room, overlay}
 use Rattle.numbers.specs.Label.{labelRefusal}
 use Rattle.definition.specs.Document.{findings, versesVisited}
@@ -32,15 +33,15 @@ atPlace number (some place) = refuse number place
 
 -- 1: "The table text breaks its layout"
 abbrev pub of1 : Lent → Option Refusal
-of1 l = atPlace 1 (badTable (l .table))
+of1 l = atPlace badTableLayout (badTable (l .table))
 
 -- 2: "The source is too long; place 0."
 abbrev pub of2 : Lent → Option Refusal
-of2 l = onlyIf (ltb 1048576 (length (l .source))) (refuse 2 0)
+of2 l = onlyIf (ltb 1048576 (length (l .source))) (refuse sourceTooLong 0)
 
 -- 3: "The source isn't UTF-8"
 abbrev pub of3 : Lent → Option Refusal
-of3 l = atPlace 3 (firstIllFormed (l .source))
+of3 l = atPlace sourceNotUtf8 (firstIllFormed (l .source))
 
 -- 4 to 8, and 9
 abbrev pub ofTape : Lent → Option Refusal
@@ -54,7 +55,7 @@ abbrev pub shortList : Lent → Bool
 shortList l = ltb (length (l .seen)) (count (l .tape)) || ltb (length (l .openStarts)) (count (l .tape))
 
 abbrev pub of10 : Lent → Option Refusal
-of10 l = onlyIf (shortList l) (refuse 10 (count (l .tape)))
+of10 l = onlyIf (shortList l) (refuse workingListTooShort (count (l .tape)))
 
 -- "Turned back, in checking order"
 unfoldable pub refusal : Lent → Option Refusal
@@ -96,9 +97,9 @@ checkedOf l =
       total = length (listOf l);
       written = writtenOf l;
       verses = versesVisited (l .table) (top (l .source) (l .tape));
-      errors = ofSeverity 0 (listOf l);
-      warnings = ofSeverity 1 (listOf l);
-      infos = ofSeverity 2 (listOf l);
+      errors = ofSeverity errorSeverity (listOf l);
+      warnings = ofSeverity warningSeverity (listOf l);
+      infos = ofSeverity infoSeverity (listOf l);
       cut = ltb (writtenOf l) (length (listOf l));
     }
 

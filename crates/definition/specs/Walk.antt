@@ -8,7 +8,7 @@ use Rattle.text.specs.Pick.{cut, pick}
 use Rattle.tape.specs.Nodes.{Node}
 use Rattle.tape.specs.Forest.{Forest, end, leaf, node}
 use Rattle.table.specs.Bytes.{equal}
-use Rattle.table.specs.Entries.{Entry}
+use Rattle.table.specs.Entries.{Entry, noteCategory, characterCategory}
 use Rattle.cursor.specs.Names.{nameOf}
 use Rattle.findings.specs.Finding.{Finding}
 use Rattle.attributes.specs.Attributes.{attributesFindings}
@@ -49,8 +49,8 @@ abbrev pub inside : Around → Entry → Around
 inside o e =
     record {
       body = (o .body || isBody e);
-      note = (o .note || eqb (e .category) 5);
-      char = (o .char || eqb (e .category) 4);
+      note = (o .note || eqb (e .category) noteCategory);
+      char = (o .char || eqb (e .category) characterCategory);
     }
 
 abbrev pub before : List Finding → Walked → Walked

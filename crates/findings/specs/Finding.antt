@@ -15,9 +15,15 @@ pub record Finding : Type 0 where
   pub first : ℕ
   pub second : ℕ
 
--- "so the last is 34": how many codes there are
-abbrev pub codes : ℕ
-codes = 35
+-- "severity (0 error, 1 warning, 2 info)"
+abbrev pub errorSeverity : ℕ
+errorSeverity = 0
+
+abbrev pub warningSeverity : ℕ
+warningSeverity = 1
+
+abbrev pub infoSeverity : ℕ
+infoSeverity = 2
 
 -- a finding's severity, code and form, by which its message is chosen
 pub record Kind : Type 0 where
@@ -29,11 +35,11 @@ pub record Kind : Type 0 where
 abbrev pub wordsOf : Finding → List ℕ
 wordsOf f = f .severity ∷ f .code ∷ f .start ∷ f .len ∷ f .node ∷ f .form ∷ f .first ∷ f .second ∷ []
 
--- "severity (0 error, 1 warning, 2 info)"
+-- the number of a severity
 abbrev pub severityOf : Severity → ℕ
-severityOf severity.Error = 0
-severityOf severity.Warning = 1
-severityOf severity.Info = 2
+severityOf severity.Error = errorSeverity
+severityOf severity.Warning = warningSeverity
+severityOf severity.Info = infoSeverity
 
 -- what the code's value says
 abbrev pub findingOf : code.Finding → Finding

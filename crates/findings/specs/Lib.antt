@@ -1,2 +1,3 @@
+pub mod Codes
 pub mod Finding
 pub mod Written

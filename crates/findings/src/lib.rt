@@ -58,6 +58,33 @@ pub const MISPLACED_NUMBER_MARKER: u64 = 33;
 
 pub const MISSING_SPACE_BEFORE_NUMBER: u64 = 34;
 
+// How many codes there are.
+pub const CODES: u64 = 35;
+
+// The forms of INVALID_BOOK_CODE.
+pub const SHOULD_BE_UPPERCASE: u64 = 0;
+
+pub const NOT_VALID: u64 = 1;
+
+// The forms of LEADING_ZEROS.
+pub const CHAPTER_FORM: u64 = 0;
+
+pub const VERSE_FORM: u64 = 1;
+
+// The forms of MILESTONE_MISMATCH.
+pub const UNCLOSED_START: u64 = 0;
+
+pub const END_ALONE: u64 = 1;
+
+// The forms of INVALID_ATTRIBUTES.
+pub const EMPTY_LIST_FORM: u64 = 0;
+
+pub const KEY_ALONE_FORM: u64 = 1;
+
+pub const EMPTY_VALUE_FORM: u64 = 2;
+
+pub const UNTERMINATED_FORM: u64 = 3;
+
 pub enum Severity {
     Error,
     Warning,

@@ -10,7 +10,7 @@ use native.Mathlib.Omega.{arith}
 use lib.Dec.{ltb}
 use lib.ListN.{length}
 use borrow.Author.Tests.{ltb-true}
-use Rattle.tape.specs.Reading.{refuse}
+use Rattle.refusals.specs.Refusal.{refuse}
 use Rattle.tape.specs.Forest.{Accepted}
 use Rattle.table.specs.Entries.{Indexed}
 use Rattle.buffer.specs.Over.{over}

@@ -3,7 +3,7 @@ use Prim.Native.Nat.{ℕ}
 use mathlib.Core.Bool.{Bool, true, false}
 use mathlib.Core.List.{List, [], _∷_}
 use mathlib.Core.Option.{Option, some, none}
-use Rattle.tape.specs.Reading.{Refusal}
+use Rattle.refusals.specs.Refusal.{Refusal}
 use Rattle.definition.specs.Outcome.{Answer, Checked, refused, checked}
 use Rattle.messages.specs.Told as message
 use Rattle.telling.specs.Telling as texts

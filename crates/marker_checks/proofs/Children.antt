@@ -2,15 +2,14 @@
 -- Assumes nothing.
 use Prim.Native.Nat.{ℕ, _+_, _<_, _≤_}
 use mathlib.Core.Path.{_≡_, refl, sym, ap, _∙_}
-use mathlib.Core.Bool.{Bool, true, false, not, _&&_}
+use mathlib.Core.Bool.{Bool, true, false, not, _&&_, and-true}
 use mathlib.Core.List.{List, []}
 use native.Mathlib.Omega.{arith}
 use lib.Dec.{eqb}
 use borrow.Author.Tests.{eq-eqb, ne-eqb, eqb-true}
 use Rattle.text.specs.Pick.{cut}
 use Rattle.text.specs.Words.{firstWord, blankText}
-use Rattle.text.proofs.Rows.{both-left}
-use Rattle.tape.specs.Nodes.{nodeAt, kindAt, linkAt, span, isOpen}
+use Rattle.tape.specs.Nodes.{nodeAt, kindAt, linkAt, span, isOpen, markerOpenKind, chapterKind, verseKind, textKind, attributeKind}
 use Rattle.tape.specs.Forest.{Forest, end, leaf, node, forest}
 use Rattle.tape.proofs.Nest.{forest-done}
 use Rattle.cursor.specs.Inner.{Run}
@@ -19,7 +18,7 @@ use Rattle.cursor.proofs.Runs.{run-next, run-children, forest-at-leaf, forest-a
 use Rattle.attachment.specs.Attached.{plain}
 use Rattle.definition.specs.Checks.{bookCode, inlineContent, hasText, hasAttribute, hasMarkers}
 use Rattle.marker_checks.specs.Inner.{isText}
-use Rattle.marker_checks.proofs.Flags.{both-true}
+use Rattle.text.proofs.Bool.{and-left}
 
 -- what is left of a run reads as the whole does
 pub record Along {A : Type 0} (read : Forest → A) (s t : List ℕ) (from to i : ℕ) : Type 0 where
@@ -35,8 +34,8 @@ module _ {A : Type 0} (read : Forest → A) (s t : List ℕ) (from to i : ℕ) (
 
 -- at a node of the run
 module _ (s t : List ℕ) (i to : ℕ) (run : Run s t i to) (more : i < to) where
-  as-leaf : {A : Type 0} (read : Forest → A) → (kindAt t i ≡ 1 → ⊥) → read (forest s t i to) ≡ read (leaf (nodeAt s t i) (forest s t (pastNode t i) to))
-  as-leaf read n = ap read (forest-at-leaf s t i to run more (ne-eqb (kindAt t i) 1 n))
+  as-leaf : {A : Type 0} (read : Forest → A) → (kindAt t i ≡ markerOpenKind → ⊥) → read (forest s t i to) ≡ read (leaf (nodeAt s t i) (forest s t (pastNode t i) to))
+  as-leaf read n = ap read (forest-at-leaf s t i to run more (ne-eqb (kindAt t i) markerOpenKind n))
 
   -- a leaf and a marker alike pass on to what follows
   passes : {A : Type 0} (read : Forest → A) → ((c : Forest) → read (node (nodeAt s t i) c (forest s t (pastNode t i) to)) ≡ read (forest s t (pastNode t i) to)) → read (leaf (nodeAt s t i) (forest s t (pastNode t i) to)) ≡ read (forest s t (pastNode t i) to) → read (forest s t i to) ≡ read (forest s t (pastNode t i) to)
@@ -46,16 +45,16 @@ module _ (s t : List ℕ) (i to : ℕ) (run : Run s t i to) (more : i < to) wher
       go true h = ap read (forest-at-open s t i to run more h) ∙ a _
       go false h = ap read (forest-at-leaf s t i to run more h) ∙ b
 
-  text-kind : isText false (nodeAt s t i) ≡ true → kindAt t i ≡ 5
-  text-kind h = eqb-true (kindAt t i) 5 (both-left _ _ h)
+  text-kind : isText false (nodeAt s t i) ≡ true → kindAt t i ≡ textKind
+  text-kind h = eqb-true (kindAt t i) textKind (and-left _ _ h)
 
-  pub code-here : (y : Bool) → (eqb (kindAt t i) 5 && y) ≡ true → (x : List ℕ) → x ≡ cut (span t i) s → cut (firstWord x) x ≡ bookCode (forest s t i to)
+  pub code-here : (y : Bool) → (eqb (kindAt t i) textKind && y) ≡ true → (x : List ℕ) → x ≡ cut (span t i) s → cut (firstWord x) x ≡ bookCode (forest s t i to)
   unfolding bookCode
-  code-here y h x q = let e = eqb-true (kindAt t i) 5 (both-left _ _ h) in sym (as-leaf bookCode (λ z. omega arith) ∙ rw (eq-eqb (kindAt t i) 5 e, ← q))
+  code-here y h x q = let e = eqb-true (kindAt t i) textKind (and-left _ _ h) in sym (as-leaf bookCode (λ z. omega arith) ∙ rw (eq-eqb (kindAt t i) textKind e, ← q))
 
   pub code-past : isText true (nodeAt s t i) ≡ false → bookCode (forest s t i to) ≡ bookCode (forest s t (pastNode t i) to)
   unfolding bookCode
-  code-past h = let e : eqb (kindAt t i) 5 ≡ false = both-true (eqb (kindAt t i) 5) ∙ h in passes bookCode (λ c. refl) (rw e)
+  code-past h = let e : eqb (kindAt t i) textKind ≡ false = sym (and-true (eqb (kindAt t i) textKind)) ∙ h in passes bookCode (λ c. refl) (rw e)
 
   pub text-here : isText false (nodeAt s t i) ≡ true → true ≡ hasText (forest s t i to)
   unfolding hasText
@@ -65,34 +64,34 @@ module _ (s t : List ℕ) (i to : ℕ) (run : Run s t i to) (more : i < to) wher
   unfolding hasText
   text-past h = passes hasText (λ c. refl) (rw h)
 
-  pub attribute-here : kindAt t i ≡ 6 → true ≡ hasAttribute (forest s t i to)
+  pub attribute-here : kindAt t i ≡ attributeKind → true ≡ hasAttribute (forest s t i to)
   unfolding hasAttribute
-  attribute-here e = sym (as-leaf hasAttribute (λ z. omega arith) ∙ rw (eq-eqb (kindAt t i) 6 e))
+  attribute-here e = sym (as-leaf hasAttribute (λ z. omega arith) ∙ rw (eq-eqb (kindAt t i) attributeKind e))
 
-  pub attribute-past : (kindAt t i ≡ 6 → ⊥) → hasAttribute (forest s t i to) ≡ hasAttribute (forest s t (pastNode t i) to)
+  pub attribute-past : (kindAt t i ≡ attributeKind → ⊥) → hasAttribute (forest s t i to) ≡ hasAttribute (forest s t (pastNode t i) to)
   unfolding hasAttribute
-  attribute-past n = passes hasAttribute (λ c. refl) (rw (ne-eqb (kindAt t i) 6 n))
+  attribute-past n = passes hasAttribute (λ c. refl) (rw (ne-eqb (kindAt t i) attributeKind n))
 
   -- a marker, a chapter, a verse, a text with content, and any other
-  pub line-marker : kindAt t i ≡ 1 → true ≡ inlineContent (forest s t i to)
+  pub line-marker : kindAt t i ≡ markerOpenKind → true ≡ inlineContent (forest s t i to)
   unfolding inlineContent
-  line-marker e = sym (ap inlineContent (forest-at-open s t i to run more (eq-eqb (kindAt t i) 1 e)))
+  line-marker e = sym (ap inlineContent (forest-at-open s t i to run more (eq-eqb (kindAt t i) markerOpenKind e)))
 
-  pub line-chapter : kindAt t i ≡ 3 → false ≡ inlineContent (forest s t i to)
+  pub line-chapter : kindAt t i ≡ chapterKind → false ≡ inlineContent (forest s t i to)
   unfolding inlineContent
-  line-chapter e = sym (as-leaf inlineContent (λ z. omega arith) ∙ rw (eq-eqb (kindAt t i) 3 e))
+  line-chapter e = sym (as-leaf inlineContent (λ z. omega arith) ∙ rw (eq-eqb (kindAt t i) chapterKind e))
 
-  pub line-verse : kindAt t i ≡ 4 → false ≡ inlineContent (forest s t i to)
+  pub line-verse : kindAt t i ≡ verseKind → false ≡ inlineContent (forest s t i to)
   unfolding inlineContent
-  line-verse e = sym (as-leaf inlineContent (λ z. omega arith) ∙ rw (ne-eqb (kindAt t i) 3 (omega arith), eq-eqb (kindAt t i) 4 e))
+  line-verse e = sym (as-leaf inlineContent (λ z. omega arith) ∙ rw (ne-eqb (kindAt t i) chapterKind (omega arith), eq-eqb (kindAt t i) verseKind e))
 
   pub line-text : isText false (nodeAt s t i) ≡ true → true ≡ inlineContent (forest s t i to)
   unfolding inlineContent
-  line-text h = let k = text-kind h in sym (as-leaf inlineContent (λ z. omega arith) ∙ rw (ne-eqb (kindAt t i) 3 (omega arith), ne-eqb (kindAt t i) 4 (omega arith), h))
+  line-text h = let k = text-kind h in sym (as-leaf inlineContent (λ z. omega arith) ∙ rw (ne-eqb (kindAt t i) chapterKind (omega arith), ne-eqb (kindAt t i) verseKind (omega arith), h))
 
-  pub line-past : (kindAt t i ≡ 1 → ⊥) → (kindAt t i ≡ 3 → ⊥) → (kindAt t i ≡ 4 → ⊥) → isText false (nodeAt s t i) ≡ false → inlineContent (forest s t i to) ≡ inlineContent (forest s t (pastNode t i) to)
+  pub line-past : (kindAt t i ≡ markerOpenKind → ⊥) → (kindAt t i ≡ chapterKind → ⊥) → (kindAt t i ≡ verseKind → ⊥) → isText false (nodeAt s t i) ≡ false → inlineContent (forest s t i to) ≡ inlineContent (forest s t (pastNode t i) to)
   unfolding inlineContent
-  line-past a b d h = as-leaf inlineContent a ∙ rw (ne-eqb (kindAt t i) 3 b, ne-eqb (kindAt t i) 4 d, h)
+  line-past a b d h = as-leaf inlineContent a ∙ rw (ne-eqb (kindAt t i) chapterKind b, ne-eqb (kindAt t i) verseKind d, h)
 
 pub code-none : [] ≡ bookCode end
 unfolding bookCode

@@ -2,14 +2,13 @@
 -- Assumes nothing.
 use Prim.Native.Nat.{ℕ}
 use mathlib.Core.Path.{_≡_, refl, sym, ap, _∙_}
-use mathlib.Core.Bool.{Bool, true, false, not, _&&_, _||_}
+use mathlib.Core.Bool.{Bool, true, false, not, _&&_, _||_, and-false, and-true, or-false}
 use mathlib.Core.List.{List, [], _∷_}
 use mathlib.Core.Option.{Option, some, none}
 use borrow.Author.Tests.{eq-eqb, ne-eqb}
 use lib.Dec.{eqb}
 use lib.ListN.{length}
 use Rattle.text.specs.Pick.{pick}
-use Rattle.text.proofs.Rows.{both-false}
 use Rattle.tape.specs.Nodes.{Node}
 use Rattle.tape.specs.Forest.{Forest}
 use Rattle.table.specs.Bytes.{equal, oneOf}
@@ -23,18 +22,6 @@ use Rattle.definition.specs.Checks.{given, idChecks, numberMarkers, frontBy, at
 use Rattle.state.specs.Running.{startsFor}
 use Rattle.state.specs.declared.Record.{Record}
 use Rattle.marker_checks.specs.Inner.{withId}
-
-pub both-true : (v : Bool) → v ≡ (v && true)
-both-true true = refl
-both-true false = refl
-
-pub not-true : (b : Bool) → not b ≡ true → b ≡ false
-not-true true h = sym h
-not-true false h = refl
-
-pub not-false : (b : Bool) → not b ≡ false → b ≡ true
-not-false true h = refl
-not-false false h = sym h
 
 -- the code's flag a is the test x
 module _ (a x : Bool) (is : a ≡ x) where
@@ -71,27 +58,23 @@ module _ (s : List ℕ) (before : Bool) where
   pub front-told : (r : Bool) → (length s ≡ 0 → ⊥) → r ≡ oneOf frontMatter s → r ≡ frontBy s before
   front-told r h e = rw (ne-eqb (length s) 0 h) e
 
-either-false : (a : Bool) → a ≡ (a || false)
-either-false true = refl
-either-false false = refl
-
 abbrev pub pair : ℕ → ℕ → List ℕ
 pair a b = a ∷ b ∷ []
 
 pub four : (s : List ℕ) → (equal (pair 0x63 0x61) s || (equal (pair 0x63 0x70) s || (equal (pair 0x76 0x61) s || equal (pair 0x76 0x70) s))) ≡ oneOf numberMarkers s
 unfolding oneOf numberMarkers
-four s = ap (λ (v : Bool). (equal (pair 0x63 0x61) s || (equal (pair 0x63 0x70) s || (equal (pair 0x76 0x61) s || v)))) (either-false (equal (pair 0x76 0x70) s))
+four s = ap (λ (v : Bool). (equal (pair 0x63 0x61) s || (equal (pair 0x63 0x70) s || (equal (pair 0x76 0x61) s || v)))) (sym (or-false (equal (pair 0x76 0x70) s)))
 
 -- no paragraph comes early where a chapter or front matter stands before it
 module _ (body chapter front : Bool) where
   pub after-chapter : chapter ≡ true → false ≡ (body && (not chapter && not front))
-  after-chapter h = rw h (sym (both-false body))
+  after-chapter h = rw h (sym (and-false body))
 
   pub in-front : chapter ≡ false → front ≡ true → false ≡ (body && (not chapter && not front))
-  in-front h k = rw (h, k) (sym (both-false body))
+  in-front h k = rw (h, k) (sym (and-false body))
 
   pub early : (r : Bool) → chapter ≡ false → front ≡ false → r ≡ body → r ≡ (body && (not chapter && not front))
-  early r h k e = rw (h, k) (e ∙ both-true body)
+  early r h k e = rw (h, k) (e ∙ sym (and-true body))
 
 -- the numbers attached to an anchor
 pub attached-is : (a : Option Anchor) (f : Forest) (at : ℕ) → among at (startsFor a f) ≡ attachedTo a f at

@@ -3,18 +3,16 @@
 use Prim.Native.Nat.{ℕ, _+_, _<_}
 use native.Mathlib.Omega.{arith}
 use mathlib.Core.Path.{_≡_, refl, sym, ap, _∙_}
-use mathlib.Core.Bool.{Bool, true, false, not, false≢true, _&&_, _||_}
+use mathlib.Core.Bool.{Bool, true, false, not, false≢true, _&&_, _||_, and-false}
 use mathlib.Core.List.{List, [], _++_}
 use mathlib.Core.Option.{Option}
 use lib.Dec.{eqb}
-use borrow.Author.Tests.{eq-eqb, ne-eqb, eqb-true}
+use borrow.Author.Tests.{eq-eqb, ne-eqb, eqb-true, not-true}
 use Rattle.text.specs.Pick.{cut, pick}
-use Rattle.text.proofs.Rows.{both-left, both-right, both-false}
-use Rattle.tape.specs.Nodes.{Node, nodeAt, kindAt, isOpen}
+use Rattle.tape.specs.Nodes.{Node, nodeAt, kindAt, isOpen, markerOpenKind, textKind, attributeKind}
 use Rattle.tape.specs.Forest.{Forest, end, leaf, node, forest}
-use Rattle.tape.proofs.OneNumber.{either-false}
 use Rattle.table.specs.Bytes.{equal, oneOf}
-use Rattle.table.specs.Entries.{Entry}
+use Rattle.table.specs.Entries.{Entry, paragraphCategory, characterCategory, milestoneCategory}
 use Rattle.cursor.specs.Inner.{Run}
 use Rattle.cursor.specs.Steps.{pastNode}
 use Rattle.cursor.proofs.Runs.{forest-at-leaf, forest-at-open}
@@ -30,21 +28,21 @@ use Rattle.state.specs.Running.{stateOf, countsOf}
 use Rattle.state.specs.declared.Record.{Record}
 use Rattle.marker_checks.specs.Own.{ownFindings, ownAt, isId, childrenAt, Marked}
 use Rattle.marker_checks.specs.Skip.{onlyTexts, askedFor, placed, canSkipMarker, canSkipMarkerAt}
-use Rattle.marker_checks.proofs.Flags.{not-true}
+use Rattle.text.proofs.Bool.{and-left, and-right, or-parts}
 
 -- a run of Texts, a node at a time
 module _ (s t : List ℕ) (i to : ℕ) (run : Run s t i to) (more : i < to) where
-  pub texts-other : (kindAt t i ≡ 5 → ⊥) → false ≡ onlyTexts (forest s t i to)
+  pub texts-other : (kindAt t i ≡ textKind → ⊥) → false ≡ onlyTexts (forest s t i to)
   unfolding onlyTexts
   texts-other n = go (isOpen (kindAt t i)) refl
     where
       go : (v : Bool) → isOpen (kindAt t i) ≡ v → false ≡ onlyTexts (forest s t i to)
       go true h = sym (ap onlyTexts (forest-at-open s t i to run more h))
-      go false h = sym (ap onlyTexts (forest-at-leaf s t i to run more h) ∙ rw (ne-eqb (kindAt t i) 5 n))
+      go false h = sym (ap onlyTexts (forest-at-leaf s t i to run more h) ∙ rw (ne-eqb (kindAt t i) textKind n))
 
-  pub texts-past : kindAt t i ≡ 5 → onlyTexts (forest s t i to) ≡ onlyTexts (forest s t (pastNode t i) to)
+  pub texts-past : kindAt t i ≡ textKind → onlyTexts (forest s t i to) ≡ onlyTexts (forest s t (pastNode t i) to)
   unfolding onlyTexts
-  texts-past e = ap onlyTexts (forest-at-leaf s t i to run more (ne-eqb (kindAt t i) 1 (λ z. omega arith))) ∙ rw (eq-eqb (kindAt t i) 5 e)
+  texts-past e = ap onlyTexts (forest-at-leaf s t i to run more (ne-eqb (kindAt t i) markerOpenKind (λ z. omega arith))) ∙ rw (eq-eqb (kindAt t i) textKind e)
 
 pub texts-none : true ≡ onlyTexts end
 unfolding onlyTexts
@@ -55,57 +53,57 @@ texts-attributes : (owner : ℕ) (marker : List ℕ) (f : Forest) → onlyTexts 
 unfolding onlyTexts attributesFindings
 texts-attributes owner marker end h = refl
 texts-attributes owner marker (leaf x r) h =
-    let k = eqb-true (x .kind) 5 (both-left (eqb (x .kind) 5) (onlyTexts r) h) in
-    rw (ne-eqb (x .kind) 6 (λ z. omega arith)) (texts-attributes owner marker r (both-right (eqb (x .kind) 5) (onlyTexts r) h))
+    let k = eqb-true (x .kind) textKind (and-left (eqb (x .kind) textKind) (onlyTexts r) h) in
+    rw (ne-eqb (x .kind) attributeKind (λ z. omega arith)) (texts-attributes owner marker r (and-right (eqb (x .kind) textKind) (onlyTexts r) h))
 texts-attributes owner marker (node x c r) h = absurd (false≢true h)
 
 -- a paragraph behind a chapter, or a character marker in a note
 data Placed (e : Entry) (o : state.Around) (chapter : Bool) : Type 0 where
-  paragraph : e .category ≡ 3 → chapter ≡ true → Placed e o chapter
-  character : e .category ≡ 4 → o .note ≡ true → Placed e o chapter
+  paragraph : e .category ≡ paragraphCategory → chapter ≡ true → Placed e o chapter
+  character : e .category ≡ characterCategory → o .note ≡ true → Placed e o chapter
 
 is-placed : (e : Entry) (o : state.Around) (chapter : Bool) → placed e o chapter ≡ true → Placed e o chapter
-is-placed e o chapter = go (eqb (e .category) 3) refl
+is-placed e o chapter = go (eqb (e .category) paragraphCategory) refl
   where
-    go : (v : Bool) → eqb (e .category) 3 ≡ v → pick v chapter (eqb (e .category) 4 && o .note) ≡ true → Placed e o chapter
-    go true k h = paragraph (eqb-true (e .category) 3 k) h
-    go false k h = character (eqb-true (e .category) 4 (both-left (eqb (e .category) 4) (o .note) h)) (both-right (eqb (e .category) 4) (o .note) h)
+    go : (v : Bool) → eqb (e .category) paragraphCategory ≡ v → pick v chapter (eqb (e .category) characterCategory && o .note) ≡ true → Placed e o chapter
+    go true k h = paragraph (eqb-true (e .category) paragraphCategory k) h
+    go false k h = character (eqb-true (e .category) characterCategory (and-left (eqb (e .category) characterCategory) (o .note) h)) (and-right (eqb (e .category) characterCategory) (o .note) h)
 
 module _ {e : Entry} {o : state.Around} {chapter : Bool} where
-  inside : Placed e o chapter → (y : Bool) → (eqb (e .category) 4 && (not (o .note) && y)) ≡ false
-  inside (paragraph k h) y = rw (ne-eqb (e .category) 4 (λ z. omega arith))
-  inside (character k h) y = rw (h, both-false (eqb (e .category) 4))
+  inside : Placed e o chapter → (y : Bool) → (eqb (e .category) characterCategory && (not (o .note) && y)) ≡ false
+  inside (paragraph k h) y = rw (ne-eqb (e .category) characterCategory (λ z. omega arith))
+  inside (character k h) y = rw (h, and-false (eqb (e .category) characterCategory))
 
   late : Placed e o chapter → (y : Bool) → (isBody e && (not chapter && y)) ≡ false
-  late (paragraph k h) y = rw (h, both-false (isBody e))
-  late (character k h) y = rw (ne-eqb (e .category) 3 (λ z. omega arith))
+  late (paragraph k h) y = rw (h, and-false (isBody e))
+  late (character k h) y = rw (ne-eqb (e .category) paragraphCategory (λ z. omega arith))
 
-  other : Placed e o chapter → eqb (e .category) 6 ≡ false
-  other (paragraph k h) = ne-eqb (e .category) 6 (λ z. omega arith)
-  other (character k h) = ne-eqb (e .category) 6 (λ z. omega arith)
+  other : Placed e o chapter → eqb (e .category) milestoneCategory ≡ false
+  other (paragraph k h) = ne-eqb (e .category) milestoneCategory (λ z. omega arith)
+  other (character k h) = ne-eqb (e .category) milestoneCategory (λ z. omega arith)
 
 none-of : (a b d e f g k : Bool) → ((a || b) || ((d || e) || ((f || g) || k))) ≡ false → (a ≡ false) × (b ≡ false) × (d ≡ false) × (e ≡ false) × (f ≡ false) × (g ≡ false) × (k ≡ false)
 none-of a b d e f g k h =
-    let p = either-false (a || b) _ h in
-    let q = either-false (d || e) _ (p .1) in
-    let r = either-false (f || g) k (q .1) in
-    let x = either-false a b (p .0) in
-    let y = either-false d e (q .0) in
-    let z = either-false f g (r .0) in
+    let p = or-parts (a || b) _ h in
+    let q = or-parts (d || e) _ (p .1) in
+    let r = or-parts (f || g) k (q .1) in
+    let x = or-parts a b (p .0) in
+    let y = or-parts d e (q .0) in
+    let z = or-parts f g (r .0) in
     (x .0, x .1, y .0, y .1, z .0, z .1, r .1)
 
 -- the three parts of the test
 module _ (name : List ℕ) (e : Entry) (o : state.Around) (chapter : Bool) (c : Forest) (h : canSkipMarker name e o chapter c ≡ true) where
   place : Placed e o chapter
-  place = is-placed e o chapter (both-left (placed e o chapter) _ h)
+  place = is-placed e o chapter (and-left (placed e o chapter) _ h)
 
   pub skipped-texts : onlyTexts c ≡ true
-  skipped-texts = both-left (onlyTexts c) _ (both-right (placed e o chapter) _ h)
+  skipped-texts = and-left (onlyTexts c) _ (and-right (placed e o chapter) _ h)
 
   names : (equal name bName ≡ false) × (equal name wName ≡ false) × (equal name idName ≡ false) × (equal name rbName ≡ false) × (equal name trName ≡ false) × (equal name figName ≡ false) × (oneOf numberMarkers name ≡ false)
-  names = none-of _ _ _ _ _ _ _ (not-true (askedFor name) (both-right (onlyTexts c) _ (both-right (placed e o chapter) _ h)))
+  names = none-of _ _ _ _ _ _ _ (not-true (askedFor name) (and-right (onlyTexts c) _ (and-right (placed e o chapter) _ h)))
 
-  pub skipped-category : eqb (e .category) 6 ≡ false
+  pub skipped-category : eqb (e .category) milestoneCategory ≡ false
   skipped-category = other place
 
   -- nothing is said of it

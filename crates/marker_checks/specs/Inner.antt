@@ -5,14 +5,14 @@ use mathlib.Core.List.{List}
 use lib.Dec.{eqb}
 use Rattle.text.specs.Pick.{pick}
 use Rattle.text.specs.Words.{blankText}
-use Rattle.tape.specs.Nodes.{Node}
+use Rattle.tape.specs.Nodes.{Node, textKind}
 use Rattle.tape.specs.Forest.{Forest}
 use Rattle.definition.specs.Checks.{frontBy, hasText, hasAttribute, hasMarkers}
 use Rattle.state.specs.declared.Record.{Record}
 
 -- a Text; a blank one counts if the flag says so
 abbrev pub isText : Bool → Node → Bool
-isText blank x = eqb (x .kind) 5 && (blank || not (blankText (x .text)))
+isText blank x = eqb (x .kind) textKind && (blank || not (blankText (x .text)))
 
 -- a Text that isn't blank, an Attribute or a marker
 abbrev pub hasContent : Forest → Bool

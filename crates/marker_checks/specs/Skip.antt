@@ -6,15 +6,16 @@ use lib.Dec.{eqb}
 use Rattle.text.specs.Pick.{cut, pick}
 use Rattle.tape.specs.Forest.{Forest, end, leaf, node}
 use Rattle.table.specs.Bytes.{equal, oneOf}
-use Rattle.table.specs.Entries.{Entry}
+use Rattle.table.specs.Entries.{Entry, paragraphCategory, characterCategory}
 use Rattle.definition.specs.State as state
 use Rattle.definition.specs.Checks.{numberMarkers, bName, figName, idName, rbName, trName, wName}
 use Rattle.marker_checks.specs.Own.{childrenAt}
+use Rattle.tape.specs.Nodes.{textKind}
 
 -- a run of Texts
 unfoldable pub onlyTexts : Forest → Bool
 onlyTexts end = true
-onlyTexts (leaf x r) = eqb (x .kind) 5 && onlyTexts r
+onlyTexts (leaf x r) = eqb (x .kind) textKind && onlyTexts r
 onlyTexts (node x c r) = false
 
 -- a name that a check asks for
@@ -24,7 +25,7 @@ askedFor name =
 
 -- a paragraph behind a chapter, or a character marker in a note
 abbrev pub placed : Entry → state.Around → Bool → Bool
-placed e o chapter = pick (eqb (e .category) 3) chapter (eqb (e .category) 4 && o .note)
+placed e o chapter = pick (eqb (e .category) paragraphCategory) chapter (eqb (e .category) characterCategory && o .note)
 
 -- by its name in the table, what lies around it, whether a chapter stands before it, and its children
 abbrev pub canSkipMarker : List ℕ → Entry → state.Around → Bool → Forest → Bool

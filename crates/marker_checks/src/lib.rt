@@ -27,7 +27,7 @@ ghost use Rattle.tape.specs.Nodes.{count, nodeAt, kindAt, startAt, linkAt, isOp
 ghost use Rattle.tape.specs.Forest.{forest};
 ghost use Rattle.table.specs.Bytes.{equal, oneOf};
 ghost use Rattle.table.specs.Names.{noteOnly};
-ghost use Rattle.table.specs.Entries.{entryOfInfo};
+ghost use Rattle.table.specs.Entries.{entryOfInfo, characterCategory};
 ghost use Rattle.cursor.specs.Names.{nameOf};
 ghost use Rattle.cursor.specs.Inner.{Run, Spanned};
 ghost use Rattle.findings.specs.Finding.{severityOf};
@@ -40,6 +40,7 @@ ghost use Rattle.state.specs.Running.{aroundOf, anchorOf, startsFor, stateOf, c
 ghost use Rattle.marker_checks.specs.Skip.{onlyTexts, askedFor, placed, canSkipMarkerAt};
 ghost use Rattle.marker_checks.specs.Own.{ownAt, Marked, childrenAt};
 ghost use Rattle.marker_checks.specs.Inner.{isText, hasContent, withId};
+ghost use Rattle.findings.specs.Codes.{shouldBeUppercase, notValid};
 
 // A finding with the span of a node, if it is there.
 fn push_for_node(
@@ -66,7 +67,7 @@ fn is_text(source: &[u8], tape: &[u8], i: usize, blank: bool) -> bool
     requires { ⌜ Spanned (now source) (now tape) i ⌝ }
     ensures { λ r. ⌜ r ≡ isText blank (nodeAt (now (source .entry)) (now (tape .entry)) i) ⌝ }
 {
-    if tape::kind_at(tape, i) != 5 {
+    if tape::kind_at(tape, i) != tape::TEXT {
         return false;
     }
     if blank {
@@ -98,13 +99,13 @@ fn blank_line_has_inline_content(source: &[u8], tape: &[u8], from: usize, to: us
     let mut i = from;
     while i < to {
         let kind = tape::kind_at(tape, i);
-        if kind == 1 {
+        if kind == tape::MARKER_OPEN {
             return true;
         }
-        if kind == 3 {
+        if kind == tape::CHAPTER {
             return false;
         }
-        if kind == 4 {
+        if kind == tape::VERSE {
             return false;
         }
         if is_text(source, tape, i, false) {
@@ -137,7 +138,7 @@ fn has_attribute(source: &[u8], tape: &[u8], from: usize, to: usize) -> bool
 {
     let mut i = from;
     while i < to {
-        if tape::kind_at(tape, i) == 6 {
+        if tape::kind_at(tape, i) == tape::ATTRIBUTE {
             return true;
         }
         i = cursor::past_node(tape, i);
@@ -198,9 +199,13 @@ fn is_bad_code(code: &[u8]) -> bool
 
 // The form of a bad code's finding.
 fn code_form(code: &[u8]) -> u64
-    ensures { λ r. ⌜ r ≡ pick (isBook (upper (now (code .entry)))) 0 1 ⌝ }
+    ensures { λ r. ⌜ r ≡ pick (isBook (upper (now (code .entry)))) shouldBeUppercase notValid ⌝ }
 {
-    if is_book_upper(code) { 0 } else { 1 }
+    if is_book_upper(code) {
+        findings::SHOULD_BE_UPPERCASE
+    } else {
+        findings::NOT_VALID
+    }
 }
 
 // What is said of node i if it is an `id`: `link` is the end of its children.
@@ -284,12 +289,12 @@ pub fn is_number_marker(name: &[u8]) -> bool
 
 // A marker of notes that stands outside one.
 fn outside_note(m: MarkerInfo, note: bool, name: &[u8]) -> bool
-    ensures { λ r. ⌜ r ≡ (eqb (entryOfInfo m .category) 4 && (not note && oneOf noteOnly (now (name .entry)))) ⌝ }
+    ensures { λ r. ⌜ r ≡ (eqb (entryOfInfo m .category) characterCategory && (not note && oneOf noteOnly (now (name .entry)))) ⌝ }
 {
     if note {
         return false;
     }
-    if state::is_of(m, 4) {
+    if state::is_of(m, table::CHARACTER) {
         table::is_note_only_marker(name)
     } else {
         false
@@ -493,7 +498,7 @@ fn has_only_texts(source: &[u8], tape: &[u8], from: usize, to: usize) -> bool
 {
     let mut i = from;
     while i < to {
-        if tape::kind_at(tape, i) != 5 {
+        if tape::kind_at(tape, i) != tape::TEXT {
             return false;
         }
         i = cursor::past_node(tape, i);
@@ -529,10 +534,10 @@ fn is_asked_for(name: &[u8]) -> bool
 fn is_placed(m: MarkerInfo, around: Around, chapter: bool) -> bool
     ensures { λ r. ⌜ r ≡ placed (entryOfInfo m) (aroundOf around) chapter ⌝ }
 {
-    if state::is_of(m, 3) {
+    if state::is_of(m, table::PARAGRAPH) {
         return chapter;
     }
-    if state::is_of(m, 4) {
+    if state::is_of(m, table::CHARACTER) {
         return around.note;
     }
     false

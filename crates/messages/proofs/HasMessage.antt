@@ -11,16 +11,15 @@ use lib.ListN.{length}
 use borrow.Author.Tests.{lt-ltb, le-leb, ne-eqb, ltb-true}
 use Rattle.text.specs.Pick.{cut, pick}
 use Rattle.text.specs.Words.{blankText}
-use Rattle.text.proofs.Rows.{both-left, both-right}
-use Rattle.tape.specs.Nodes.{Node, count, kindAt, linkAt, isOpen, nodeAt}
+use Rattle.tape.specs.Nodes.{Node, count, kindAt, linkAt, isOpen, nodeAt, chapterKind, verseKind, textKind, attributeKind}
 use Rattle.tape.specs.Forest.{Forest, end, leaf, node, forest, Nested, done, one, inner, top}
 use Rattle.tape.proofs.Nest.{nested-le, forest-done, forest-leaf, forest-node}
 use Rattle.table.specs.Bytes.{equal, oneOf}
-use Rattle.table.specs.Entries.{Entry}
+use Rattle.table.specs.Entries.{Entry, milestoneCategory}
 use Rattle.cursor.specs.Names.{nameOf}
 use Rattle.cursor.specs.Info.{infoAt}
 use Rattle.cursor.proofs.Runs.{run-top}
-use Rattle.findings.specs.Finding.{Finding, Kind}
+use Rattle.findings.specs.Finding.{Finding, Kind, warningSeverity}
 use Rattle.findings.specs.Written.{only}
 use Rattle.numbers.specs.Label.{labelOf, numbered}
 use Rattle.attributes.specs.Attributes.{attributeKinds, findingsAt, attributeFindings, attributesFindings}
@@ -39,6 +38,8 @@ use Rattle.messages.specs.Message.{askedOf, shownOf, textBy, messageText
 use Rattle.messages.proofs.Every.{AllOf, all-append, all-without, WhenHeld, all-only, all-pick, all-given}
 use Rattle.messages.proofs.LowLetters.{next-low, breaks-some}
 use Rattle.messages.proofs.AttributeKinds.{OfAttributes, all-kinds}
+use Rattle.text.proofs.Bool.{and-left, and-right}
+use Rattle.findings.specs.Codes.{milestoneMismatch, unclosedStart, leadingZeros, textBeforeId, endAlone, invalidBookCode, misplacedNumberMarker, invalidVerseSequence}
 
 -- the text of the finding is there, so that number 12 does not turn it back
 abbrev pub HasMessage : List ℕ → List ℕ → List ℕ → Finding → Type 0
@@ -53,16 +54,16 @@ is-some none e = absurd (false≢true e)
 is-some (some text) e = (text, refl)
 
 middle : (a b c : Bool) → (a && (b && c)) ≡ true → b ≡ true
-middle a b c h = both-left b c (both-right a (b && c) h)
+middle a b c h = and-left b c (and-right a (b && c) h)
 
 -- a label longer than one byte isn't empty
 longer-some : (n : ℕ) (b : Bool) → (ltb 1 n && b) ≡ true → not (eqb n 0) ≡ true
-longer-some n b h = let l = ltb-true 1 n (both-left (ltb 1 n) b h) in rw (ne-eqb n 0 (omega arith))
+longer-some n b h = let l = ltb-true 1 n (and-left (ltb 1 n) b h) in rw (ne-eqb n 0 (omega arith))
 
 -- what the walk's record hands on to later findings: the letter of the expected verse, and the starts that may stay unclosed
 record Fit (table s t : List ℕ) (st : State) : Type 0 where
   letter : letterByte (st .verse .letter) ≤ 127
-  starts : AllOf (λ x. HasMessage table s t (error x 16 0)) (st .openStarts)
+  starts : AllOf (λ x. HasMessage table s t (error x milestoneMismatch unclosedStart)) (st .openStarts)
 
 -- findings that all have their texts, and a record that goes on so
 record Good (table s t : List ℕ) (w : Walked) : Type 0 where
@@ -92,7 +93,7 @@ module _ (table s t : List ℕ) where
     unfolding allTexts documentTexts numberTexts codeOf formOf shownOf
     number-checks k chapter = (λ h. said 34 0 0 0 (rw (k, h)), (λ h. zeros chapter (longer-some (length label) _ h), tt))
       where
-        zeros : (chapter : Bool) → not (eqb (length label) 0) ≡ true → Has (error x 15 (pick chapter 0 1))
+        zeros : (chapter : Bool) → not (eqb (length label) 0) ≡ true → Has (error x leadingZeros (pick chapter 0 1))
         zeros true h = said 15 0 0 0 (rw (k, h))
         zeros false h = said 15 1 0 0 (rw (k, h))
 
@@ -106,10 +107,10 @@ module _ (table s t : List ℕ) where
     verse-checks k o st l =
         (λ h. said 12 0 0 0 refl, (λ h. said 20 0 0 0 refl, (λ h. said 19 0 0 0 refl, (λ h. sequence (breaks-some label (st .verse) h), number-checks k false))))
       where
-        sequence : not (eqb (length label) 0) ≡ true → Has (about x 1 11 0 (st .verse .number) (letterByte (st .verse .letter)))
+        sequence : not (eqb (length label) 0) ≡ true → Has (about x warningSeverity invalidVerseSequence 0 (st .verse .number) (letterByte (st .verse .letter)))
         sequence h = said 11 0 (st .verse .number) (letterByte (st .verse .letter)) (rw (le-leb (letterByte (st .verse .letter)) 127 l, k, h))
 
-    text-said : Has (warning x 7 0)
+    text-said : Has (warning x textBeforeId 0)
     unfolding allTexts documentTexts codeOf formOf shownOf
     text-said = said 7 0 0 0 refl
 
@@ -129,7 +130,7 @@ module _ (table s t : List ℕ) where
           no-default = said 32 0 owner 0 (rw (ne-eqb owner 0 (omega arith), lt-ltb owner (count t) below));
         }
 
-    milestone-said : 1 ≤ i → (isStart x || isEnd x) ≡ true → Has (error x 16 0) × Has (error x 16 1)
+    milestone-said : 1 ≤ i → (isStart x || isEnd x) ≡ true → Has (error x milestoneMismatch unclosedStart) × Has (error x milestoneMismatch endAlone)
     unfolding allTexts documentTexts numberTexts markerTexts codeOf formOf shownOf
     milestone-said from h = (said 16 0 0 0 (rw (ne-eqb i 0 (omega arith), h)), said 16 1 0 0 (rw (ne-eqb i 0 (omega arith), h)))
 
@@ -172,25 +173,25 @@ module _ (table s t : List ℕ) where
       let found = attributeFindings owner marker x in
       let kinds = all-kinds _ (attribute-said a (omega arith) (infoAt table t a) refl owner from low) marker (x .text) in
       rw (forest-leaf s t h z r)
-      (all-append Has (pick (eqb (x .kind) 6) found []) (attributesFindings owner marker (forest s t (a + 1) b)) (all-pick Has (eqb (x .kind) 6) found (at-all owner a (attributeKinds marker (x .text)) kinds)) (attributes-all r l owner from low marker))
+      (all-append Has (pick (eqb (x .kind) attributeKind) found []) (attributesFindings owner marker (forest s t (a + 1) b)) (all-pick Has (eqb (x .kind) attributeKind) found (at-all owner a (attributeKinds marker (x .text)) kinds)) (attributes-all r l owner from low marker))
   attributes-all {d} {a} {b} (inner h z c r) l owner from low marker = rw (forest-node s t h z c r) (attributes-all r l owner from low marker)
 
   -- a leaf
   leaf-all : (o : Around) (st : State) (i : ℕ) → i < count t → Fit table s t st → AllOf Has (leafTold table o st (nodeAt s t i) .findings)
   unfolding leafTold
-  leaf-all o st i l fit = all-given Has _ (go (eqb (kindAt t i) 3) (eqb (kindAt t i) 4) refl refl)
+  leaf-all o st i l fit = all-given Has _ (go (eqb (kindAt t i) chapterKind) (eqb (kindAt t i) verseKind) refl refl)
     where
       x : Node
       x = nodeAt s t i
 
-      go : (b v : Bool) → eqb (kindAt t i) 3 ≡ b → eqb (kindAt t i) 4 ≡ v → AllOf (WhenHeld Has) (pick b (chapterChecks (entryOf table x) st x) (pick v (verseChecks (entryOf table x) o st x) []))
+      go : (b v : Bool) → eqb (kindAt t i) chapterKind ≡ b → eqb (kindAt t i) verseKind ≡ v → AllOf (WhenHeld Has) (pick b (chapterChecks (entryOf table x) st x) (pick v (verseChecks (entryOf table x) o st x) []))
       go true v p q = chapter-checks i l (entryOf table x) (entry-is i) (rw p) st
       go false true p q = verse-checks i l (entryOf table x) (entry-is i) (rw (p, q)) o st (fit .letter)
       go false false p q = tt
 
   leaf-fit : (o : Around) (st : State) (x : Node) → Fit table s t st → Fit table s t (leafTold table o st x .state)
   unfolding leafTold afterChapter afterVerse
-  leaf-fit o st x fit = go (eqb (x .kind) 3) (eqb (x .kind) 4)
+  leaf-fit o st x fit = go (eqb (x .kind) chapterKind) (eqb (x .kind) verseKind)
     where
       go : (b v : Bool) → Fit table s t (pick b (afterChapter st x) (pick v (afterVerse (entryOf table x) o st x) st))
       go true v = record { letter = omega arith; starts = fit .starts }
@@ -223,16 +224,16 @@ module _ (table s t : List ℕ) where
         tell n form h = said i low (some e) known n form 0 0 h
 
         -- both forms show the code
-        book : (b : Bool) → (equal name idName && (not (eqb (length code) 0) && not (isBook code))) ≡ true → Has (warning y 5 (pick b 0 1))
+        book : (b : Bool) → (equal name idName && (not (eqb (length code) 0) && not (isBook code))) ≡ true → Has (warning y invalidBookCode (pick b 0 1))
         book true h = tell 5 0 (rw (opens, middle (equal name idName) (not (eqb (length code) 0)) (not (isBook code)) h))
         book false h = tell 5 1 (rw (opens, middle (equal name idName) (not (eqb (length code) 0)) (not (isBook code)) h))
 
-        number : (oneOf numberMarkers name && (oneOf numberMarkers written && not (attachedTo a f (y .start)))) ≡ true → Has (warning y 33 0)
+        number : (oneOf numberMarkers name && (oneOf numberMarkers written && not (attachedTo a f (y .start)))) ≡ true → Has (warning y misplacedNumberMarker 0)
         number h = tell 33 0 (rw (ne-eqb i 0 (omega arith), middle (oneOf numberMarkers name) (oneOf numberMarkers written) (not (attachedTo a f (y .start))) h))
 
     milestone-checks : (st : State) → AllOf (WhenHeld Has) (milestoneChecks e st y)
     milestone-checks st =
-        (λ h. milestone-said i low (some e) known from (both-right (eqb (e .category) 6) (isStart y || isEnd y) (both-left (isMilestone e y) (not (isStart y) && not (waits y (st .openStarts))) h)) .1, tt)
+        (λ h. milestone-said i low (some e) known from (and-right (eqb (e .category) milestoneCategory) (isStart y || isEnd y) (and-left (isMilestone e y) (not (isStart y) && not (waits y (st .openStarts))) h)) .1, tt)
 
     open-all : {d : ℕ} → Nested t d (i + 1) (linkAt t i) → linkAt t i ≤ count t → (o : Around) (a : Option Anchor) (st : State) (f : Forest) → AllOf Has (openTold table o a st e y below f .findings)
     unfolding openTold
@@ -251,7 +252,7 @@ module _ (table s t : List ℕ) where
     open-fit o a st c f fit = record { letter = fit .letter; starts = go (isMilestone e y) (isStart y) refl }
       where
         Unclosed : Node → Type 0
-        Unclosed z = Has (error z 16 0)
+        Unclosed z = Has (error z milestoneMismatch unclosedStart)
 
         go : (m b : Bool) → isStart y ≡ b → AllOf Unclosed (pick m (openAfter b y (st .openStarts)) (st .openStarts))
         go true true p = (milestone-said i low (some e) known from (rw p) .0, fit .starts)
@@ -308,13 +309,13 @@ module _ (table s t : List ℕ) where
       let x = nodeAt s t a in
       let k = nested-le r in
       let inside : a < count t = omega arith in
-      rw (forest-leaf s t h z r) (all-only Has (eqb (x .kind) 5 && not (blankText (x .text))) (warning x 7 0) (λ q. text-said a inside (infoAt table t a) refl))
+      rw (forest-leaf s t h z r) (all-only Has (eqb (x .kind) textKind && not (blankText (x .text))) (warning x textBeforeId 0) (λ q. text-said a inside (infoAt table t a) refl))
   text-all {d} {a} {b} (inner h z c r) l = rw (forest-node s t h z c r) tt
 
-  unclosed-all : (xs : List Node) → AllOf (λ x. Has (error x 16 0)) xs → AllOf Has (unclosed xs)
+  unclosed-all : (xs : List Node) → AllOf (λ x. Has (error x milestoneMismatch unclosedStart)) xs → AllOf Has (unclosed xs)
   unfolding unclosed
   unclosed-all [] h = tt
-  unclosed-all (x ∷ xs) h = all-append Has (unclosed xs) (error x 16 0 ∷ []) (unclosed-all xs (h .1)) (h .0, tt)
+  unclosed-all (x ∷ xs) h = all-append Has (unclosed xs) (error x milestoneMismatch unclosedStart ∷ []) (unclosed-all xs (h .1)) (h .0, tt)
 
   closing-all : 0 < count t → (st : State) → Fit table s t st → AllOf Has (closing st)
   unfolding closing allTexts documentTexts codeOf formOf shownOf

@@ -13,8 +13,10 @@ use borrow.Author.Tests.{lt-ltb, le-ltb, ltb-false}
 use Rattle.text.specs.Pick.{pick}
 use Rattle.tape.specs.Nodes.{count}
 use Rattle.tape.specs.Forest.{Accepted}
-use Rattle.tape.specs.Reading.{Refusal, refuse, orElse, tapeRefusal}
-use Rattle.tape.proofs.OneNumber.{accepted, neither, either-false, only-not}
+use Rattle.refusals.specs.Refusal.{Refusal, refuse, orElse, noMessage, messageListTooShort}
+use Rattle.tape.specs.Reading.{tapeRefusal}
+use Rattle.refusals.proofs.First.{neither, only-not}
+use Rattle.tape.proofs.OneNumber.{accepted}
 use Rattle.numbers.specs.Label.{labelRefusal}
 use Rattle.definition.specs.Outcome.{Lent, of1, of2, of3, ofTape, of9, of10, refusal}
 use Rattle.validate.specs.Entry.{checkRefusal, listsRefusal, fromTape, fromTable}
@@ -26,6 +28,7 @@ use Rattle.buffer.specs.Over.{over}
 use Rattle.messages.specs.Message.{Asked, messageText}
 use Rattle.messages.specs.Inner.{LaidBy}
 use Rattle.messages.specs.Told.{document, firstNine, Told, refused, laid, byRoom, bytesBy}
+use Rattle.text.proofs.Bool.{or-parts}
 
 or-none : (x : Option Refusal) → orElse x none ≡ x
 or-none none = refl
@@ -37,7 +40,7 @@ module _ (table s t : List ℕ) where
   long-enough none e =
       let odd = not (eqb (length t % 16) 0) in
       let many = ltb 65535 (count t) in
-      let few : count t ≤ 65535 = ltb-false 65535 (count t) (either-false odd many (either-false (eqb (length t) 0) (odd || many) (accepted s t .0 e .sized) .1) .1) in
+      let few : count t ≤ 65535 = ltb-false 65535 (count t) (or-parts odd many (or-parts (eqb (length t) 0) (odd || many) (accepted s t .0 e .sized) .1) .1) in
       ap (orElse (labelRefusal table s t)) (rw (le-ltb 65535 (count t) few)) ∙ or-none (labelRefusal table s t)
 
   nine : fromTable table s t 65535 65535 ≡ firstNine table s t
@@ -80,8 +83,8 @@ nine-none l z = first-five (of1 l) (of2 l) (of3 l) (ofTape l) (of9 l) (of10 l) z
 
 -- what is told, by what the laying of a text answered and the length of the list
 unfoldable pub toldFor : ℕ → ℕ → Told
-toldFor zero room = refused (record { number = 12; place = 0 })
-toldFor (suc n) room = pick (ltb room n) (refused (record { number = 13; place = n })) (laid n)
+toldFor zero room = refused (record { number = noMessage; place = 0 })
+toldFor (suc n) room = pick (ltb room n) (refused (record { number = messageListTooShort; place = n })) (laid n)
 
 by-room : (o : Option (List ℕ)) (l l′ : List ℕ) (r : ℕ) → LaidAs o l l′ r → (toldFor r (length l) ≡ byRoom o (length l)) × (l′ ≡ bytesBy none o l)
 unfolding toldFor
@@ -92,11 +95,11 @@ by-room (some s) l l′ r y = (rw (y .answer-is, add-one), go (ltb (length l) (l
     go true q = q
     go false q = q
 
-pub told-lack : (r room : ℕ) → r ≡ 0 → refused (record { number = 12; place = 0 }) ≡ toldFor r room
+pub told-lack : (r room : ℕ) → r ≡ 0 → refused (record { number = noMessage; place = 0 }) ≡ toldFor r room
 unfolding toldFor
 told-lack r room e = rw e
 
-pub told-short : (r room : ℕ) → (r ≡ 0 → ⊥) → room < r - 1 → refused (record { number = 13; place = r - 1 }) ≡ toldFor r room
+pub told-short : (r room : ℕ) → (r ≡ 0 → ⊥) → room < r - 1 → refused (record { number = messageListTooShort; place = r - 1 }) ≡ toldFor r room
 unfolding toldFor
 told-short zero room e h = absurd (e refl)
 told-short (suc n) room e h = let l : suc n - 1 ≡ n = omega arith in rw (l, lt-ltb room n (omega arith))

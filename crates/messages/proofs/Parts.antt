@@ -8,7 +8,7 @@ use lib.Dec.{eqb}
 use lib.ListN.{length}
 use Rattle.text.specs.Pick.{cut}
 use Rattle.text.specs.Words.{firstWord}
-use Rattle.tape.specs.Nodes.{span, nodeAt}
+use Rattle.tape.specs.Nodes.{span, nodeAt, textKind}
 use Rattle.tape.specs.Forest.{forest, Nested, done, one, inner}
 use Rattle.tape.proofs.Nest.{forest-done, forest-leaf, forest-node}
 use Rattle.cursor.specs.Inner.{Run}
@@ -25,7 +25,7 @@ code-short s t {d} {a} {b} (one h z r) =
     let x = nodeAt s t a in
     let w = cut-short (firstWord (x .text)) (x .text) in
     let c = cut-short (span t a) s in
-    rw (forest-leaf s t h z r) (pick-within (length s) (eqb (x .kind) 5) (cut (firstWord (x .text)) (x .text)) (bookCode (forest s t (a + 1) b)) (omega (arith, w, c)) (code-short s t r))
+    rw (forest-leaf s t h z r) (pick-within (length s) (eqb (x .kind) textKind) (cut (firstWord (x .text)) (x .text)) (bookCode (forest s t (a + 1) b)) (omega (arith, w, c)) (code-short s t r))
 code-short s t (inner h z c r) = rw (forest-node s t h z c r) (code-short s t r)
 
 pub code-inside : (s t : List ℕ) (a b : ℕ) (code : List ℕ) → Run s t a b → code ≡ bookCode (forest s t a b) → length code ≤ length s

@@ -11,7 +11,7 @@ use lib.ListN.{length, getD, take, drop, length-drop}
 use lib.Seq.{length-take-le}
 use borrow.Author.Tests.{lt-ltb, le-ltb, le-leb, lt-leb, eq-eqb, ne-eqb, eqb-true, not-false}
 use Rattle.text.specs.Pick.{Part, cut, pick}
-use Rattle.tape.specs.Nodes.{Node, count, kindAt, markerAt, linkAt, isOpen, nodeAt}
+use Rattle.tape.specs.Nodes.{Node, count, kindAt, markerAt, linkAt, isOpen, nodeAt, rootKind}
 use Rattle.tape.specs.Forest.{Accepted, forest}
 use Rattle.table.specs.Bytes.{oneOf}
 use Rattle.table.specs.Entries.{Entry, Indexed, Sound, entries, nth}
@@ -191,7 +191,7 @@ module _ (table s t : List ℕ) (q : Asked) where
 
 -- the root is no chapter and no verse, and has no marker
 root-kind : (s t : List ℕ) → Accepted s t → 0 < count t → kindAt t 0 ≡ 0
-root-kind s t a l = eqb-true (kindAt t 0) 0 (not-false _ (a .kinds 0 l))
+root-kind s t a l = eqb-true (kindAt t 0) rootKind (not-false _ (a .kinds 0 l))
 
 pub numbered-spanned : (s t : List ℕ) (i : ℕ) → Accepted s t → i < count t → numbered (kindAt t i) ≡ true → Spanned s t i
 numbered-spanned s t zero a l h = let k = root-kind s t a l in let z : _≡_ {A = Bool} false true = rw k at h in absurd (false≢true z)

@@ -5,7 +5,7 @@ use mathlib.Core.List.{List, []}
 use mathlib.Core.Option.{Option, some, none}
 use lib.Dec.{ltb}
 use lib.ListN.{length}
-use Rattle.tape.specs.Reading.{Refusal, orElse}
+use Rattle.refusals.specs.Refusal.{Refusal, orElse, noMessage, messageListTooShort}
 use Rattle.definition.specs.Outcome.{Lent, of1, of2, of3, ofTape, of9}
 use Rattle.buffer.specs.Over.{over}
 use Rattle.messages.specs.Message.{Asked, messageText}
@@ -27,8 +27,8 @@ pub data Told : Type 0 where
 
 -- 13: "Message list too short; place: length needed."
 abbrev pub byRoom : Option (List ℕ) → ℕ → Told
-byRoom none room = refused (record { number = 12; place = 0 })
-byRoom (some text) room = pick (ltb room (length text)) (refused (record { number = 13; place = length text })) (laid (length text))
+byRoom none room = refused (record { number = noMessage; place = 0 })
+byRoom (some text) room = pick (ltb room (length text)) (refused (record { number = messageListTooShort; place = length text })) (laid (length text))
 
 abbrev pub toldBy : Option Refusal → Option (List ℕ) → ℕ → Told
 toldBy (some r) text room = refused r

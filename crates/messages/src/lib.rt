@@ -326,7 +326,7 @@ fn lay_book(source: &[u8], tape: &[u8], q: Asked, out: &mut [u8]) -> usize
     ensures { λ r. ⌜ ((table : List ℕ) → LaidBy table (now (source .entry)) (now (tape .entry)) (askedBy q) (now (out .entry)) (now (out .exit)) r) ⌝ }
 {
     let i = q.node as usize;
-    if tape::kind_at(tape, i) != 1 {
+    if tape::kind_at(tape, i) != tape::MARKER_OPEN {
         return 0;
     }
     let code = marker_checks::book_code(source, tape, i + 1, tape::link_at(tape, i) as usize);

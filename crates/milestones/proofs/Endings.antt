@@ -3,7 +3,7 @@
 use Prim.Native.Nat.{ℕ, _+_, _-_, _<_, _≤_}
 use native.Mathlib.Omega.{arith}
 use mathlib.Core.Path.{_≡_, refl, sym, ap, _∙_}
-use mathlib.Core.Bool.{Bool, true, false}
+use mathlib.Core.Bool.{Bool, true, false, and-true}
 use mathlib.Core.List.{List, [], _∷_}
 use lib.Dec.{eqb}
 use lib.ListN.{length, getD, take, drop, length-take, length-drop, drop-of-length-le}
@@ -12,7 +12,7 @@ use denote.Enum.Declared.{tagOf}
 use types.Run.{OneOf, miss}
 use borrow.Author.Tests.{eq-eqb, ne-eqb}
 use Rattle.text.specs.Pick.{cut}
-use Rattle.text.proofs.Rows.{both-true, place}
+use Rattle.text.proofs.Rows.{place}
 use Rattle.tape.specs.Nodes.{nodeAt, span, startAt, lenAt}
 use Rattle.table.specs.Bytes.{equal}
 use Rattle.table.specs.Entries.{categoryOf, entryOfInfo}
@@ -44,7 +44,7 @@ module _ (name : List ℕ) (letter : ℕ) (h : 2 ≤ length name) where
 
   pub hyphen : getD name (length name - 2) 0 ≡ 0x2D → eqb (getD name (length name - 1) 0) letter ≡ endsIn letter name
   unfolding equal
-  hyphen g = rw (last-two name h, eq-eqb _ _ g) (sym (both-true (eqb (getD name (length name - 1) 0) letter)))
+  hyphen g = rw (last-two name h, eq-eqb _ _ g) (sym (and-true (eqb (getD name (length name - 1) 0) letter)))
 
 pub no-base : (name : List ℕ) → length name < 2 → [] ≡ baseIn name
 no-base name h = let e : length name - 2 ≡ 0 = omega arith in rw e

@@ -12,7 +12,7 @@ use lib.Seq.{length-take-le, take-take}
 use borrow.Author.Tests.{eq-eqb}
 use Rattle.text.specs.Pick.{cut}
 use Rattle.tape.specs.Nodes.{nodeAt, span, startAt, lenAt}
-use Rattle.table.specs.Entries.{Entry}
+use Rattle.table.specs.Entries.{Entry, milestoneCategory}
 use Rattle.cursor.specs.declared.NameSpan.{NameSpan}
 use Rattle.cursor.specs.Names.{nameOf}
 use Rattle.cursor.specs.Inner.{Named}
@@ -65,9 +65,9 @@ module _ (s t : List ℕ) (i a n : ℕ) (here : a ≡ startAt t i) (len : n ≡ 
       ∙ take-take (at .end - at .start - 2) (a + n - (a + at .start)) (drop (a + at .start) s) (omega (arith, x-long)))
 
   -- by the tests of the name
-  module _ (e : Entry) (of : e .category ≡ 6) where
+  module _ (e : Entry) (of : e .category ≡ milestoneCategory) where
     milestone : (y z : Bool) → y ≡ endsIn 0x73 name → z ≡ endsIn 0x65 name → isMilestone e (nodeAt s t i) ≡ (y || z)
-    milestone y z y-is z-is = ap (λ (k : List ℕ). (eqb (e .category) 6 && (endsIn 0x73 k || endsIn 0x65 k))) (sym is) ∙ rw (eq-eqb (e .category) 6 of, ← y-is, ← z-is)
+    milestone y z y-is z-is = ap (λ (k : List ℕ). (eqb (e .category) milestoneCategory && (endsIn 0x73 k || endsIn 0x65 k))) (sym is) ∙ rw (eq-eqb (e .category) milestoneCategory of, ← y-is, ← z-is)
 
     begins : (y : Bool) → y ≡ endsIn 0x73 name → isStart (nodeAt s t i) ≡ y
     begins y y-is = ap (endsIn 0x73) (sym is) ∙ sym y-is
@@ -84,5 +84,5 @@ module _ (s t : List ℕ) (i a n : ℕ) (here : a ≡ startAt t i) (len : n ≡ 
     neither y z y-is z-is h g = milestone y z y-is z-is ∙ rw (h, g)
 
 -- a marker of another category is no milestone, whatever its name
-pub other-category : (e : Entry) (s t : List ℕ) (i : ℕ) (b : Bool) → b ≡ eqb (e .category) 6 → b ≡ false → isMilestone e (nodeAt s t i) ≡ false
-other-category e s t i b is h = let q : eqb (e .category) 6 ≡ false = sym is ∙ h in rw q
+pub other-category : (e : Entry) (s t : List ℕ) (i : ℕ) (b : Bool) → b ≡ eqb (e .category) milestoneCategory → b ≡ false → isMilestone e (nodeAt s t i) ≡ false
+other-category e s t i b is h = let q : eqb (e .category) milestoneCategory ≡ false = sym is ∙ h in rw q

@@ -29,6 +29,7 @@ use Rattle.milestones.specs.declared.Found.the-variants.{At, Nothing}
 use Rattle.milestones.proofs.Search.{Gone, isFound, found-inside, waits-found, none-taken, one-taken}
 use Rattle.milestones.proofs.Moves.{gone}
 use Rattle.milestones.proofs.Kept.{starts-pushed, opens-pushed, opens-gone}
+use Rattle.findings.specs.Codes.{milestoneMismatch, endAlone}
 
 -- one check: its finding under its test
 module _ (b b′ : Bool) (f f′ : Finding) (b-is : b′ ≡ b) (f-is : f′ ≡ f) where
@@ -43,9 +44,9 @@ module _ (b b′ : Bool) (f f′ : Finding) (b-is : b′ ≡ b) (f-is : f′ ≡
   one-wrote c c′ l l′ d e w = rw one (rw e at w)
 
 -- the record with the counts of a finding written
-pub told-alone : (t : List ℕ) (i : ℕ) (l l′ : List ℕ) (r q : Record) (f : Finding) (c d : Counts) → f ≡ error (nodeAt [] t i) 16 1 → c ≡ countsOf r → Wrote (f ∷ []) l c l′ d → q ≡ withCounts r d → ToldAlone t i l r l′ q
+pub told-alone : (t : List ℕ) (i : ℕ) (l l′ : List ℕ) (r q : Record) (f : Finding) (c d : Counts) → f ≡ error (nodeAt [] t i) milestoneMismatch endAlone → c ≡ countsOf r → Wrote (f ∷ []) l c l′ d → q ≡ withCounts r d → ToldAlone t i l r l′ q
 told-alone t i l l′ r q f c d f-is c-is w q-is =
-    let w′ : Wrote (error (nodeAt [] t i) 16 1 ∷ []) l (countsOf r) l′ d = subst (λ (z : Finding). Wrote (z ∷ []) l (countsOf r) l′ d) f-is (subst (λ (z : Counts). Wrote (f ∷ []) l z l′ d) c-is w) in
+    let w′ : Wrote (error (nodeAt [] t i) milestoneMismatch endAlone ∷ []) l (countsOf r) l′ d = subst (λ (z : Finding). Wrote (z ∷ []) l (countsOf r) l′ d) f-is (subst (λ (z : Counts). Wrote (f ∷ []) l z l′ d) c-is w) in
     subst (ToldAlone t i l r l′) (sym q-is) (record { wrote = w′; same = refl })
 
 -- a node among the open starts
@@ -61,7 +62,7 @@ module _ (e : Entry) (s t : List ℕ) (i : ℕ) (opens : List OpenStart) (l : Li
   unfolding overlay counted
   quiet h {opens′} {q} st =
       record {
-        wrote = one-wrote alone false (error x 16 1) (error x 16 1) h refl (countsOf r) (countsOf r) l l (countsOf q) refl (record { words = refl; counts = st .counts });
+        wrote = one-wrote alone false (error x milestoneMismatch endAlone) (error x milestoneMismatch endAlone) h refl (countsOf r) (countsOf r) l l (countsOf q) refl (record { words = refl; counts = st .counts });
         step = subst (λ (k : Counts). Stepped e s t i opens (withCounts r k) opens′ q) (sym (st .counts)) st;
       }
 
@@ -116,12 +117,12 @@ module _ (e : Entry) (s t : List ℕ) (i : ℕ) (opens : List OpenStart) (l : Li
     by-itself n l′ r′ told =
         let st : Stepped e s t i opens r opens r = stepped opens (r .«open») (rw (y, z) (sym (none-taken s t opens x (r .«open») n))) o (omega arith) in
         record {
-          wrote = one-wrote alone true (error x 16 1) (error x 16 1) (alone-is Nothing n) refl (countsOf r) (countsOf r) l l′ (countsOf r′) refl (told .wrote);
+          wrote = one-wrote alone true (error x milestoneMismatch endAlone) (error x milestoneMismatch endAlone) (alone-is Nothing n) refl (countsOf r) (countsOf r) l l′ (countsOf r′) refl (told .wrote);
           step = subst (λ (q : Record). Stepped e s t i opens (withCounts r (countsOf r′)) opens q) (sym (told .same)) (recounted (countsOf r′) st);
         }
 
-    room-alone : nearestIn s t opens (r .«open») (baseOf x) ≡ Nothing → Room (countsOf r) (given (milestoneChecks e (stateOf s t [] opens r) x)) → Room (countsOf r) (error (nodeAt [] t i) 16 1 ∷ [])
-    room-alone n = one-fits alone true (error x 16 1) (error x 16 1) (alone-is Nothing n) refl (countsOf r) (countsOf r) refl
+    room-alone : nearestIn s t opens (r .«open») (baseOf x) ≡ Nothing → Room (countsOf r) (given (milestoneChecks e (stateOf s t [] opens r) x)) → Room (countsOf r) (error (nodeAt [] t i) milestoneMismatch endAlone ∷ [])
+    room-alone n = one-fits alone true (error x milestoneMismatch endAlone) (error x milestoneMismatch endAlone) (alone-is Nothing n) refl (countsOf r) (countsOf r) refl
 
     ended : (at : ℕ) → nearestIn s t opens (r .«open») (baseOf x) ≡ At at → (opens′ : List OpenStart) → opens′ ≡ removed opens (r .«open») at → length opens′ ≡ length opens → Milestoned e s t i opens l r opens′ l (withOpens r (r .«open» - 1))
     ended at n opens′ w len =
@@ -162,5 +163,5 @@ module _ (e : Entry) (s t : List ℕ) (i : ℕ) (opens : List OpenStart) (l : Li
           rw w (by-itself (rd .0) (rd .1) (rw (rd .2) at n) l′ q c′)
 
 -- the room that is asked for, where an end stands alone
-pub countable-alone : (t : List ℕ) (i : ℕ) (p : Paired) (r : Record) → p ≡ paired.Alone → Countable t i p r → Room (countsOf r) (error (nodeAt [] t i) 16 1 ∷ [])
+pub countable-alone : (t : List ℕ) (i : ℕ) (p : Paired) (r : Record) → p ≡ paired.Alone → Countable t i p r → Room (countsOf r) (error (nodeAt [] t i) milestoneMismatch endAlone ∷ [])
 countable-alone t i p r h c = rw h at c

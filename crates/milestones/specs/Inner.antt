@@ -8,7 +8,7 @@ use lib.ListN.{length, getD, set, take, drop}
 use Rattle.text.specs.Pick.{pick}
 use Rattle.tape.specs.Nodes.{nodeAt}
 use Rattle.table.specs.Bytes.{equal}
-use Rattle.table.specs.Entries.{Entry}
+use Rattle.table.specs.Entries.{Entry, milestoneCategory}
 use Rattle.cursor.specs.Inner.{Spanned}
 use Rattle.findings.specs.Written.{Wrote, Room}
 use Rattle.definition.specs.Checks.{error}
@@ -23,6 +23,7 @@ use Rattle.milestones.specs.declared.Paired.{Paired}
 use Rattle.milestones.specs.declared.Paired.the-variants as paired
 use Rattle.milestones.specs.declared.Found.{Found}
 use Rattle.milestones.specs.declared.Found.the-variants.{At, Nothing}
+use Rattle.findings.specs.Codes.{milestoneMismatch, endAlone}
 
 -- a name without its last two bytes
 abbrev pub baseIn : List ℕ → List ℕ
@@ -30,7 +31,7 @@ baseIn name = take (length name - 2) name
 
 -- a milestone by its table entry and its name
 abbrev pub named : Entry → List ℕ → Bool
-named e name = eqb (e .category) 6 && (endsIn 0x73 name || endsIn 0x65 name)
+named e name = eqb (e .category) milestoneCategory && (endsIn 0x73 name || endsIn 0x65 name)
 
 -- a node with the length of its base
 pub record Measured (s t : List ℕ) (node len : ℕ) : Type 0 where
@@ -105,7 +106,7 @@ withOpens r n =
 
 -- the finding of an end that nothing waits for is written, and nothing but the counts is another
 pub record ToldAlone (t : List ℕ) (i : ℕ) (l : List ℕ) (r : Record) (l′ : List ℕ) (q : Record) : Type 0 where
-  pub wrote : Wrote (error (nodeAt [] t i) 16 1 ∷ []) l (countsOf r) l′ (countsOf q)
+  pub wrote : Wrote (error (nodeAt [] t i) milestoneMismatch endAlone ∷ []) l (countsOf r) l′ (countsOf q)
   pub same : q ≡ withCounts r (countsOf q)
 
 -- the record after a marker, by how many open starts there are now: an end that stands alone is told
@@ -116,4 +117,4 @@ Counted t i paired.Alone l r l′ q = ToldAlone t i l r l′ q
 -- there is room for what is told
 abbrev pub Countable : List ℕ → ℕ → Paired → Record → Type 0
 Countable t i (paired.Now n) r = Unit {0}
-Countable t i paired.Alone r = Room (countsOf r) (error (nodeAt [] t i) 16 1 ∷ [])
+Countable t i paired.Alone r = Room (countsOf r) (error (nodeAt [] t i) milestoneMismatch endAlone ∷ [])

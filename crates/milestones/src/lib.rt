@@ -9,7 +9,7 @@ ghost use Prim.Native.Nat.{_+_, _<_, _≤_};
 ghost use lib.ListN.{length, set};
 ghost use Rattle.tape.specs.Nodes.{nodeAt, count};
 ghost use Rattle.table.specs.Bytes.{equal};
-ghost use Rattle.table.specs.Entries.{Entry, entryOfInfo};
+ghost use Rattle.table.specs.Entries.{Entry, entryOfInfo, milestoneCategory};
 ghost use Rattle.cursor.specs.Inner.{Spanned};
 ghost use Rattle.findings.specs.Written.{Room};
 ghost use Rattle.definition.specs.Checks.{given, error};
@@ -17,6 +17,7 @@ ghost use Rattle.definition.specs.Milestones.{endsIn, baseOf, milestoneChecks};
 ghost use Rattle.state.specs.Running.{stateOf, countsOf, Opens};
 ghost use Rattle.milestones.specs.Inner.{baseIn, Measured, Read, Placed, baseAt, nearestIn, removed, takenBy, opensBy, pairedBy, withOpens, ToldAlone, Counted, Countable};
 ghost use Rattle.milestones.specs.Steps.{Milestoned, Steppable};
+ghost use Rattle.findings.specs.Codes.{milestoneMismatch, endAlone};
 
 // An entry among the open starts, if there is one.
 pub enum Found {
@@ -66,7 +67,7 @@ pub fn base(name: &[u8]) -> &[u8]
 // What a marker whose category is milestone is, by its name.
 fn step_named(source: &[u8], tape: &[u8], i: usize) -> Step
     requires { ⌜ (Spanned (now source) (now tape) i) × (i < 4294967296) ⌝ }
-    ensures { λ r. ⌜ ((e : Entry) → e .category ≡ 6 → Read e (now (source .entry)) (now (tape .entry)) i r) ⌝ }
+    ensures { λ r. ⌜ ((e : Entry) → e .category ≡ milestoneCategory → Read e (now (source .entry)) (now (tape .entry)) i r) ⌝ }
 {
     let a = tape::start_at(tape, i) as usize;
     let n = tape::len_at(tape, i) as usize;
@@ -92,7 +93,7 @@ pub fn step_of(m: MarkerInfo, source: &[u8], tape: &[u8], i: usize) -> Step
     requires { ⌜ (Spanned (now source) (now tape) i) × (i < 4294967296) ⌝ }
     ensures { λ r. ⌜ Read (entryOfInfo m) (now (source .entry)) (now (tape .entry)) i r ⌝ }
 {
-    if state::is_of(m, 6) {
+    if state::is_of(m, table::MILESTONE) {
         return step_named(source, tape, i);
     }
     Step::Neither
@@ -140,7 +141,7 @@ fn with_open(r: Record, n: usize) -> Record
 
 // The finding of an end that no open start waits for.
 fn tell_alone(tape: &[u8], i: usize, rec: Record, list: &mut [u64]) -> Record
-    requires { ⌜ (i < count (now tape)) × Room (countsOf rec) (error (nodeAt [] (now tape) i) 16 1 ∷ []) ⌝ }
+    requires { ⌜ (i < count (now tape)) × Room (countsOf rec) (error (nodeAt [] (now tape) i) milestoneMismatch endAlone ∷ []) ⌝ }
     ensures { λ r. ⌜ ToldAlone (now (tape .entry)) i (now (list .entry)) rec (now (list .exit)) r ⌝ }
 {
     let f = state::about(
@@ -148,7 +149,7 @@ fn tell_alone(tape: &[u8], i: usize, rec: Record, list: &mut [u64]) -> Record
         i,
         Severity::Error,
         findings::MILESTONE_MISMATCH,
-        1,
+        findings::END_ALONE,
         0,
         0,
     );

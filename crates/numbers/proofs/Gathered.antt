@@ -11,7 +11,7 @@ use native.Mathlib.Omega.{arith}
 use lib.ListN.{length, getD, set, take, drop, length-set, drop-of-length-le}
 use lib.Seq.{take-suc, take-set-le, getD-set-same, drop-cons}
 use Rattle.tape.specs.Nodes.{count, kindAt}
-use Rattle.tape.specs.Reading.{Refusal, refuse, onlyIf, orElse, firstBad}
+use Rattle.refusals.specs.Refusal.{Refusal, refuse, onlyIf, orElse, firstBad, splitLabel}
 use Rattle.tape.specs.Forest.{Accepted}
 use Rattle.cursor.specs.Inner.{Spanned}
 use Rattle.cursor.proofs.Around.{spanned}
@@ -52,12 +52,12 @@ kept-from t i (suc n) j h = go (numbered (kindAt t i)) j h (kept-from t (suc i) 
     go false j h ih = let r = ih j h in (omega arith, omega arith)
 
 -- a search among what is kept finds what a search among all nodes does, where only a Chapter or a Verse is bad
-pub first-kept : (t : List ℕ) (bad : ℕ → Bool) → ((i : ℕ) → numbered (kindAt t i) ≡ false → bad i ≡ false) → (i n : ℕ) → firstAmong bad (numbersIn t i n) ≡ firstBad 9 bad i n
+pub first-kept : (t : List ℕ) (bad : ℕ → Bool) → ((i : ℕ) → numbered (kindAt t i) ≡ false → bad i ≡ false) → (i n : ℕ) → firstAmong bad (numbersIn t i n) ≡ firstBad splitLabel bad i n
 unfolding numbersIn firstAmong firstBad
 first-kept t bad other i zero = refl
 first-kept t bad other i (suc n) = go (numbered (kindAt t i)) refl (first-kept t bad other (suc i) n)
   where
-    go : (x : Bool) → numbered (kindAt t i) ≡ x → firstAmong bad (numbersIn t (suc i) n) ≡ firstBad 9 bad (suc i) n → firstAmong bad (keptIf x i (numbersIn t (suc i) n)) ≡ orElse (onlyIf (bad i) (refuse 9 i)) (firstBad 9 bad (suc i) n)
+    go : (x : Bool) → numbered (kindAt t i) ≡ x → firstAmong bad (numbersIn t (suc i) n) ≡ firstBad splitLabel bad (suc i) n → firstAmong bad (keptIf x i (numbersIn t (suc i) n)) ≡ orElse (onlyIf (bad i) (refuse splitLabel i)) (firstBad splitLabel bad (suc i) n)
     go true e ih = rw ih
     go false e ih = rw (other i e) ih
 
@@ -68,11 +68,11 @@ module _ (s t found : List ℕ) (from to : ℕ) where
       let k = kept-from t from (to - from) j (rw (← e) h) in
       rw e (spanned s t (getD (numbersIn t from (to - from)) j 0) a (omega arith) (omega arith))
 
-pub first-in : (table s t found : List ℕ) (from to : ℕ) → found ≡ numbersIn t from (to - from) → firstAmong (badLabel table s t) found ≡ firstBad 9 (badLabel table s t) from (to - from)
+pub first-in : (table s t found : List ℕ) (from to : ℕ) → found ≡ numbersIn t from (to - from) → firstAmong (badLabel table s t) found ≡ firstBad splitLabel (badLabel table s t) from (to - from)
 first-in table s t found from to e = ap (firstAmong (badLabel table s t)) e ∙ first-kept t (badLabel table s t) (λ i x. rw x) from (to - from)
 
 -- a search in two parts
-first-parts : (bad : ℕ → Bool) (i m n : ℕ) → firstBad 9 bad i (m + n) ≡ orElse (firstBad 9 bad i m) (firstBad 9 bad (i + m) n)
+first-parts : (bad : ℕ → Bool) (i m n : ℕ) → firstBad splitLabel bad i (m + n) ≡ orElse (firstBad splitLabel bad i m) (firstBad splitLabel bad (i + m) n)
 unfolding firstBad
 first-parts bad i zero n = rw (zero-add, add-zero)
 first-parts bad i (suc m) n =
@@ -80,30 +80,30 @@ first-parts bad i (suc m) n =
     let p : i + suc m ≡ suc i + m = omega arith in
     rw (e, p, first-parts bad (suc i) m n) (go (bad i))
   where
-    go : (x : Bool) → orElse (onlyIf x (refuse 9 i)) (orElse (firstBad 9 bad (suc i) m) (firstBad 9 bad (suc i + m) n)) ≡ orElse (orElse (onlyIf x (refuse 9 i)) (firstBad 9 bad (suc i) m)) (firstBad 9 bad (suc i + m) n)
+    go : (x : Bool) → orElse (onlyIf x (refuse splitLabel i)) (orElse (firstBad splitLabel bad (suc i) m) (firstBad splitLabel bad (suc i + m) n)) ≡ orElse (orElse (onlyIf x (refuse splitLabel i)) (firstBad splitLabel bad (suc i) m)) (firstBad splitLabel bad (suc i + m) n)
     go true = refl
     go false = refl
 
 module _ (bad : ℕ → Bool) (i next n : ℕ) (low : i ≤ next) (high : next ≤ n) where
-  split-there : firstBad 9 bad i (n - i) ≡ orElse (firstBad 9 bad i (next - i)) (firstBad 9 bad next (n - next))
+  split-there : firstBad splitLabel bad i (n - i) ≡ orElse (firstBad splitLabel bad i (next - i)) (firstBad splitLabel bad next (n - next))
   split-there =
       let e : n - i ≡ (next - i) + (n - next) = omega arith in
       let p : i + (next - i) ≡ next = omega arith in
       rw (e, first-parts bad i (next - i) (n - next), p)
 
-  pub first-there : (o : Option Refusal) (at : ℕ) → o ≡ refuse 9 at → o ≡ firstBad 9 bad i (next - i) → firstBad 9 bad i (n - i) ≡ refuse 9 at
+  pub first-there : (o : Option Refusal) (at : ℕ) → o ≡ refuse splitLabel at → o ≡ firstBad splitLabel bad i (next - i) → firstBad splitLabel bad i (n - i) ≡ refuse splitLabel at
   first-there o at e f = split-there ∙ rw (← f, e)
 
-  pub first-later : (o : Option Refusal) → o ≡ none → o ≡ firstBad 9 bad i (next - i) → firstBad 9 bad i (n - i) ≡ firstBad 9 bad next (n - next)
+  pub first-later : (o : Option Refusal) → o ≡ none → o ≡ firstBad splitLabel bad i (next - i) → firstBad splitLabel bad i (n - i) ≡ firstBad splitLabel bad next (n - next)
   first-later o e f = split-there ∙ rw (← f, e)
 
 -- a search among some nodes, a node at a time
 module _ (bad : ℕ → Bool) (l : List ℕ) (j : ℕ) where
-  among-step : j < length l → firstAmong bad (drop j l) ≡ orElse (onlyIf (bad (getD l j 0)) (refuse 9 (getD l j 0))) (firstAmong bad (drop (j + 1) l))
+  among-step : j < length l → firstAmong bad (drop j l) ≡ orElse (onlyIf (bad (getD l j 0)) (refuse splitLabel (getD l j 0))) (firstAmong bad (drop (j + 1) l))
   unfolding firstAmong
   among-step h = rw (add-one, drop-cons l j 0 h)
 
-  pub among-hit : j < length l → bad (getD l j 0) ≡ true → firstAmong bad (drop j l) ≡ refuse 9 (getD l j 0)
+  pub among-hit : j < length l → bad (getD l j 0) ≡ true → firstAmong bad (drop j l) ≡ refuse splitLabel (getD l j 0)
   among-hit h e = among-step h ∙ rw e
 
   pub among-pass : j < length l → bad (getD l j 0) ≡ false → firstAmong bad (drop j l) ≡ firstAmong bad (drop (j + 1) l)

@@ -25,7 +25,7 @@ use Rattle.text.proofs.Cuts.{word-cut}
 use Rattle.text.proofs.Find.{past-ascii, stops-ascii}
 use Rattle.text.proofs.Rows.{within-lo, within-hi}
 use Rattle.tape.specs.Nodes.{count, kindAt, span}
-use Rattle.tape.specs.Reading.{firstBad}
+use Rattle.refusals.specs.Refusal.{firstBad, splitLabel}
 use Rattle.table.specs.Entries.{Entry, infoOf}
 use Rattle.table.specs.declared.MarkerInfo.{MarkerInfo}
 use Rattle.table.specs.declared.Info.{Info}
@@ -199,6 +199,6 @@ module _ (table s t : List ℕ) (i k : ℕ) (x : Bool) (kind-is : k ≡ kindAt t
       let n : numbered (kindAt t i) ≡ true = ap numbered (sym kind-is) ∙ sym numbered-is ∙ not-false x h in
       rw n (e ∙ rw (oe, ue))
 
-pub all-labels : (table s t : List ℕ) → firstBad 9 (badLabel table s t) 1 (count t - 1) ≡ labelRefusal table s t
+pub all-labels : (table s t : List ℕ) → firstBad splitLabel (badLabel table s t) 1 (count t - 1) ≡ labelRefusal table s t
 unfolding labelRefusal
 all-labels table s t = refl

@@ -12,8 +12,9 @@ use lib.ListN.{take, drop}
 use Rattle.text.specs.Pick.{within, cut, pick}
 use Rattle.text.specs.Words.{trimStart}
 use Rattle.text.specs.Number.{allDigits, valueFrom, digits, digitsFrom}
-use Rattle.text.proofs.Rows.{both-right, within-hi}
+use Rattle.text.proofs.Rows.{within-hi}
 use Rattle.numbers.specs.Verse.{Position, Readable, letterOf, letterLow, withLetter, digitsEnd, partOf, versePart, endStart, verseEnd}
+use Rattle.text.proofs.Bool.{and-right}
 
 picked : (c : Bool) (v n : ℕ) → pick c (some v) none ≡ some n → (c ≡ true) × (v ≡ n)
 picked true v n h = (refl, Option·some-injective v n h)
@@ -25,7 +26,7 @@ limited [] n h = absurd (Option·none-ne-some n h)
 limited (b ∷ t) n h =
     let v = valueFrom 0 (b ∷ t) in
     let p = picked (allDigits (b ∷ t) && leb v 4294967295) v n h in
-    rw (sym (p .1)) (leb-true v 4294967295 (both-right (allDigits (b ∷ t)) (leb v 4294967295) (p .0)))
+    rw (sym (p .1)) (leb-true v 4294967295 (and-right (allDigits (b ∷ t)) (leb v 4294967295) (p .0)))
 
 low-letter : (s : List ℕ) → letterLow (letterOf s) ≡ true
 low-letter [] = refl

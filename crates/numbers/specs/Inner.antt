@@ -9,7 +9,7 @@ use lib.ListN.{length, getD, take, drop}
 use Rattle.text.specs.Pick.{within, cut, pick}
 use Rattle.text.specs.Characters.{starts}
 use Rattle.tape.specs.Nodes.{kindAt}
-use Rattle.tape.specs.Reading.{Refusal, refuse, onlyIf, orElse}
+use Rattle.refusals.specs.Refusal.{Refusal, refuse, onlyIf, orElse, splitLabel}
 use Rattle.table.specs.Entries.{Entry}
 use Rattle.cursor.specs.Names.{nameOf}
 use Rattle.numbers.specs.declared.LabelSpan.{LabelSpan}
@@ -54,4 +54,4 @@ numbersIn t i (suc n) = keptIf (numbered (kindAt t i)) i (numbersIn t (suc i) n)
 -- the first of some nodes that is bad, with number 9
 unfoldable pub firstAmong : (ℕ → Bool) → List ℕ → Option Refusal
 firstAmong bad [] = none
-firstAmong bad (i ∷ l) = orElse (onlyIf (bad i) (refuse 9 i)) (firstAmong bad l)
+firstAmong bad (i ∷ l) = orElse (onlyIf (bad i) (refuse splitLabel i)) (firstAmong bad l)

@@ -8,8 +8,8 @@ use lib.ListN.{length, drop}
 use Rattle.text.specs.Pick.{cut, pick}
 use Rattle.text.specs.Characters.{starts}
 use Rattle.text.specs.Words.{secondWord}
-use Rattle.tape.specs.Nodes.{count, kindAt, span}
-use Rattle.tape.specs.Reading.{Refusal, refuse, firstBad}
+use Rattle.tape.specs.Nodes.{count, kindAt, span, chapterKind, verseKind}
+use Rattle.refusals.specs.Refusal.{Refusal, refuse, firstBad, splitLabel}
 use Rattle.table.specs.Entries.{Entry}
 use Rattle.cursor.specs.Names.{nameOf}
 use Rattle.cursor.specs.Info.{infoAt}
@@ -35,7 +35,7 @@ splits e text = isGlued e (nameOf text) && not (starts (nameOf text) (baseLen e 
 
 -- Chapter and Verse
 abbrev pub numbered : ℕ → Bool
-numbered k = eqb k 3 || eqb k 4
+numbered k = eqb k chapterKind || eqb k verseKind
 
 -- 9: "A Chapter or Verse name is longer than its table name and the cut splits a character; place: that node."
 abbrev pub badLabel : List ℕ → List ℕ → List ℕ → ℕ → Bool
@@ -43,9 +43,9 @@ badLabel table s t i = numbered (kindAt t i) && splits (infoAt table t i) (cut (
 
 -- node 0 is the root
 unfoldable pub labelRefusal : List ℕ → List ℕ → List ℕ → Option Refusal
-labelRefusal table s t = firstBad 9 (badLabel table s t) 1 (count t - 1)
+labelRefusal table s t = firstBad splitLabel (badLabel table s t) 1 (count t - 1)
 
 -- what the answer says
 abbrev pub refusalOf : LabelCheck → Option Refusal
 refusalOf label.Good = none
-refusalOf (label.Split i) = refuse 9 i
+refusalOf (label.Split i) = refuse splitLabel i

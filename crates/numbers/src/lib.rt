@@ -9,7 +9,7 @@ ghost use lib.ListN.{length, getD, take};
 ghost use Rattle.text.specs.Pick.{end};
 ghost use Rattle.text.specs.Words.{firstWord};
 ghost use Rattle.tape.specs.Nodes.{count as nodes};
-ghost use Rattle.tape.specs.Reading.{firstBad};
+ghost use Rattle.refusals.specs.Refusal.{firstBad, splitLabel};
 ghost use Rattle.tape.specs.Forest.{Accepted};
 ghost use Rattle.table.specs.Entries.{Indexed, infoOf};
 ghost use Rattle.cursor.specs.Names.{nameOf};
@@ -179,7 +179,11 @@ fn label_splits(info: Info, text: &[u8]) -> bool
 pub fn is_numbered(kind: u8) -> bool
     ensures { λ r. ⌜ r ≡ numbered kind ⌝ }
 {
-    if kind == 3 { true } else { kind == 4 }
+    if kind == tape::CHAPTER {
+        true
+    } else {
+        kind == tape::VERSE
+    }
 }
 
 fn bad_label(
@@ -250,7 +254,7 @@ fn split_in(
     to: usize,
 ) -> LabelCheck
     requires { ⌜ (Indexed (now table) (now words) count) × (Accepted (now source) (now tape)) × (1 ≤ from) × (from ≤ to) × (to ≤ nodes (now tape)) × (to ≤ from + 64) ⌝ }
-    ensures { λ r. ⌜ refusalOf r ≡ firstBad 9 (badLabel (now (table .entry)) (now (source .entry)) (now (tape .entry))) from (to - from) ⌝ }
+    ensures { λ r. ⌜ refusalOf r ≡ firstBad splitLabel (badLabel (now (table .entry)) (now (source .entry)) (now (tape .entry))) from (to - from) ⌝ }
 {
     let mut found = [0usize; 65];
     let k = gather(tape, from, to, &mut found);

@@ -10,7 +10,8 @@ use lib.Dec.{eqb, ltb}
 use lib.ListN.{length}
 use borrow.Author.Tests.{ltb-false}
 use Rattle.tape.specs.Nodes.{count, kindAt, linkAt}
-use Rattle.tape.specs.Reading.{Refusal, isNone, badLength, tapeRefusal}
+use Rattle.refusals.specs.Refusal.{Refusal, isNone}
+use Rattle.tape.specs.Reading.{badLength, tapeRefusal}
 use Rattle.tape.specs.Forest.{Accepted, Forest, forest}
 use Rattle.tape.proofs.OneNumber.{accepted, some-nodes}
 use Rattle.tape.proofs.Sizes.{breadth, breadth-le, weight-le}

@@ -37,7 +37,8 @@ ghost use Rattle.text.specs.Blank.{blank};
 ghost use Rattle.text.specs.Characters.{find, findByte, starts};
 ghost use Rattle.text.specs.Words.{trimStart, trim, firstWord, secondWord};
 ghost use Rattle.text.specs.Number.{digit, parsed};
-ghost use Rattle.tape.specs.Reading.{isNone, tapeRefusal};
+ghost use Rattle.refusals.specs.Refusal.{isNone};
+ghost use Rattle.tape.specs.Reading.{tapeRefusal};
 ghost use Rattle.cursor.specs.Inner.{Spanned, Run};
 ghost use Rattle.findings.specs.Written.{total, limit};
 ghost use Rattle.attachment.specs.Attached.{startsOf};
@@ -607,7 +608,7 @@ fn opens(source: &[u8], tape: &[u8], i: usize) -> bool
     if !is_node(source, tape, i) {
         return false;
     }
-    tape::kind_at(tape, i) == 1
+    tape::kind_at(tape, i) == tape::MARKER_OPEN
 }
 
 // Whether a node is an open one of an accepted tape, or its root.
@@ -715,7 +716,7 @@ fn after_anchor(source: &[u8], tape: &[u8], parent: usize, i: usize) -> usize
         return 0;
     }
     let kind = tape::kind_at(tape, i);
-    if kind != 3 && kind != 4 {
+    if kind != tape::CHAPTER && kind != tape::VERSE {
         return 0;
     }
     if !holds_run(source, tape, parent) {

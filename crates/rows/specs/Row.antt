@@ -7,17 +7,18 @@ use lib.Dec.{eqb}
 use Rattle.tape.specs.Nodes.{Node, isOpen}
 use Rattle.tape.specs.Forest.{Forest, end, leaf, node}
 use Rattle.cursor.specs.Names.{nameOf}
-use Rattle.findings.specs.Finding.{Finding}
+use Rattle.findings.specs.Finding.{Finding, errorSeverity}
 use Rattle.findings.specs.Written.{only}
 use Rattle.rows.specs.Cells.{Range, cellColumns}
 use Rattle.text.specs.Pick.{pick}
+use Rattle.findings.specs.Codes.{invalidTableColumnSequence}
 
 -- InvalidTableColumnSequence: "expected, found"
 abbrev pub outOfOrder : Node → ℕ → ℕ → Finding
 outOfOrder x expected found =
     record {
-      severity = 0;
-      code = 27;
+      severity = errorSeverity;
+      code = invalidTableColumnSequence;
       start = x .start;
       len = x .len;
       node = x .number;

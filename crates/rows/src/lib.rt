@@ -98,7 +98,7 @@ fn cell_at(source: &[u8], tape: &[u8], i: usize) -> Cell
     requires { ⌜ Spanned (now source) (now tape) i ⌝ }
     ensures { λ r. ⌜ cellOf r ≡ cellIn (nodeAt (now (source .entry)) (now (tape .entry)) i) ⌝ }
 {
-    if tape::kind_at(tape, i) != 1 {
+    if tape::kind_at(tape, i) != tape::MARKER_OPEN {
         return Cell::NoColumns;
     }
     table_cell_columns(cursor::marker_name(source, tape, i))

@@ -3,9 +3,7 @@ use findings::Counts;
 use findings::Finding;
 use findings::Severity;
 use numbers::VersePart;
-use table::Category;
 use table::MarkerInfo;
-use table::TextRole;
 ghost use mathlib.Core.Bool.{_||_};
 ghost use mathlib.Core.Path.{_≡_};
 ghost use mathlib.Core.List.{[]};
@@ -13,7 +11,7 @@ ghost use Prim.Native.Nat.{_<_};
 ghost use Rattle.tape.specs.Nodes.{count, nodeAt};
 ghost use Rattle.findings.specs.Finding.{findingOf, severityOf};
 ghost use lib.Dec.{eqb};
-ghost use Rattle.table.specs.Entries.{entryOfInfo, categoryOf, roleOf};
+ghost use Rattle.table.specs.Entries.{entryOfInfo};
 ghost use Rattle.definition.specs.Checks;
 ghost use Rattle.definition.specs.Checks.{isBody};
 ghost use Rattle.definition.specs.Walk;
@@ -125,37 +123,12 @@ pub fn with_anchor(r: Record, n: usize) -> Record
     }
 }
 
-fn category_number(c: Category) -> u8
-    ensures { λ r. ⌜ r ≡ categoryOf c ⌝ }
-{
-    match c {
-        Category::Identification => 0,
-        Category::Chapter => 1,
-        Category::Verse => 2,
-        Category::Paragraph => 3,
-        Category::Character => 4,
-        Category::Note => 5,
-        Category::Milestone => 6,
-        Category::Other => 7,
-    }
-}
-
-fn role_number(r: TextRole) -> u8
-    ensures { λ n. ⌜ n ≡ roleOf r ⌝ }
-{
-    match r {
-        TextRole::Content => 0,
-        TextRole::Excluded => 1,
-        TextRole::Boundary => 2,
-    }
-}
-
-// Whether an entry is of the category, by its place in document 01's list.
-pub fn is_of(m: MarkerInfo, category: u8) -> bool
+// Whether an entry is of the category, by its number.
+pub fn is_of(m: MarkerInfo, category: u64) -> bool
     ensures { λ r. ⌜ r ≡ eqb (entryOfInfo m .category) category ⌝ }
 {
     let c = m.category;
-    category_number(c) == category
+    table::category_number(c) == category
 }
 
 // Whether an entry is a paragraph that can hold verse text.
@@ -163,8 +136,8 @@ pub fn is_body(m: MarkerInfo) -> bool
     ensures { λ r. ⌜ r ≡ isBody (entryOfInfo m) ⌝ }
 {
     let role = m.text_role;
-    if is_of(m, 3) {
-        role_number(role) == 2
+    if is_of(m, table::PARAGRAPH) {
+        table::role_number(role) == table::BOUNDARY
     } else {
         false
     }
@@ -182,7 +155,7 @@ pub fn inside(o: Around, m: MarkerInfo) -> Around
 {
     Around {
         body: or(o.body, is_body(m)),
-        note: or(o.note, is_of(m, 5)),
-        char: or(o.char, is_of(m, 4)),
+        note: or(o.note, is_of(m, table::NOTE)),
+        char: or(o.char, is_of(m, table::CHARACTER)),
     }
 }

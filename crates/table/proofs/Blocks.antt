@@ -1,7 +1,7 @@
 -- Bytes as a number, lists compared by blocks, and the first eight bytes of a text.
 -- Assumes nothing.
 use mathlib.Core.Path.{_≡_, refl, sym, _∙_}
-use mathlib.Core.Bool.{Bool, true, false, _&&_}
+use mathlib.Core.Bool.{Bool, true, false, _&&_, and-false, and-true}
 use mathlib.Core.List.{List, [], _∷_}
 use Prim.Native.Nat.{ℕ, zero, suc, _+_, _-_, _*_, _<_, _≤_}
 use native.Mathlib.Nat.{add-assoc}
@@ -14,10 +14,11 @@ use lib.Seq.{take-length, length-take-le, drop-drop}
 use borrow.Author.Tests.{eq-eqb, ne-eqb, ltb-true, ltb-false, eqb-true, eqb-false}
 use Rattle.text.specs.Pick.{pick}
 use Rattle.text.specs.Scans.{fourBytes, eightBytes}
-use Rattle.text.proofs.Rows.{both-false, both-true, both-left, both-right, place}
+use Rattle.text.proofs.Rows.{place}
 use Rattle.table.specs.Bytes.{equal, all, starting}
 use Rattle.table.specs.Inner.{headOf}
 use Rattle.table.proofs.Words.{starts-short, equal-ends}
+use Rattle.text.proofs.Bool.{and-left, and-right}
 
 -- the digits of a number are unique
 digits : (a b x y : ℕ) → a < 256 → b < 256 → eqb (a + 256 * x) (b + 256 * y) ≡ (eqb a b && eqb x y)
@@ -85,17 +86,17 @@ block a b i n e h =
 -- what the ends of two lists of one length say of the lists
 module _ (a b : List ℕ) (n : ℕ) (e : length a ≡ length b) where
   pub ending : n + 8 ≡ length a → equal (take 8 (drop n a)) (take 8 (drop n b)) ≡ equal (drop n a) (drop n b)
-  ending h = sym (block a b n 8 e (omega arith) ∙ rw (equal-ends a b (n + 8) (omega arith) (omega arith)) (both-true _))
+  ending h = sym (block a b n 8 e (omega arith) ∙ rw (equal-ends a b (n + 8) (omega arith) (omega arith)) (and-true _))
 
   pub ends-apart : n ≤ length a → equal (drop n a) (drop n b) ≡ false → equal a b ≡ false
   ends-apart h f =
       let z : 0 + n ≡ n = omega arith in
-      (rw z at (block a b 0 n e (omega arith))) ∙ rw f (both-false (equal (take n a) (take n b)))
+      (rw z at (block a b 0 n e (omega arith))) ∙ rw f (and-false (equal (take n a) (take n b)))
 
   pub ends-same : (i : ℕ) → n ≤ i → i ≤ length a → equal (drop n a) (drop n b) ≡ true → equal (drop i a) (drop i b) ≡ true
   ends-same i h k f =
       let m : n + (i - n) ≡ i = omega arith in
-      both-right (equal (take (i - n) (drop n a)) (take (i - n) (drop n b))) _ (sym (rw m at (block a b n (i - n) e (omega arith))) ∙ f)
+      and-right (equal (take (i - n) (drop n a)) (take (i - n) (drop n b))) _ (sym (rw m at (block a b n (i - n) e (omega arith))) ∙ f)
 
 -- and their first n bytes
 module _ (a b : List ℕ) (n : ℕ) (e : length a ≡ length b) (h : n ≤ length a) where
@@ -117,8 +118,8 @@ eight h = eqb (length h) 8 && (all (λ (b : ℕ). ltb b 256) h && ltb 0 (eightBy
 small : (h : List ℕ) → all (λ (b : ℕ). ltb b 256) h ≡ true → Small h
 unfolding all
 small [] e k = omega arith
-small (x ∷ h) e zero = omega (arith, ltb-true x 256 (both-left (ltb x 256) (all (λ (b : ℕ). ltb b 256) h) e))
-small (x ∷ h) e (suc k) = small h (both-right (ltb x 256) (all (λ (b : ℕ). ltb b 256) h) e) k
+small (x ∷ h) e zero = omega (arith, ltb-true x 256 (and-left (ltb x 256) (all (λ (b : ℕ). ltb b 256) h) e))
+small (x ∷ h) e (suc k) = small h (and-right (ltb x 256) (all (λ (b : ℕ). ltb b 256) h) e) k
 
 -- what the number of a text's first eight bytes tells
 pub record Told (s : List ℕ) (r : ℕ) : Type 0 where
@@ -131,18 +132,18 @@ module _ (s : List ℕ) (r : ℕ) (p : Small s) (is : r ≡ headOf s) where
   tested h e = rw is (go (ltb (length s) 8) refl)
     where
       long : length h ≡ 8
-      long = eqb-true (length h) 8 (both-left _ _ e)
+      long = eqb-true (length h) 8 (and-left _ _ e)
 
       rest : (all (λ (b : ℕ). ltb b 256) h && ltb 0 (eightBytes h 0)) ≡ true
-      rest = both-right (eqb (length h) 8) _ e
+      rest = and-right (eqb (length h) 8) _ e
 
       go : (t : Bool) → ltb (length s) 8 ≡ t → eqb (eightBytes h 0) (pick t 0 (eightBytes s 0)) ≡ starting h s
       go true f =
-          let some : 0 < eightBytes h 0 = ltb-true 0 (eightBytes h 0) (both-right (all (λ (b : ℕ). ltb b 256) h) _ rest) in
+          let some : 0 < eightBytes h 0 = ltb-true 0 (eightBytes h 0) (and-right (all (λ (b : ℕ). ltb b 256) h) _ rest) in
           ne-eqb (eightBytes h 0) 0 (omega arith) ∙ starts-short h s (omega (arith, long, ltb-true (length s) 8 f))
       go false f =
           let l : 8 ≤ length s = ltb-false (length s) 8 f in
-          same-eight h s (small h (both-left _ (ltb 0 (eightBytes h 0)) rest)) p 0 0 (omega (arith, long)) (omega arith) ∙ rw (← long, take-length h)
+          same-eight h s (small h (and-left _ (ltb 0 (eightBytes h 0)) rest)) p 0 0 (omega (arith, long)) (omega arith) ∙ rw (← long, take-length h)
 
   pub head-tells : Told s r
   head-tells =

@@ -9,10 +9,10 @@ use native.Mathlib.Omega.{arith}
 use lib.ListN.{length, take}
 use lib.Seq.{length-take-le}
 use borrow.Author.Tests.{lt-ltb, le-ltb, ltb-true}
-use Rattle.text.proofs.Rows.{both-left}
 use Rattle.table.specs.Names.{named, strippedLength, glued, lookedUp}
 use Rattle.table.specs.Inner.{stripped, unglued}
 use Rattle.table.proofs.Suffix.{stripped-le}
+use Rattle.text.proofs.Bool.{and-left}
 
 module _ (t s b : List ℕ) (is : b ≡ take (strippedLength s) s) where
   long : length b ≡ strippedLength s
@@ -32,7 +32,7 @@ module _ (t s : List ℕ) (g : Bool) (is : g ≡ glued s) where
   glue-none e = rw (← is, e)
 
 pub glued-long : (s : List ℕ) (g : Bool) → g ≡ glued s → g ≡ true → 1 ≤ length s
-glued-long s g is e = let h = ltb-true 1 (length s) (both-left _ _ (sym is ∙ e)) in omega arith
+glued-long s g is e = let h = ltb-true 1 (length s) (and-left _ _ (sym is ∙ e)) in omega arith
 
 module _ (t s : List ℕ) where
   pub look-first : (n : ℕ) → some n ≡ named t s → some n ≡ lookedUp t s

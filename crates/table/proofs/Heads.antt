@@ -1,7 +1,7 @@
 -- The line at the head of a text, by the tests that the code makes in one pass.
 -- Assumes nothing.
 use mathlib.Core.Path.{_≡_, refl, sym, ap, _∙_}
-use mathlib.Core.Bool.{Bool, true, false, not, false≢true, _&&_}
+use mathlib.Core.Bool.{Bool, true, false, not, false≢true, _&&_, and-false}
 use mathlib.Core.List.{List, [], _∷_, _++_}
 use mathlib.Core.Option.{Option, some, none}
 use Prim.Native.Nat.{ℕ, suc, _+_, _<_, _≤_}
@@ -15,7 +15,6 @@ use Rattle.text.specs.Pick.{within, pick}
 use Rattle.text.specs.Characters.{findByte}
 use Rattle.text.specs.Scans.{eightBytes}
 use Rattle.text.proofs.Chars.{byte-le}
-use Rattle.text.proofs.Rows.{both-false, both-left, both-right}
 use Rattle.table.specs.declared.Step.the-variants as step
 use Rattle.table.specs.Bytes.{equal, all, starting}
 use Rattle.table.specs.Lines.{nameByte}
@@ -24,6 +23,7 @@ use Rattle.table.specs.Inner.{nameOf, keyed, stepBy, stepWith, behindKey
 use Rattle.table.proofs.Parts.{width}
 use Rattle.table.proofs.Words.{equal-true, every}
 use Rattle.table.proofs.Blocks.{parts, eight, Told}
+use Rattle.text.proofs.Bool.{and-left, and-right}
 
 step-none : (t : Bool) (next : ℕ) → stepBy t none next ≡ step.Bad
 step-none true next = refl
@@ -40,11 +40,11 @@ plain s = all (λ (b : ℕ). not (eqb 10 b)) s
 module _ (x : ℕ) (s : List ℕ) (h : plain (x ∷ s) ≡ true) where
   plain-rest : plain s ≡ true
   unfolding all
-  plain-rest = both-right (not (eqb 10 x)) (plain s) h
+  plain-rest = and-right (not (eqb 10 x)) (plain s) h
 
   other-byte : (b : ℕ) → eqb 10 b ≡ true → eqb x b ≡ false
   unfolding all
-  other-byte b e = ne-eqb x b (λ f. eqb-false 10 x (not-true (eqb 10 x) (both-left (not (eqb 10 x)) (plain s) h)) (eqb-true 10 b e ∙ sym f))
+  other-byte b e = ne-eqb x b (λ f. eqb-false 10 x (not-true (eqb 10 x) (and-left (not (eqb 10 x)) (plain s) h)) (eqb-true 10 b e ∙ sym f))
 
 -- a key is passed: the line's end and what stands in it lie behind the key
 abbrev KeyPassed : List ℕ → (List ℕ → Option ℕ) → ℕ → List ℕ → Type 0
@@ -88,14 +88,14 @@ word-fills [] (b ∷ l) h = go (eqb 10 b) refl
   where
     go : (t : Bool) → eqb 10 b ≡ t → WordFills [] (b ∷ l)
     go true e = rw (e, lt-ltb 0 (suc (length l)) (omega arith))
-    go false e = rw e (both-false (ltb (suc (width l)) (suc (length l))))
+    go false e = rw e (and-false (ltb (suc (width l)) (suc (length l))))
 word-fills (x ∷ w) [] h = refl
 word-fills (x ∷ w) (b ∷ l) h = go (eqb 10 b) (eqb x b) refl refl (word-fills w l (plain-rest x w h))
   where
     go : (t u : Bool) → eqb 10 b ≡ t → eqb x b ≡ u → WordFills w l → WordFills (x ∷ w) (b ∷ l)
-    go true u e f ih = rw (e, other-byte x w h b e) (both-false (ltb 0 (suc (length l))))
+    go true u e f ih = rw (e, other-byte x w h b e) (and-false (ltb 0 (suc (length l))))
     go false true e f ih = rw (e, f, leb·suc-suc (suc (width l)) (length l)) ih
-    go false false e f ih = rw (e, f) (both-false (ltb (suc (width l)) (suc (length l))))
+    go false false e f ih = rw (e, f) (and-false (ltb (suc (width l)) (suc (length l))))
 
 -- a word's line does not stand at the head
 abbrev pub absent : List ℕ → List ℕ → Bool
@@ -106,8 +106,8 @@ module _ (n : ℕ) (l : List ℕ) where
   pub line-there : (value : List ℕ → Option ℕ) (w : List ℕ) → plain w ≡ true → starting (line w) l ≡ true → stepBy true (value w) (n + length w + 1) ≡ stepWith value n l
   line-there value w h e =
       let f = word-fills w l h ∙ e in
-      let ends = both-left (ltb (width l) (length l)) (equal w (take (width l) l)) f in
-      let same = equal-true w (take (width l) l) (both-right (ltb (width l) (length l)) (equal w (take (width l) l)) f) in
+      let ends = and-left (ltb (width l) (length l)) (equal w (take (width l) l)) f in
+      let same = equal-true w (take (width l) l) (and-right (ltb (width l) (length l)) (equal w (take (width l) l)) f) in
       rw (ends, ← same, filled l w same)
 
   -- at no word's line
@@ -124,8 +124,8 @@ module _ (n : ℕ) (l : List ℕ) where
   unfolding codeFrom every
   words-absent k [] h e = sym (step-none (ltb (width l) (length l)) (n + width l + 1))
   words-absent k (w ∷ ws) h e =
-      let here = parts 8 (line w) l ∙ not-true _ (both-left (absent l w) (every (absent l) ws) e) in
-      words-absent (suc k) ws (both-right (plain w) (every plain ws) h) (both-right (absent l w) (every (absent l) ws) e) ∙ sym (word-past k w ws (both-left (plain w) (every plain ws) h) here)
+      let here = parts 8 (line w) l ∙ not-true _ (and-left (absent l w) (every (absent l) ws) e) in
+      words-absent (suc k) ws (and-right (plain w) (every plain ws) h) (and-right (absent l w) (every (absent l) ws) e) ∙ sym (word-past k w ws (and-left (plain w) (every plain ws) h) here)
 
 -- at the first eight bytes of a word's line, with which no other word's begins: what stands behind them decides
 module _ (n : ℕ) (ws : List (List ℕ)) (l : List ℕ) (r k : ℕ) where
@@ -140,7 +140,7 @@ module _ (n : ℕ) (ws : List (List ℕ)) (l : List ℕ) (r k : ℕ) where
 
       split : front w ++ drop 8 l ≡ l
       split =
-          let size : length (front w) ≡ 8 = eqb-true (length (front w)) 8 (both-left _ _ long) in
+          let size : length (front w) ≡ 8 = eqb-true (length (front w)) 8 (and-left _ _ long) in
           ap (λ (x : List ℕ). x ++ drop 8 l) (equal-true (front w) (take 8 l) (rw size at there)) ∙ take-append-drop 8 l
 
       go : (t : Bool) → starting (back w) (drop 8 l) ≡ t → stepBy t (some k) (n + length w + 1) ≡ stepWith (codeFrom 0 ws) n l
@@ -166,7 +166,7 @@ name-fills (b ∷ l) = go (eqb 10 b) (nameByte b) refl refl (name-fills l)
     go false true e f ih = rw (e, f, leb·suc-suc (suc (width l)) (length l)) (ih .0, λ g. ap suc (ih .1 g))
     go false false e f ih =
         let n : eqb b 10 ≡ false = ne-eqb b 10 (λ g. eqb-false 10 b e (sym g)) in
-        rw (e, f, n) (both-false (ltb (suc (width l)) (suc (length l))), λ g. absurd (false≢true g))
+        rw (e, f, n) (and-false (ltb (suc (width l)) (suc (length l))), λ g. absurd (false≢true g))
 
 -- the tests of a text whose first r bytes, and no more of them, are name bytes
 module _ (l : List ℕ) (r : ℕ) (is : r ≡ findByte unnamed l) where
@@ -190,8 +190,8 @@ module _ (l : List ℕ) (r : ℕ) (is : r ≡ findByte unnamed l) where
     name-there t e =
         let f : eqb (getD l (findByte unnamed l) 0) 10 ≡ true = rw is at (eq-eqb (getD l r 0) 10 h) in
         let g = name-fills l .0 ∙ f in
-        let ends = both-left (ltb (width l) (length l)) (all nameByte (take (width l) l)) g in
-        let named = both-right (ltb (width l) (length l)) (all nameByte (take (width l) l)) g in
+        let ends = and-left (ltb (width l) (length l)) (all nameByte (take (width l) l)) g in
+        let named = and-right (ltb (width l) (length l)) (all nameByte (take (width l) l)) g in
         let wide : width l ≡ r = name-fills l .1 f ∙ sym is in
         let size : length (take (width l) l) ≡ r = sym (filled l (take (width l) l) refl) ∙ wide in
         let next : 5 + r + 1 ≡ r + 6 = omega arith in
@@ -208,4 +208,4 @@ module _ (l : List ℕ) (r : ℕ) (is : r ≡ findByte unnamed l) where
     name-empty a = name-there false (rw (lt-leb 1 r a))
 
     pub name-long : 17 ≤ r → step.Bad ≡ stepWith nameOf 5 l
-    name-long a = name-there false (rw (lt-leb r 16 (omega arith)) (both-false (leb 1 r)))
+    name-long a = name-there false (rw (lt-leb r 16 (omega arith)) (and-false (leb 1 r)))

@@ -11,10 +11,10 @@ use native.Mathlib.Omega.{arith}
 use lib.Dec.{eqb}
 use lib.ListN.{length}
 use borrow.Author.Tests.{eqb-false, ne-eqb}
-use Rattle.text.proofs.Rows.{both-left, both-right}
 use Rattle.table.specs.Lines.{Line, lines, goodLine, badFrom, badTable}
 use Rattle.table.specs.Conditions.{goodFrom, NumberOne}
 use Rattle.text.specs.Pick.{pick}
+use Rattle.text.proofs.Bool.{and-left, and-right}
 
 -- the same of the lines from number k on
 record Bad (k : ℕ) (ls : List Line) (p : ℕ) : Type 0 where
@@ -65,15 +65,15 @@ bad-there : (end k : ℕ) (before : List Line) (line : Line) (after : List Line)
 unfolding badFrom goodFrom
 bad-there end k [] line after g b = let f : goodLine k line ≡ false = rw (add-zero k) at b in rw f
 bad-there end k (l ∷ ls) line after g b =
-    let f : goodLine k l ≡ true = both-left (goodLine k l) (goodFrom (suc k) ls) g in
-    rw f (bad-there end (suc k) ls line after (both-right (goodLine k l) (goodFrom (suc k) ls) g) (rw (one-further k (length ls)) b))
+    let f : goodLine k l ≡ true = and-left (goodLine k l) (goodFrom (suc k) ls) g in
+    rw f (bad-there end (suc k) ls line after (and-right (goodLine k l) (goodFrom (suc k) ls) g) (rw (one-further k (length ls)) b))
 
 open-there : (end k : ℕ) (ls : List Line) → goodFrom k ls ≡ true → ((k + length ls) % 3 ≡ 0 → ⊥) → badFrom end k ls ≡ some end
 unfolding badFrom goodFrom
 open-there end k [] g o = rw (ne-eqb (k % 3) 0 (λ y. o (rw (add-zero k) y)))
 open-there end k (l ∷ ls) g o =
-    let f : goodLine k l ≡ true = both-left (goodLine k l) (goodFrom (suc k) ls) g in
-    rw f (open-there end (suc k) ls (both-right (goodLine k l) (goodFrom (suc k) ls) g) (λ y. o (rw (← one-further k (length ls)) y)))
+    let f : goodLine k l ≡ true = and-left (goodLine k l) (goodFrom (suc k) ls) g in
+    rw f (open-there end (suc k) ls (and-right (goodLine k l) (goodFrom (suc k) ls) g) (λ y. o (rw (← one-further k (length ls)) y)))
 
 module _ (t : List ℕ) (p : ℕ) where
   -- `badTable` gives a place exactly if it is number 1's

@@ -1,7 +1,7 @@
 -- The three lines of a marker, one after the other.
 -- Assumes nothing.
 use mathlib.Core.Path.{_≡_, refl, ap, _∙_}
-use mathlib.Core.Bool.{Bool, true, false, _&&_}
+use mathlib.Core.Bool.{Bool, true, false, _&&_, and-false}
 use mathlib.Core.List.{List, _∷_}
 use mathlib.Core.Option.{Option, some, none}
 use Prim.Native.Nat.{ℕ, suc, _+_, _-_, _*_, _%_, _<_, _≤_}
@@ -11,7 +11,6 @@ use lib.ListN.{length, take, drop, length-drop}
 use lib.Seq.{length-take-le}
 use borrow.Author.Tests.{lt-ltb, ltb-true, ltb-false, ne-eqb}
 use Rattle.text.proofs.Cuts.{rest-all}
-use Rattle.text.proofs.Rows.{both-false}
 use Rattle.table.specs.declared.Step.{Step}
 use Rattle.table.specs.declared.Step.the-variants as step
 use Rattle.table.specs.declared.Marker.the-variants as marker
@@ -95,7 +94,7 @@ module _ (t : List ℕ) (at j : ℕ) where
   stopped k h z m e = go (ltb at (length t)) refl
     where
       go : (b : Bool) → ltb at (length t) ≡ b → badFrom (length t) k (lines at (drop at t)) ≡ some at
-      go true f = rw (line-there t at (ltb-true at (length t) f), m, not-good e, both-false (ltb k 1536))
+      go true f = rw (line-there t at (ltb-true at (length t) f), m, not-good e, and-false (ltb k 1536))
       go false f =
           let end : length t ≤ at = ltb-false at (length t) f in
           let same : length t ≡ at = omega arith in

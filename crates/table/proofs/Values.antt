@@ -10,13 +10,14 @@ use lib.Dec.{leb}
 use lib.ListN.{length}
 use borrow.Author.Tests.{leb-true}
 use Rattle.text.specs.Pick.{within, pick}
-use Rattle.text.proofs.Rows.{both-left, within-lo, within-hi}
+use Rattle.text.proofs.Rows.{within-lo, within-hi}
 use Rattle.table.specs.Bytes.{all, starting, beyond}
 use Rattle.table.specs.Lines.{nameKey, nameByte, goodBody, categoryKey, categories, roleKey, roles}
 use Rattle.table.specs.Entries.{position}
 use Rattle.table.specs.Books.{codeFrom}
 use Rattle.table.specs.Inner.{known, nameOf, keyed, lineValue}
 use Rattle.table.proofs.Words.{starts-long, one-of, every, one-passes, found}
+use Rattle.text.proofs.Bool.{and-left}
 
 -- a line is good exactly if it says something
 known-pick : (t : Bool) (n : ℕ) → t ≡ known (pick t (some n) none)
@@ -50,7 +51,7 @@ name-says s v e =
     let b = beyond nameKey s in
     let k = pick-says (starting nameKey s) (nameOf b) v e in
     let g = pick-says (within 1 16 (length b) && all nameByte b) (some (length b)) v (k .1) in
-    let size = both-left (within 1 16 (length b)) (all nameByte b) (g .0) in
+    let size = and-left (within 1 16 (length b)) (all nameByte b) (g .0) in
     let f = g .1 in
     let is : length b ≡ v = cc in
     let long = starts-long nameKey s (k .0) in

@@ -12,12 +12,13 @@ use lib.ListN.{length, getD, take, drop, length-take, length-drop, drop-of-lengt
 use lib.Seq.{drop-drop}
 use borrow.Author.Tests.{eq-eqb, ne-eqb, eqb-true}
 use Rattle.text.specs.Pick.{pick}
-use Rattle.text.proofs.Rows.{both-left, both-right, place}
+use Rattle.text.proofs.Rows.{place}
 use Rattle.table.specs.Bytes.{equal, oneOf, starting, beyond}
 use Rattle.table.specs.Entries.{position}
 use Rattle.table.specs.Names.{noteOnly}
 use Rattle.table.specs.Books.{codeFrom}
 use Rattle.table.specs.Inner.{triples, known}
+use Rattle.text.proofs.Bool.{and-left, and-right}
 
 pub equal-true : (a b : List ℕ) → equal a b ≡ true → a ≡ b
 unfolding equal
@@ -25,8 +26,8 @@ equal-true [] [] e = refl
 equal-true [] (y ∷ b) e = absurd (false≢true e)
 equal-true (x ∷ a) [] e = absurd (false≢true e)
 equal-true (x ∷ a) (y ∷ b) e =
-    let first : x ≡ y = eqb-true x y (both-left (eqb x y) (equal a b) e) in
-    let rest : a ≡ b = equal-true a b (both-right (eqb x y) (equal a b) e) in
+    let first : x ≡ y = eqb-true x y (and-left (eqb x y) (equal a b) e) in
+    let rest : a ≡ b = equal-true a b (and-right (eqb x y) (equal a b) e) in
     cc
 
 pub equal-apart : (a b : List ℕ) → (length a ≡ length b → ⊥) → equal a b ≡ false
@@ -87,10 +88,10 @@ every p (w ∷ ws) = p w && every p ws
 pub one-passes : (p : List ℕ → Bool) (ws : List (List ℕ)) (s : List ℕ) → every p ws ≡ true → oneOf ws s ≡ true → p s ≡ true
 unfolding every oneOf
 one-passes p [] s h e = absurd (false≢true e)
-one-passes p (w ∷ ws) s h e = go (equal w s) refl e (one-passes p ws s (both-right (p w) (every p ws) h))
+one-passes p (w ∷ ws) s h e = go (equal w s) refl e (one-passes p ws s (and-right (p w) (every p ws) h))
   where
     go : (t : Bool) → equal w s ≡ t → (t || oneOf ws s) ≡ true → (oneOf ws s ≡ true → p s ≡ true) → p s ≡ true
-    go true f g ih = rw (equal-true w s f) at (both-left (p w) (every p ws) h)
+    go true f g ih = rw (equal-true w s f) at (and-left (p w) (every p ws) h)
     go false f g ih = ih g
 
 -- the names that stand in notes alone begin with f or x

@@ -52,21 +52,56 @@ nth [] k = none
 nth (e ∷ es) zero = some e
 nth (e ∷ es) (suc k) = nth es k
 
+-- "`category=` (identification, chapter, verse, paragraph, character, note, milestone, other)"
+abbrev pub identificationCategory : ℕ
+identificationCategory = 0
+
+abbrev pub chapterCategory : ℕ
+chapterCategory = 1
+
+abbrev pub verseCategory : ℕ
+verseCategory = 2
+
+abbrev pub paragraphCategory : ℕ
+paragraphCategory = 3
+
+abbrev pub characterCategory : ℕ
+characterCategory = 4
+
+abbrev pub noteCategory : ℕ
+noteCategory = 5
+
+abbrev pub milestoneCategory : ℕ
+milestoneCategory = 6
+
+abbrev pub otherCategory : ℕ
+otherCategory = 7
+
+-- "`role=` (content, excluded, boundary)"
+abbrev pub contentRole : ℕ
+contentRole = 0
+
+abbrev pub excludedRole : ℕ
+excludedRole = 1
+
+abbrev pub boundaryRole : ℕ
+boundaryRole = 2
+
 -- the positions that the enums stand for
 abbrev pub categoryOf : Category → ℕ
-categoryOf Identification = 0
-categoryOf Chapter = 1
-categoryOf Verse = 2
-categoryOf Paragraph = 3
-categoryOf Character = 4
-categoryOf Note = 5
-categoryOf Milestone = 6
-categoryOf Other = 7
+categoryOf Identification = identificationCategory
+categoryOf Chapter = chapterCategory
+categoryOf Verse = verseCategory
+categoryOf Paragraph = paragraphCategory
+categoryOf Character = characterCategory
+categoryOf Note = noteCategory
+categoryOf Milestone = milestoneCategory
+categoryOf Other = otherCategory
 
 abbrev pub roleOf : TextRole → ℕ
-roleOf Content = 0
-roleOf Excluded = 1
-roleOf Boundary = 2
+roleOf Content = contentRole
+roleOf Excluded = excludedRole
+roleOf Boundary = boundaryRole
 
 abbrev pub entryOfInfo : MarkerInfo → Entry
 entryOfInfo m = record { name = record { start = m .«name_start»; len = m .«name_len» }; category = categoryOf (m .category); role = roleOf (m .«text_role») }

@@ -8,7 +8,7 @@ ghost use Rattle.text.specs.Pick.{within, cut};
 ghost use Rattle.text.specs.Characters.{findByte};
 ghost use Rattle.table.specs.Bytes.{equal, oneOf, starting};
 ghost use Rattle.table.specs.Lines.{nameByte, categories, roles, badTable};
-ghost use Rattle.table.specs.Entries.{entries, nth, infoOf, entryOfInfo, Indexed, placeOf, leaves};
+ghost use Rattle.table.specs.Entries.{entries, nth, infoOf, entryOfInfo, Indexed, placeOf, leaves, categoryOf, roleOf};
 ghost use Rattle.table.specs.Names.{undigited, strippedLength, tailOff, named, lookedUp, foundOf, defaultOf, frontMatter, noteOnly, glued};
 ghost use Rattle.table.specs.Books.{codeFrom, bookOf, idOf};
 ghost use Rattle.table.specs.Inner.{wordsOf, triples, known, nameOf, valueOf, stepBy, stepWith, behindKey, stepOf, headOf, further, pastOf, Marked, attributeAt, categoryAt, roleAt, stripped, unglued};
@@ -35,6 +35,29 @@ pub enum TextRole {
     Excluded,
     Boundary,
 }
+
+// Categories and roles by number, in the order of document 01's lists.
+pub const IDENTIFICATION: u64 = 0;
+
+pub const CHAPTER: u64 = 1;
+
+pub const VERSE: u64 = 2;
+
+pub const PARAGRAPH: u64 = 3;
+
+pub const CHARACTER: u64 = 4;
+
+pub const NOTE: u64 = 5;
+
+pub const MILESTONE: u64 = 6;
+
+pub const OTHER: u64 = 7;
+
+pub const CONTENT: u64 = 0;
+
+pub const EXCLUDED: u64 = 1;
+
+pub const BOUNDARY: u64 = 2;
 
 // An entry: where its name stands in the table's text, and its other two lines.
 pub struct MarkerInfo {
@@ -104,21 +127,21 @@ const BOOK_CODES: [u8; 348] =
     INTCNCGLOTDXNDXXXAXXBXXCXXDXXEXXFXXG";
 
 // What `head` gives of the words that have eight bytes or more with byte 10 behind them.
-const IDENTIFI: u64 = 7594873770396181609;
+const IDENTIFI_WORD: u64 = 7594873770396181609;
 
-const CHAPTER: u64 = 752775638500337763;
+const CHAPTER_WORD: u64 = 752775638500337763;
 
-const PARAGRAP: u64 = 8097879393330946416;
+const PARAGRAP_WORD: u64 = 8097879393330946416;
 
-const CHARACTE: u64 = 7310577365311121507;
+const CHARACTE_WORD: u64 = 7310577365311121507;
 
-const MILESTON: u64 = 7957707105558620525;
+const MILESTON_WORD: u64 = 7957707105558620525;
 
-const CONTENT: u64 = 753348419701862243;
+const CONTENT_WORD: u64 = 753348419701862243;
 
-const EXCLUDED: u64 = 7234298831932979301;
+const EXCLUDED_WORD: u64 = 7234298831932979301;
 
-const BOUNDARY: u64 = 8751164109912108898;
+const BOUNDARY_WORD: u64 = 8751164109912108898;
 
 // Whether eight bytes of two lists are the same. Two sums are compared, since the compiler makes one load of each.
 fn same_8(a: &[u8], b: &[u8], at: usize) -> bool
@@ -439,19 +462,19 @@ fn category_step(s: &[u8]) -> Step
     ensures { λ r. ⌜ r ≡ stepWith (codeFrom 0 categories) 9 (now (s .entry)) ⌝ }
 {
     let w = head(s);
-    if w == CHARACTE {
+    if w == CHARACTE_WORD {
         return tail_step(s, b"r\n", 4, 19);
     }
-    if w == PARAGRAP {
+    if w == PARAGRAP_WORD {
         return tail_step(s, b"h\n", 3, 19);
     }
-    if w == MILESTON {
+    if w == MILESTON_WORD {
         return tail_step(s, b"e\n", 6, 19);
     }
-    if w == IDENTIFI {
+    if w == IDENTIFI_WORD {
         return tail_step(s, b"cation\n", 0, 24);
     }
-    if w == CHAPTER {
+    if w == CHAPTER_WORD {
         return Step::Good(1, 17);
     }
     if starts_with(s, b"verse\n") {
@@ -471,13 +494,13 @@ fn role_step(s: &[u8]) -> Step
     ensures { λ r. ⌜ r ≡ stepWith (codeFrom 0 roles) 5 (now (s .entry)) ⌝ }
 {
     let w = head(s);
-    if w == CONTENT {
+    if w == CONTENT_WORD {
         return Step::Good(0, 13);
     }
-    if w == EXCLUDED {
+    if w == EXCLUDED_WORD {
         return tail_step(s, b"\n", 1, 14);
     }
-    if w == BOUNDARY {
+    if w == BOUNDARY_WORD {
         return tail_step(s, b"\n", 2, 14);
     }
     Step::Bad
@@ -579,13 +602,13 @@ fn category_of(n: u64) -> Category
     ensures { λ r. ⌜ r ≡ categoryAt n ⌝ }
 {
     match n {
-        0 => Category::Identification,
-        1 => Category::Chapter,
-        2 => Category::Verse,
-        3 => Category::Paragraph,
-        4 => Category::Character,
-        5 => Category::Note,
-        6 => Category::Milestone,
+        IDENTIFICATION => Category::Identification,
+        CHAPTER => Category::Chapter,
+        VERSE => Category::Verse,
+        PARAGRAPH => Category::Paragraph,
+        CHARACTER => Category::Character,
+        NOTE => Category::Note,
+        MILESTONE => Category::Milestone,
         _ => Category::Other,
     }
 }
@@ -594,9 +617,34 @@ fn role_of(n: u64) -> TextRole
     ensures { λ r. ⌜ r ≡ roleAt n ⌝ }
 {
     match n {
-        0 => TextRole::Content,
-        1 => TextRole::Excluded,
+        CONTENT => TextRole::Content,
+        EXCLUDED => TextRole::Excluded,
         _ => TextRole::Boundary,
+    }
+}
+
+pub fn category_number(c: Category) -> u64
+    ensures { λ r. ⌜ r ≡ categoryOf c ⌝ }
+{
+    match c {
+        Category::Identification => IDENTIFICATION,
+        Category::Chapter => CHAPTER,
+        Category::Verse => VERSE,
+        Category::Paragraph => PARAGRAPH,
+        Category::Character => CHARACTER,
+        Category::Note => NOTE,
+        Category::Milestone => MILESTONE,
+        Category::Other => OTHER,
+    }
+}
+
+pub fn role_number(r: TextRole) -> u64
+    ensures { λ n. ⌜ n ≡ roleOf r ⌝ }
+{
+    match r {
+        TextRole::Content => CONTENT,
+        TextRole::Excluded => EXCLUDED,
+        TextRole::Boundary => BOUNDARY,
     }
 }
 

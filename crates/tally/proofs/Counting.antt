@@ -15,9 +15,9 @@ use borrow.Author.Tests.{eq-eqb, ne-eqb}
 use Rattle.buffer.specs.Over.{over}
 use Rattle.buffer.proofs.Over.{length-over, over-again, set-over, getD-over}
 use Rattle.buffer.proofs.Laying.{Laying, laying-first}
-use Rattle.findings.specs.Finding.{codes}
 use Rattle.tally.specs.Tally.{codeAt, whole, withCode, countsFrom, tallyOf}
 use Rattle.text.specs.Pick.{pick}
+use Rattle.findings.specs.Codes.{codes}
 
 -- one count more cleared
 pub clear-on : (l₀ l : List ℕ) (c : ℕ) → Laying (replicate codes 0) l₀ 0 l c → c < codes → c < length l → Laying (replicate codes 0) l₀ 0 (set l c 0) (c + 1)

@@ -9,10 +9,10 @@ use mathlib.Core.List.{List}
 use mathlib.Core.Option.{none}
 use lib.Dec.{eqb, ltb}
 use borrow.Author.Tests.{eq-eqb, ne-eqb, lt-ltb, le-ltb}
-use Rattle.findings.specs.Finding.{codes}
 use Rattle.tally.specs.Tally.{codeAt, whole, tallyRefusal, withCode, countsFrom, tallyOf, sum}
 use Rattle.tally.proofs.Records.{known}
 use Rattle.text.specs.Pick.{pick}
+use Rattle.findings.specs.Codes.{codes}
 
 -- how many of the first k records have a code below c
 unfoldable below : List ℕ → ℕ → ℕ → ℕ

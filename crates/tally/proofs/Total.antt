@@ -9,8 +9,8 @@ use mathlib.Core.Option.{none}
 use lib.ListN.{length, take, drop}
 use lib.Seq.{getD-append-add, take-at}
 use borrow.Author.Tests.{eq-eqb, lt-ltb, le-ltb}
-use Rattle.tape.proofs.OneNumber.{all-none}
-use Rattle.findings.specs.Finding.{Finding, codes, wordsOf}
+use Rattle.refusals.proofs.First.{all-none}
+use Rattle.findings.specs.Finding.{Finding, wordsOf}
 use Rattle.findings.specs.Written.{encode}
 use Rattle.findings.proofs.Overlay.{overlay-is, encode-length}
 use Rattle.tape.specs.Forest.{top}
@@ -18,6 +18,8 @@ use Rattle.definition.proofs.Counted.{Graded, graded}
 use Rattle.definition.specs.Outcome.{Lent, refusal, listOf, listAfter}
 use Rattle.tally.specs.Tally.{whole, badRecord, tallyRefusal, tallyOf, sum}
 use Rattle.tally.proofs.Sums.{tally-sums}
+use Rattle.refusals.specs.Refusal.{badTallyList}
+use Rattle.findings.specs.Codes.{codes}
 
 good : (fs : List Finding) → Graded fs → (i : ℕ) → i < length fs → badRecord (encode fs) i ≡ false
 unfolding encode
@@ -32,7 +34,7 @@ pub encode-passes : (fs : List Finding) → Graded fs → tallyRefusal (encode f
 unfolding tallyRefusal
 encode-passes fs h =
     let n = encode-length fs in
-    rw (all-none 11 (badRecord (encode fs)) (whole (encode fs)) 0 (λ i g b. good fs h i (omega arith)), eq-eqb (length (encode fs) % 8) 0 (omega arith))
+    rw (all-none badTallyList (badRecord (encode fs)) (whole (encode fs)) 0 (λ i g b. good fs h i (omega arith)), eq-eqb (length (encode fs) % 8) 0 (omega arith))
 
 pub encode-sums : (fs : List Finding) → Graded fs → sum (tallyOf (encode fs)) ≡ length fs
 encode-sums fs h = tally-sums (encode fs) (encode-passes fs h) ∙ omega (arith, encode-length fs)

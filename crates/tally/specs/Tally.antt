@@ -6,11 +6,11 @@ use mathlib.Core.Option.{Option, none}
 use lib.Dec.{eqb, ltb}
 use lib.ListN.{length, getD}
 use Rattle.text.specs.Pick.{pick}
-use Rattle.tape.specs.Reading.{Refusal, refuse, onlyIf, orElse, firstBad, isNone}
-use Rattle.findings.specs.Finding.{codes}
+use Rattle.refusals.specs.Refusal.{Refusal, refuse, onlyIf, orElse, firstBad, isNone, badTallyList}
 use Rattle.buffer.specs.Over.{over}
 use Rattle.tally.specs.declared.Tallied.{Tallied}
 use Rattle.tally.specs.declared.Tallied.the-variants.{Counted, Refused}
+use Rattle.findings.specs.Codes.{codes}
 
 -- severity and code of record k
 abbrev pub severityAt : List ℕ → ℕ → ℕ
@@ -29,7 +29,7 @@ badRecord l k = ltb 2 (severityAt l k) || not (ltb (codeAt l k) codes)
 
 -- 11: "length no multiple of 8, severity over 2 or code over 34; place: that record, or the number of whole records for the length, the smaller first."
 unfoldable pub tallyRefusal : List ℕ → Option Refusal
-tallyRefusal l = orElse (firstBad 11 (badRecord l) 0 (whole l)) (onlyIf (not (eqb (length l % 8) 0)) (refuse 11 (whole l)))
+tallyRefusal l = orElse (firstBad badTallyList (badRecord l) 0 (whole l)) (onlyIf (not (eqb (length l % 8) 0)) (refuse badTallyList (whole l)))
 
 -- how many of the first n records have the code
 unfoldable pub withCode : List ℕ → ℕ → ℕ → ℕ

@@ -4,10 +4,8 @@ ghost use mathlib.Core.Option.{none};
 ghost use Prim.Native.Nat.{_<_};
 ghost use lib.ListN.{replicate};
 ghost use Rattle.buffer.specs.Over.{over};
-ghost use Rattle.findings.specs.Finding.{codes};
 ghost use Rattle.tally.specs.Tally.{whole, badRecord, tallyRefusal, tallyOf, countsAfter, answerOf};
-
-pub const CODES: u64 = 35;
+ghost use Rattle.findings.specs.Codes.{codes};
 
 // The counts are written, or the list is turned back: the number and the place.
 pub enum Tallied {
@@ -22,7 +20,7 @@ fn bad_record(list: &[u64], k: usize) -> bool
     if 2 < list[8 * k] {
         return true;
     }
-    CODES <= list[8 * k + 1]
+    findings::CODES <= list[8 * k + 1]
 }
 
 // Number 11.
@@ -33,12 +31,12 @@ fn list_check(list: &[u64]) -> Tallied
     let mut k: usize = 0;
     while k < n {
         if bad_record(list, k) {
-            return Tallied::Refused(11, k as u64);
+            return Tallied::Refused(refusals::BAD_TALLY_LIST, k as u64);
         }
         k += 1;
     }
     if list.len() % 8 != 0 {
-        return Tallied::Refused(11, n as u64);
+        return Tallied::Refused(refusals::BAD_TALLY_LIST, n as u64);
     }
     Tallied::Counted
 }
@@ -47,7 +45,7 @@ fn clear(counts: &mut [u64])
     ensures { λ r. ⌜ now (counts .exit) ≡ over (now (counts .entry)) 0 (replicate codes 0) ⌝ }
 {
     let mut c: usize = 0;
-    while c < CODES as usize && c < counts.len() {
+    while c < findings::CODES as usize && c < counts.len() {
         counts[c] = 0;
         c += 1;
     }

@@ -14,15 +14,13 @@ use lib.Dec.{ltb, eqb}
 use lib.ListN.{length}
 use borrow.Author.Tests.{lt-ltb, le-ltb, eq-eqb, ne-eqb, ltb-true, ltb-false, eqb-true, eqb-false, not-true, not-false}
 use Rattle.text.specs.Pick.{pick}
+use Rattle.refusals.proofs.First.{refused}
 use Rattle.tape.specs.Nodes.{count, kindAt, linkAt, isOpen, isClose}
-use Rattle.tape.specs.Reading.{Refusal, refuse, onlyIf, orElse, firstBad, isNone, badLength, badKind, badSpan, opensTo, goodRoot, Step, go, stop, opened, closed, step, resume, ended, read, tapeRefusal}
+use Rattle.refusals.specs.Refusal.{Refusal, refuse, onlyIf, orElse, firstBad, isNone, brokenLinks, tooDeep}
+use Rattle.tape.specs.Reading.{badLength, badKind, badSpan, opensTo, goodRoot, Step, go, stop, opened, closed, step, resume, ended, read, tapeRefusal}
 use Rattle.tape.specs.Forest.{Nested, done, one, inner, Accepted}
 use Rattle.tape.proofs.Nest.{nested-le, close-no-open}
 use Rattle.tape.proofs.Machine.{read-step}
-
--- a refusal is none
-pub refused : {A : Type 0} (r : Refusal) → some r ≡ none → A
-refused r e = let z : _≡_ {A = ℕ} 0 1 = cc in absurd (omega arith)
 
 -- what the reading may have done at a node when it goes on
 data Came (t : List ℕ) (i : ℕ) (s s′ : List ℕ) : Type 0 where
@@ -38,22 +36,22 @@ module _ (t : List ℕ) (i : ℕ) (s′ : List ℕ) where
   closes : (s : List ℕ) → isClose (kindAt t i) ≡ true → closed (linkAt t 0) i s ≡ go s′ → Came t i s s′
   closes [] k e = test (eqb i (linkAt t 0)) refl e
     where
-      test : (b : Bool) → eqb i (linkAt t 0) ≡ b → pick b (go []) (stop 7) ≡ go s′ → Came t i [] s′
+      test : (b : Bool) → eqb i (linkAt t 0) ≡ b → pick b (go []) (stop brokenLinks) ≡ go s′ → Came t i [] s′
       test true q e = let z : s′ ≡ [] = cc in by-root k refl z (eqb-true i (linkAt t 0) q)
-      test false q e = stopped 7 s′ e
+      test false q e = stopped brokenLinks s′ e
   closes (x ∷ s) k e = test (eqb i x) refl e
     where
-      test : (b : Bool) → eqb i x ≡ b → pick b (go s) (stop 7) ≡ go s′ → Came t i (x ∷ s) s′
+      test : (b : Bool) → eqb i x ≡ b → pick b (go s) (stop brokenLinks) ≡ go s′ → Came t i (x ∷ s) s′
       test true q e = let h = eqb-true i x q in let z : s ≡ s′ = cc in by-close k (cc)
-      test false q e = stopped 7 s′ e
+      test false q e = stopped brokenLinks s′ e
 
   came : (s : List ℕ) → step t i s ≡ go s′ → Came t i s s′
   unfolding step
   came s e = test (isOpen (kindAt t i)) (isClose (kindAt t i)) (ltb (length s) 64) refl refl refl e
     where
-      test : (a b c : Bool) → isOpen (kindAt t i) ≡ a → isClose (kindAt t i) ≡ b → ltb (length s) 64 ≡ c → pick a (pick c (go (linkAt t i ∷ s)) (stop 8)) (pick b (closed (linkAt t 0) i s) (go s)) ≡ go s′ → Came t i s s′
+      test : (a b c : Bool) → isOpen (kindAt t i) ≡ a → isClose (kindAt t i) ≡ b → ltb (length s) 64 ≡ c → pick a (pick c (go (linkAt t i ∷ s)) (stop tooDeep)) (pick b (closed (linkAt t 0) i s) (go s)) ≡ go s′ → Came t i s s′
       test true b true p q r e = let z : linkAt t i ∷ s ≡ s′ = cc in by-open p (ltb-true (length s) 64 r) z
-      test true b false p q r e = stopped 8 s′ e
+      test true b false p q r e = stopped tooDeep s′ e
       test false true c p q r e = closes s q e
       test false false c p q r e = let z : s ≡ s′ = cc in by-leaf p q z
 
@@ -122,7 +120,7 @@ module _ (t : List ℕ) (n : ℕ) (root : Rooted t n) where
       go (inl q) (x ∷ s) a e = let z : n - m ≡ 0 = omega arith in refused _ (rw z at e)
       go (inr q) (x ∷ s) a e =
           let wrong = step-wrong t m x s (q .1) (λ z. a .0 (q .0) (sym z)) in
-          let is : read t (n - m) m (x ∷ s) ≡ refuse 7 m = read-step t m n (x ∷ s) (omega (arith, q .0)) ∙ rw wrong in
+          let is : read t (n - m) m (x ∷ s) ≡ refuse brokenLinks m = read-step t m n (x ∷ s) (omega (arith, q .0)) ∙ rw wrong in
           refused _ (sym is ∙ e)
 
   -- a step, from what holds after it

@@ -11,8 +11,9 @@ use native.Mathlib.Omega.{arith}
 use lib.Dec.{ltb, eqb}
 use lib.ListN.{length}
 use borrow.Author.Tests.{eq-eqb, ne-eqb}
-use Rattle.tape.specs.Nodes.{kindAt, linkAt, isOpen, isClose}
-use Rattle.tape.specs.Reading.{Refusal, refuse, Step, go, stop, opened, closed, step, resume, read}
+use Rattle.tape.specs.Nodes.{kindAt, linkAt, isOpen, isClose, markerOpenKind}
+use Rattle.refusals.specs.Refusal.{Refusal, refuse, brokenLinks, tooDeep}
+use Rattle.tape.specs.Reading.{Step, go, stop, opened, closed, step, resume, read}
 use Rattle.tape.specs.Inner.{stacked, met, says, held, Known, Opened, Closed, Stepped, Held}
 use Rattle.tape.specs.declared.Reading.{Reading}
 use Rattle.text.specs.Pick.{pick}
@@ -25,19 +26,19 @@ Odd (stop number) = (number ≡ 7) ⊎ (number ≡ 8)
 opened-odd : (link : ℕ) (awaited : List ℕ) → Odd (opened link awaited)
 opened-odd link awaited = choose (ltb (length awaited) 64)
   where
-    choose : (b : Bool) → Odd (pick b (go (link ∷ awaited)) (stop 8))
+    choose : (b : Bool) → Odd (pick b (go (link ∷ awaited)) (stop tooDeep))
     choose true = tt
     choose false = inr refl
 
 closed-odd : (root i : ℕ) (awaited : List ℕ) → Odd (closed root i awaited)
 closed-odd root i [] = choose (eqb i root)
   where
-    choose : (b : Bool) → Odd (pick b (go []) (stop 7))
+    choose : (b : Bool) → Odd (pick b (go []) (stop brokenLinks))
     choose true = tt
     choose false = inl refl
 closed-odd root i (link ∷ awaited) = choose (eqb i link)
   where
-    choose : (b : Bool) → Odd (pick b (go awaited) (stop 7))
+    choose : (b : Bool) → Odd (pick b (go awaited) (stop brokenLinks))
     choose true = tt
     choose false = inl refl
 
@@ -88,34 +89,34 @@ module _ (t : List ℕ) (i : ℕ) where
         room = room;
       }
 
-  step-open : (awaited : List ℕ) → kindAt t i ≡ 1 → step t i awaited ≡ opened (linkAt t i) awaited
+  step-open : (awaited : List ℕ) → kindAt t i ≡ markerOpenKind → step t i awaited ≡ opened (linkAt t i) awaited
   unfolding step
-  step-open awaited k = rw (eq-eqb (kindAt t i) 1 k)
+  step-open awaited k = rw (eq-eqb (kindAt t i) markerOpenKind k)
 
-  step-close : (awaited : List ℕ) → (kindAt t i ≡ 1 → ⊥) → isClose (kindAt t i) ≡ true → step t i awaited ≡ closed (linkAt t 0) i awaited
+  step-close : (awaited : List ℕ) → (kindAt t i ≡ markerOpenKind → ⊥) → isClose (kindAt t i) ≡ true → step t i awaited ≡ closed (linkAt t 0) i awaited
   unfolding step
-  step-close awaited k e = rw (ne-eqb (kindAt t i) 1 k, e)
+  step-close awaited k e = rw (ne-eqb (kindAt t i) markerOpenKind k, e)
 
-  step-leaf : (awaited : List ℕ) → (kindAt t i ≡ 1 → ⊥) → isClose (kindAt t i) ≡ false → step t i awaited ≡ go awaited
+  step-leaf : (awaited : List ℕ) → (kindAt t i ≡ markerOpenKind → ⊥) → isClose (kindAt t i) ≡ false → step t i awaited ≡ go awaited
   unfolding step
-  step-leaf awaited k e = rw (ne-eqb (kindAt t i) 1 k, e)
+  step-leaf awaited k e = rw (ne-eqb (kindAt t i) markerOpenKind k, e)
 
 module _ (t : List ℕ) (root i kind : ℕ) (stack : List ℕ) (r : Reading) (pre : Held t root i kind stack r) where
   -- nothing more is read once the reading has stopped
   pub at-stopped : (r .number ≡ 0 → ⊥) → Stepped t i stack stack r r
   at-stopped z = record { same = λ n l. says-stop (r .number) (r .place) _ (omega arith) ∙ sym (says-stop (r .number) (r .place) _ (omega arith)); low = pre .low; known = pre .known; room = pre .room }
 
-  pub at-open : (stack′ : List ℕ) (q : Reading) (link : ℕ) → r .number ≡ 0 → kind ≡ 1 → link ≡ linkAt t i → Opened link i stack stack′ r q → Stepped t i stack stack′ r q
+  pub at-open : (stack′ : List ℕ) (q : Reading) (link : ℕ) → r .number ≡ 0 → kind ≡ markerOpenKind → link ≡ linkAt t i → Opened link i stack stack′ r q → Stepped t i stack stack′ r q
   at-open stack′ q link z k e o =
       let is : step t i (stacked stack (r .depth)) ≡ opened link (stacked stack (r .depth)) = step-open t i (stacked stack (r .depth)) (sym (pre .of-kind) ∙ k) ∙ rw e in
       stepped t i stack stack′ r q z (rw is (opened-odd link (stacked stack (r .depth)))) (rw is (o .step)) (o .low) (o .room)
 
-  pub at-close : (q : Reading) → r .number ≡ 0 → (kind ≡ 1 → ⊥) → isClose kind ≡ true → Closed root i stack r q → Stepped t i stack stack r q
+  pub at-close : (q : Reading) → r .number ≡ 0 → (kind ≡ markerOpenKind → ⊥) → isClose kind ≡ true → Closed root i stack r q → Stepped t i stack stack r q
   at-close q z k e o =
       let is : step t i (stacked stack (r .depth)) ≡ closed root i (stacked stack (r .depth)) = step-close t i (stacked stack (r .depth)) (rw (← pre .of-kind) k) (rw (← pre .of-kind) e) ∙ rw (pre .link) in
       stepped t i stack stack r q z (rw is (closed-odd root i (stacked stack (r .depth)))) (rw is (o .step z)) (o .low) (pre .room)
 
-  pub at-leaf : r .number ≡ 0 → (kind ≡ 1 → ⊥) → isClose kind ≡ false → Stepped t i stack stack r r
+  pub at-leaf : r .number ≡ 0 → (kind ≡ markerOpenKind → ⊥) → isClose kind ≡ false → Stepped t i stack stack r r
   at-leaf z k e =
       let is : step t i (stacked stack (r .depth)) ≡ go (stacked stack (r .depth)) = step-leaf t i (stacked stack (r .depth)) (rw (← pre .of-kind) k) (rw (← pre .of-kind) e) in
       stepped t i stack stack r r z (rw is tt) (rw is (z, refl)) (pre .low) (pre .room)

@@ -13,89 +13,15 @@ use mathlib.Core.Option.{Option, some, none}
 use lib.Dec.{eqb, ltb}
 use lib.ListN.{length}
 use borrow.Author.Tests.{eqb-true, eqb-false, ltb-false, eq-eqb, ne-eqb, not-true, not-false}
-use Rattle.tape.specs.Nodes.{count, kindAt, linkAt, isOpen, isClose}
-use Rattle.tape.specs.Reading.{Refusal, refuse, onlyIf, orElse, firstBad, isNone, badLength, badKind, badSpan, opensTo, goodRoot, Step, go, stop, step, resume, ended, read, tapeRefusal}
-use Rattle.tape.specs.Conditions.{AllGood, First, Reaches, start, next, Stops, LeftOpen, Plain, Gives4, Gives5, Gives6, Gives7, Gives8}
+use Rattle.tape.specs.Nodes.{count, kindAt, linkAt, isOpen, isClose, rootKind}
+use Rattle.refusals.specs.Refusal.{Refusal, refuse, onlyIf, orElse, firstBad, isNone, AllGood, First, badTapeLength, badNodeKind, badNodeSpan, brokenLinks, tooDeep}
+use Rattle.tape.specs.Reading.{badLength, badKind, badSpan, opensTo, goodRoot, Step, go, stop, step, resume, ended, read, tapeRefusal}
+use Rattle.tape.specs.Conditions.{Reaches, start, next, Stops, LeftOpen, Plain, Gives4, Gives5, Gives6, Gives7, Gives8}
 use Rattle.tape.specs.Forest.{Nested, Accepted}
 use Rattle.tape.proofs.Machine.{read-step, step-odd}
-use Rattle.tape.proofs.Accept.{refused, Rooted, reads-nested, nested-reads}
-
--- a refusal that comes from the first part, or else from the rest
-pub which : (x y : Option Refusal) (r : Refusal) → orElse x y ≡ some r → (x ≡ some r) ⊎ ((x ≡ none) × (y ≡ some r))
-which none y r e = inr (refl, e)
-which (some q) y r e = inl e
-
-pub neither : (x y : Option Refusal) → orElse x y ≡ none → (x ≡ none) × (y ≡ none)
-neither none y e = (refl, e)
-neither (some q) y e = refused q e
-
-pub either-false : (a b : Bool) → (a || b) ≡ false → (a ≡ false) × (b ≡ false)
-either-false true b e = absurd (false≢true (sym e))
-either-false false b e = (refl, e)
-
--- a refusal by one test
-pub only : (b : Bool) (number place : ℕ) (r : Refusal) → onlyIf b (refuse number place) ≡ some r → (b ≡ true) × (r .number ≡ number) × (r .place ≡ place)
-only true number place r e = let z : record { number = number; place = place } ≡ r = cc in (refl, ap (λ (q : Refusal). q .number) (sym z), ap (λ (q : Refusal). q .place) (sym z))
-only false number place r e = refused r (sym e)
-
-pub only-not : (b : Bool) (number place : ℕ) → onlyIf b (refuse number place) ≡ none → b ≡ false
-only-not true number place e = refused _ e
-only-not false number place e = refl
-
--- the first bad node
-module _ (number : ℕ) (bad : ℕ → Bool) where
-  pub first-of : (n a : ℕ) (r : Refusal) → firstBad number bad a n ≡ some r → (r .number ≡ number) × First bad a (a + n) (r .place)
-  unfolding firstBad
-  first-of zero a r e = refused r (sym e)
-  first-of (suc n) a r e = go (bad a) refl (which (onlyIf (bad a) (refuse number a)) (firstBad number bad (suc a) n) r e) (first-of n (suc a) r)
-    where
-      go : (b : Bool) → bad a ≡ b → (onlyIf (bad a) (refuse number a) ≡ some r) ⊎ ((onlyIf (bad a) (refuse number a) ≡ none) × (firstBad number bad (suc a) n ≡ some r)) → (firstBad number bad (suc a) n ≡ some r → (r .number ≡ number) × First bad (suc a) (suc a + n) (r .place)) → (r .number ≡ number) × First bad a (a + suc n) (r .place)
-      go b q (inl h) later =
-          let o = only (bad a) number a r h in
-          let z = o .2 in
-          (o .1, record { from = omega arith; below = omega arith; is = rw z (o .0); earlier = λ i g l. absurd (omega arith) })
-      go b q (inr h) later =
-          let f = later (h .1) in
-          let here = only-not (bad a) number a (h .0) in
-          let w = f .1 in
-          let l = w .from in
-          let k = w .below in
-          (f .0, record { from = omega arith; below = omega arith; is = w .is; earlier = earlier here (w .earlier) })
-        where
-          earlier : bad a ≡ false → AllGood bad (suc a) (r .place) → AllGood bad a (r .place)
-          earlier here good i g l = choose (ℕ-discrete i a)
-            where
-              choose : Dec (i ≡ a) → bad i ≡ false
-              choose (yes z) = rw z here
-              choose (no z) = good i (omega arith) l
-
-  pub none-of : (n a : ℕ) → firstBad number bad a n ≡ none → AllGood bad a (a + n)
-  unfolding firstBad
-  none-of zero a e i g l = absurd (omega arith)
-  none-of (suc n) a e i g l =
-      let h = neither (onlyIf (bad a) (refuse number a)) (firstBad number bad (suc a) n) e in
-      choose (ℕ-discrete i a) (only-not (bad a) number a (h .0)) (none-of n (suc a) (h .1))
-    where
-      choose : Dec (i ≡ a) → bad a ≡ false → AllGood bad (suc a) (suc a + n) → bad i ≡ false
-      choose (yes z) here good = rw z here
-      choose (no z) here good = good i (omega arith) (omega arith)
-
-  pub all-none : (n a : ℕ) → AllGood bad a (a + n) → firstBad number bad a n ≡ none
-  unfolding firstBad
-  all-none zero a h = refl
-  all-none (suc n) a h = rw (h a (omega arith) (omega arith)) (all-none n (suc a) (λ i g l. h i (omega arith) (omega arith)))
-
-  pub first-is : (n a place : ℕ) → First bad a (a + n) place → firstBad number bad a n ≡ refuse number place
-  unfolding firstBad
-  first-is zero a place f = let g = f .from in let l = f .below in absurd (omega arith)
-  first-is (suc n) a place f = choose (ℕ-discrete a place) (first-is n (suc a) place)
-    where
-      choose : Dec (a ≡ place) → (First bad (suc a) (suc a + n) place → firstBad number bad (suc a) n ≡ refuse number place) → orElse (onlyIf (bad a) (refuse number a)) (firstBad number bad (suc a) n) ≡ refuse number place
-      choose (yes z) later = rw (z, f .is)
-      choose (no z) later =
-          let g = f .from in
-          let l = f .below in
-          rw (f .earlier a (omega arith) (omega arith)) (later (record { from = omega arith; below = omega arith; is = f .is; earlier = λ i h k. f .earlier i (omega arith) k }))
+use Rattle.refusals.proofs.First.{refused, which, neither, only, only-not, first-of, none-of, all-none, first-is}
+use Rattle.tape.proofs.Accept.{Rooted, reads-nested, nested-reads}
+use Rattle.text.proofs.Bool.{or-parts}
 
 -- where the reading stops, and with which number
 module _ (t : List ℕ) where
@@ -127,7 +53,7 @@ module _ (t : List ℕ) where
       let l = h .below in
       reaches-read (h .comes) n (omega arith) ∙ read-step t place n (h .awaited) (omega arith) ∙ rw (h .is)
 
-  read-open : (n place : ℕ) → n ≡ count t → LeftOpen t place → read t (n - 1) 1 [] ≡ refuse 7 place
+  read-open : (n place : ℕ) → n ≡ count t → LeftOpen t place → read t (n - 1) 1 [] ≡ refuse brokenLinks place
   unfolding read
   read-open n place e h =
       let z : n - count t ≡ 0 = omega arith in
@@ -139,24 +65,24 @@ module _ (s t : List ℕ) where
   n = count t
 
   abbrev part4 : Option Refusal
-  part4 = onlyIf (badLength t) (refuse 4 0)
+  part4 = onlyIf (badLength t) (refuse badTapeLength 0)
 
   abbrev part5 : Option Refusal
-  part5 = firstBad 5 (badKind t) 0 n
+  part5 = firstBad badNodeKind (badKind t) 0 n
 
   abbrev part6 : Option Refusal
-  part6 = firstBad 6 (badSpan s t) 1 (n - 1)
+  part6 = firstBad badNodeSpan (badSpan s t) 1 (n - 1)
 
   abbrev partR : Option Refusal
-  partR = onlyIf (not (goodRoot t)) (refuse 7 0)
+  partR = onlyIf (not (goodRoot t)) (refuse brokenLinks 0)
 
   abbrev part7 : Option Refusal
   part7 = read t (n - 1) 1 []
 
   pub some-nodes : badLength t ≡ false → 1 ≤ n
   some-nodes e =
-      let a = either-false (eqb (length t) 0) _ e in
-      let b = either-false (not (eqb (length t % 16) 0)) _ (a .1) in
+      let a = or-parts (eqb (length t) 0) _ e in
+      let b = or-parts (not (eqb (length t % 16) 0)) _ (a .1) in
       let c = eqb-true (length t % 16) 0 (not-false _ (b .0)) in
       let d = eqb-false (length t) 0 (a .0) in
       omega arith
@@ -195,27 +121,27 @@ module _ (s t : List ℕ) where
       let e = only-not (badLength t) 4 0 p in
       let l = some-nodes e in
       let z : 1 + (n - 1) ≡ n = omega arith in
-      record { sized = e; kinds = λ i g k. none-of 5 (badKind t) n 0 q i g (omega arith); spans = λ i g k. none-of 6 (badSpan s t) (n - 1) 1 u i g (omega arith) }
+      record { sized = e; kinds = λ i g k. none-of badNodeKind (badKind t) n 0 q i g (omega arith); spans = λ i g k. none-of badNodeSpan (badSpan s t) (n - 1) 1 u i g (omega arith) }
 
   module _ (h : Plain s t) where
     plain4 : part4 ≡ none
     plain4 = rw (h .sized)
 
     plain5 : part5 ≡ none
-    plain5 = all-none 5 (badKind t) n 0 (λ i g l. h .kinds i g (omega arith))
+    plain5 = all-none badNodeKind (badKind t) n 0 (λ i g l. h .kinds i g (omega arith))
 
     plain6 : part6 ≡ none
-    plain6 = let l = some-nodes (h .sized) in all-none 6 (badSpan s t) (n - 1) 1 (λ i g k. h .spans i g (omega arith))
+    plain6 = let l = some-nodes (h .sized) in all-none badNodeSpan (badSpan s t) (n - 1) 1 (λ i g k. h .spans i g (omega arith))
 
   -- the numbers of the parts
   number4 : (r : Refusal) → part4 ≡ some r → r .number ≡ 4
   number4 r e = only (badLength t) 4 0 r e .1
 
   number5 : (r : Refusal) → part5 ≡ some r → r .number ≡ 5
-  number5 r e = first-of 5 (badKind t) n 0 r e .0
+  number5 r e = first-of badNodeKind (badKind t) n 0 r e .0
 
   number6 : (r : Refusal) → part6 ≡ some r → r .number ≡ 6
-  number6 r e = first-of 6 (badSpan s t) (n - 1) 1 r e .0
+  number6 r e = first-of badNodeSpan (badSpan s t) (n - 1) 1 r e .0
 
   numberR : (r : Refusal) → partR ≡ some r → r .number ≡ 7
   numberR r e = only (not (goodRoot t)) 7 0 r e .1
@@ -244,49 +170,49 @@ module _ (s t : List ℕ) where
       go (inl e) = absurd (omega arith)
       go (inr e) = absurd (omega arith)
 
-  pub one-number-4 : (place : ℕ) → (tapeRefusal s t ≡ refuse 4 place) ↔ Gives4 s t place
+  pub one-number-4 : (place : ℕ) → (tapeRefusal s t ≡ refuse badTapeLength place) ↔ Gives4 s t place
   unfolding tapeRefusal
-  one-number-4 place = (λ e. there (from (record { number = 4; place = place }) e), λ h. rw (h .0, h .1))
+  one-number-4 place = (λ e. there (from (record { number = badTapeLength; place = place }) e), λ h. rw (h .0, h .1))
     where
-      there : From (record { number = 4; place = place }) → Gives4 s t place
+      there : From (record { number = badTapeLength; place = place }) → Gives4 s t place
       there (from4 x) = let o = only (badLength t) 4 0 _ x in (o .0, o .2)
       there (from5 p x) = absurd (omega (arith, number5 _ x))
       there (from6 p q x) = absurd (omega (arith, number6 _ x))
       there (fromR p q u x) = absurd (omega (arith, numberR _ x))
       there (from7 p q u v x) = not-7 _ (omega arith) p x
 
-  pub one-number-5 : (place : ℕ) → (tapeRefusal s t ≡ refuse 5 place) ↔ Gives5 s t place
+  pub one-number-5 : (place : ℕ) → (tapeRefusal s t ≡ refuse badNodeKind place) ↔ Gives5 s t place
   unfolding tapeRefusal
-  one-number-5 place = (λ e. there (from (record { number = 5; place = place }) e), back)
+  one-number-5 place = (λ e. there (from (record { number = badNodeKind; place = place }) e), back)
     where
-      there : From (record { number = 5; place = place }) → Gives5 s t place
+      there : From (record { number = badNodeKind; place = place }) → Gives5 s t place
       there (from4 x) = absurd (omega (arith, number4 _ x))
-      there (from5 p x) = (only-not (badLength t) 4 0 p, subst (λ (m : ℕ). First (badKind t) 0 m place) (zero-add n) (first-of 5 (badKind t) n 0 _ x .1))
+      there (from5 p x) = (only-not (badLength t) 4 0 p, subst (λ (m : ℕ). First (badKind t) 0 m place) (zero-add n) (first-of badNodeKind (badKind t) n 0 _ x .1))
       there (from6 p q x) = absurd (omega (arith, number6 _ x))
       there (fromR p q u x) = absurd (omega (arith, numberR _ x))
       there (from7 p q u v x) = not-7 _ (omega arith) p x
 
-      back : Gives5 s t place → tapeRefusal s t ≡ refuse 5 place
-      back h = rw (h .0, first-is 5 (badKind t) n 0 place (subst (λ (m : ℕ). First (badKind t) 0 m place) (sym (zero-add n)) (h .1)))
+      back : Gives5 s t place → tapeRefusal s t ≡ refuse badNodeKind place
+      back h = rw (h .0, first-is badNodeKind (badKind t) n 0 place (subst (λ (m : ℕ). First (badKind t) 0 m place) (sym (zero-add n)) (h .1)))
 
-  pub one-number-6 : (place : ℕ) → (tapeRefusal s t ≡ refuse 6 place) ↔ Gives6 s t place
+  pub one-number-6 : (place : ℕ) → (tapeRefusal s t ≡ refuse badNodeSpan place) ↔ Gives6 s t place
   unfolding tapeRefusal
-  one-number-6 place = (λ e. there (from (record { number = 6; place = place }) e), back)
+  one-number-6 place = (λ e. there (from (record { number = badNodeSpan; place = place }) e), back)
     where
       whole : badLength t ≡ false → 1 + (n - 1) ≡ n
       whole e = let l = some-nodes e in omega arith
 
-      there : From (record { number = 6; place = place }) → Gives6 s t place
+      there : From (record { number = badNodeSpan; place = place }) → Gives6 s t place
       there (from4 x) = absurd (omega (arith, number4 _ x))
       there (from5 p x) = absurd (omega (arith, number5 _ x))
       there (from6 p q x) =
           let e = only-not (badLength t) 4 0 p in
-          (e, λ i g k. none-of 5 (badKind t) n 0 q i g (omega arith), subst (λ (m : ℕ). First (badSpan s t) 1 m place) (whole e) (first-of 6 (badSpan s t) (n - 1) 1 _ x .1))
+          (e, λ i g k. none-of badNodeKind (badKind t) n 0 q i g (omega arith), subst (λ (m : ℕ). First (badSpan s t) 1 m place) (whole e) (first-of badNodeSpan (badSpan s t) (n - 1) 1 _ x .1))
       there (fromR p q u x) = absurd (omega (arith, numberR _ x))
       there (from7 p q u v x) = not-7 _ (omega arith) p x
 
-      back : Gives6 s t place → tapeRefusal s t ≡ refuse 6 place
-      back h = rw (h .0, all-none 5 (badKind t) n 0 (λ i g l. h .1 i g (omega arith)), first-is 6 (badSpan s t) (n - 1) 1 place (subst (λ (m : ℕ). First (badSpan s t) 1 m place) (sym (whole (h .0))) (h .2)))
+      back : Gives6 s t place → tapeRefusal s t ≡ refuse badNodeSpan place
+      back h = rw (h .0, all-none badNodeKind (badKind t) n 0 (λ i g l. h .1 i g (omega arith)), first-is badNodeSpan (badSpan s t) (n - 1) 1 place (subst (λ (m : ℕ). First (badSpan s t) 1 m place) (sym (whole (h .0))) (h .2)))
 
   -- the root's link turns back, or does not
   root-bad : (r : Refusal) → partR ≡ some r → (goodRoot t ≡ false) × (r .place ≡ 0)
@@ -295,59 +221,59 @@ module _ (s t : List ℕ) where
   root-good : partR ≡ none → goodRoot t ≡ true
   root-good x = not-false (goodRoot t) (only-not (not (goodRoot t)) 7 0 x)
 
-  pub one-number-7 : (place : ℕ) → (tapeRefusal s t ≡ refuse 7 place) ↔ Gives7 s t place
+  pub one-number-7 : (place : ℕ) → (tapeRefusal s t ≡ refuse brokenLinks place) ↔ Gives7 s t place
   unfolding tapeRefusal
-  one-number-7 place = (λ e. there (from (record { number = 7; place = place }) e), λ h. back (h .0) (h .1))
+  one-number-7 place = (λ e. there (from (record { number = brokenLinks; place = place }) e), λ h. back (h .0) (h .1))
     where
-      there : From (record { number = 7; place = place }) → Gives7 s t place
+      there : From (record { number = brokenLinks; place = place }) → Gives7 s t place
       there (from4 x) = absurd (omega (arith, number4 _ x))
       there (from5 p x) = absurd (omega (arith, number5 _ x))
       there (from6 p q x) = absurd (omega (arith, number6 _ x))
       there (fromR p q u x) = (plain-of p q u, inl (root-bad _ x))
       there (from7 p q u v x) = (plain-of p q u, inr (root-good v, which-end (end7 _ (some-nodes (only-not (badLength t) 4 0 p)) x)))
         where
-          which-end : Stops t 7 place ⊎ ((_≡_ {A = ℕ} 7 7) × LeftOpen t place) → Stops t 7 place ⊎ LeftOpen t place
+          which-end : Stops t brokenLinks place ⊎ ((_≡_ {A = ℕ} 7 7) × LeftOpen t place) → Stops t brokenLinks place ⊎ LeftOpen t place
           which-end (inl h) = inl h
           which-end (inr h) = inr (h .1)
 
-      back : Plain s t → ((goodRoot t ≡ false) × (place ≡ 0)) ⊎ ((goodRoot t ≡ true) × (Stops t 7 place ⊎ LeftOpen t place)) → tapeRefusal s t ≡ refuse 7 place
+      back : Plain s t → ((goodRoot t ≡ false) × (place ≡ 0)) ⊎ ((goodRoot t ≡ true) × (Stops t brokenLinks place ⊎ LeftOpen t place)) → tapeRefusal s t ≡ refuse brokenLinks place
       back h (inl x) = rw (plain4 h, plain5 h, plain6 h, x .0, x .1)
-      back h (inr (x, inl y)) = rw (plain4 h, plain5 h, plain6 h, x) (read-stops t n 7 place refl y)
+      back h (inr (x, inl y)) = rw (plain4 h, plain5 h, plain6 h, x) (read-stops t n brokenLinks place refl y)
       back h (inr (x, inr y)) = rw (plain4 h, plain5 h, plain6 h, x) (read-open t n place refl y)
 
-  pub one-number-8 : (place : ℕ) → (tapeRefusal s t ≡ refuse 8 place) ↔ Gives8 s t place
+  pub one-number-8 : (place : ℕ) → (tapeRefusal s t ≡ refuse tooDeep place) ↔ Gives8 s t place
   unfolding tapeRefusal
-  one-number-8 place = (λ e. there (from (record { number = 8; place = place }) e), back)
+  one-number-8 place = (λ e. there (from (record { number = tooDeep; place = place }) e), back)
     where
-      there : From (record { number = 8; place = place }) → Gives8 s t place
+      there : From (record { number = tooDeep; place = place }) → Gives8 s t place
       there (from4 x) = absurd (omega (arith, number4 _ x))
       there (from5 p x) = absurd (omega (arith, number5 _ x))
       there (from6 p q x) = absurd (omega (arith, number6 _ x))
       there (fromR p q u x) = absurd (omega (arith, numberR _ x))
       there (from7 p q u v x) = (plain-of p q u, root-good v, which-end (end7 _ (some-nodes (only-not (badLength t) 4 0 p)) x))
         where
-          which-end : Stops t 8 place ⊎ ((_≡_ {A = ℕ} 8 7) × LeftOpen t place) → Stops t 8 place
+          which-end : Stops t tooDeep place ⊎ ((_≡_ {A = ℕ} 8 7) × LeftOpen t place) → Stops t tooDeep place
           which-end (inl h) = h
           which-end (inr h) = absurd (omega (arith, h .0))
 
-      back : Gives8 s t place → tapeRefusal s t ≡ refuse 8 place
-      back h = rw (plain4 (h .0), plain5 (h .0), plain6 (h .0), h .1) (read-stops t n 8 place refl (h .2))
+      back : Gives8 s t place → tapeRefusal s t ≡ refuse tooDeep place
+      back h = rw (plain4 (h .0), plain5 (h .0), plain6 (h .0), h .1) (read-stops t n tooDeep place refl (h .2))
 
   -- the root's link, in words
   pub rooted : badLength t ≡ false → goodRoot t ≡ true → Rooted t n
-  rooted l e = go (eqb (linkAt t 0) n) (eqb (linkAt t 0 + 1) n) (isClose (kindAt t (linkAt t 0))) (isNone (firstBad 7 (opensTo t (linkAt t 0)) 1 (n - 1))) refl refl refl refl e
+  rooted l e = go (eqb (linkAt t 0) n) (eqb (linkAt t 0 + 1) n) (isClose (kindAt t (linkAt t 0))) (isNone (firstBad brokenLinks (opensTo t (linkAt t 0)) 1 (n - 1))) refl refl refl refl e
     where
-      apart : isNone (firstBad 7 (opensTo t (linkAt t 0)) 1 (n - 1)) ≡ true → (i : ℕ) → 1 ≤ i → i < n → isOpen (kindAt t i) ≡ true → linkAt t i ≡ linkAt t 0 → ⊥
+      apart : isNone (firstBad brokenLinks (opensTo t (linkAt t 0)) 1 (n - 1)) ≡ true → (i : ℕ) → 1 ≤ i → i < n → isOpen (kindAt t i) ≡ true → linkAt t i ≡ linkAt t 0 → ⊥
       apart q i g k o z =
-          let f : firstBad 7 (opensTo t (linkAt t 0)) 1 (n - 1) ≡ none = none-is _ q in
-          let w = none-of 7 (opensTo t (linkAt t 0)) (n - 1) 1 f i g (omega arith) in
+          let f : firstBad brokenLinks (opensTo t (linkAt t 0)) 1 (n - 1) ≡ none = none-is _ q in
+          let w = none-of brokenLinks (opensTo t (linkAt t 0)) (n - 1) 1 f i g (omega arith) in
           false≢true (sym w ∙ rw (o, eq-eqb (linkAt t i) (linkAt t 0) z))
         where
           none-is : (x : Option Refusal) → isNone x ≡ true → x ≡ none
           none-is none q = refl
           none-is (some r) q = absurd (false≢true q)
 
-      go : (a b c d : Bool) → eqb (linkAt t 0) n ≡ a → eqb (linkAt t 0 + 1) n ≡ b → isClose (kindAt t (linkAt t 0)) ≡ c → isNone (firstBad 7 (opensTo t (linkAt t 0)) 1 (n - 1)) ≡ d → (a || (b && (c && d))) ≡ true → Rooted t n
+      go : (a b c d : Bool) → eqb (linkAt t 0) n ≡ a → eqb (linkAt t 0 + 1) n ≡ b → isClose (kindAt t (linkAt t 0)) ≡ c → isNone (firstBad brokenLinks (opensTo t (linkAt t 0)) 1 (n - 1)) ≡ d → (a || (b && (c && d))) ≡ true → Rooted t n
       go true b c d p q u v e = let z = eqb-true (linkAt t 0) n p in record { place = inl z; alone = λ w i g k o x. omega arith }
       go false true true true p q u v e = record { place = inr (eqb-true (linkAt t 0 + 1) n q, u); alone = λ w. apart v }
       go false true true false p q u v e = absurd (false≢true e)
@@ -363,7 +289,7 @@ module _ (s t : List ℕ) where
         where
           choose : Dec (linkAt t 0 ≡ 0) → 1 ≤ linkAt t 0
           choose (no x) = omega arith
-          choose (yes x) = absurd (false≢true (sym (let r = eqb-true (kindAt t 0) 0 (not-false _ k) in rw (x, r)) ∙ z .1))
+          choose (yes x) = absurd (false≢true (sym (let r = eqb-true (kindAt t 0) rootKind (not-false _ k) in rw (x, r)) ∙ z .1))
 
   -- a tape is accepted exactly if it reads as a forest
   pub accepted : (tapeRefusal s t ≡ none) ↔ Accepted s t

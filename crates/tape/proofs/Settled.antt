@@ -14,30 +14,29 @@ use lib.ListN.{length, getD, set, drop, length-set, length-drop}
 use lib.Seq.{getD-set-other}
 use borrow.Author.Tests.{eqb-true, eqb-false, ne-eqb, not-false}
 use Rattle.text.specs.Pick.{within, pick}
-use Rattle.tape.specs.Nodes.{count, kindAt, linkAt, isOpen, isClose}
-use Rattle.tape.specs.Reading.{firstBad, badKind, badSpan, opensTo, goodRoot, go, step, read}
+use Rattle.tape.specs.Nodes.{count, kindAt, linkAt, isOpen, isClose, markerOpenKind}
+use Rattle.refusals.specs.Refusal.{firstBad, badNodeKind, badNodeSpan, brokenLinks}
+use Rattle.tape.specs.Reading.{badKind, badSpan, opensTo, goodRoot, go, step, read}
 use Rattle.tape.specs.Inner.{Sized, stacked, rootBy, fromOne, Clear, Apart, Paired}
 use Rattle.tape.proofs.Nest.{close-no-open}
 use Rattle.tape.proofs.Machine.{read-step}
 use Rattle.tape.proofs.Accept.{step-top, step-root, step-opens, step-other}
 use Rattle.tape.proofs.Stack.{stacked-length, stacked-set, stacked-push, stacked-pop}
-use Rattle.tape.proofs.Whole.{first-pass, first-end, kind-step, count-is, root-by}
-
-or-false : (a b : Bool) → (a || b) ≡ false → (a ≡ false) × (b ≡ false)
-or-false true b e = absurd (false≢true (sym e))
-or-false false b e = (refl, e)
+use Rattle.refusals.proofs.First.{first-pass, first-end}
+use Rattle.tape.proofs.Whole.{kind-step, count-is, root-by}
+use Rattle.text.proofs.Bool.{or-parts}
 
 -- kinds and spans, a node at a time
 module _ (s t : List ℕ) (n i : ℕ) where
   pub clear-turn : (kind : ℕ) (x : Bool) → 1 ≤ i → i < n → kind ≡ kindAt t i → x ≡ not (within 1 8 kind) → x ≡ false → badSpan s t i ≡ false → Clear s t n (i + 1) → Clear s t n i
   clear-turn kind x a h e f test g c =
       record {
-        kinds = first-pass 5 (badKind t) n i h (kind-step t i kind x false a e f test) ∙ c .kinds;
-        spans = first-pass 6 (badSpan s t) n i h g ∙ c .spans;
+        kinds = first-pass badNodeKind (badKind t) n i h (kind-step t i kind x false a e f test) ∙ c .kinds;
+        spans = first-pass badNodeSpan (badSpan s t) n i h g ∙ c .spans;
       }
 
   pub clear-done : n ≤ i → Clear s t n i
-  clear-done h = record { kinds = first-end 5 (badKind t) n i h; spans = first-end 6 (badSpan s t) n i h }
+  clear-done h = record { kinds = first-end badNodeKind (badKind t) n i h; spans = first-end badNodeSpan (badSpan s t) n i h }
 
 -- an array without its lowest element
 drop-set : (xs : List ℕ) (k v : ℕ) → drop 1 (set xs (k + 1) v) ≡ set (drop 1 xs) k v
@@ -72,7 +71,7 @@ module _ (t : List ℕ) (n root : ℕ) where
   -- a node whose step goes on
   paired-on : (i : ℕ) (awaited awaited′ : List ℕ) → Paired t n root i awaited → i < n → (Apart root awaited′ → (opensTo t root i ≡ false) × Apart root awaited) → step t i awaited ≡ go awaited′ → Paired t n root (i + 1) awaited′
   paired-on i awaited awaited′ p h f e =
-      record { opens = λ x. sym (first-pass 7 (opensTo t root) n i h (f x .0)) ∙ p .opens (f x .1); reading = sym (read-step t i n awaited h ∙ rw e) ∙ p .reading }
+      record { opens = λ x. sym (first-pass brokenLinks (opensTo t root) n i h (f x .0)) ∙ p .opens (f x .1); reading = sym (read-step t i n awaited h ∙ rw e) ∙ p .reading }
 
   no-open : (i : ℕ) → isOpen (kindAt t i) ≡ false → opensTo t root i ≡ false
   no-open i o = rw o
@@ -138,7 +137,7 @@ module _ (t : List ℕ) (n root : ℕ) (stack : List ℕ) (depth i : ℕ) (g : P
       let z : depth + 1 - 0 ≡ depth + 1 = omega arith in
       record { enough = omega arith; again = rw z (at-open o (eqb-false depth 64 e)) }
   turned false true o c e =
-      let top = eqb-true (getD stack depth 0) i (not-false _ (or-false _ false e .0)) in
+      let top = eqb-true (getD stack depth 0) i (not-false _ (or-parts _ false e .0)) in
       let d = some-awaited top in
       let z : depth + 0 - 1 ≡ depth - 1 = omega arith in
       record { enough = omega arith; again = rw z (at-close c top) }
@@ -146,7 +145,7 @@ module _ (t : List ℕ) (n root : ℕ) (stack : List ℕ) (depth i : ℕ) (g : P
       let z : depth + 0 - 0 ≡ depth = omega arith in
       record { enough = omega arith; again = rw z (at-other o c) }
 
-  pub pairing-turn : (kind link : ℕ) (closes : Bool) (up down : ℕ) → kind ≡ kindAt t i → link ≡ linkAt t i → closes ≡ isClose kind → up ≡ pick (eqb kind 1) 1 0 → down ≡ pick closes 1 0 → ((closes && not (eqb (getD stack depth 0) i)) || (eqb kind 1 && eqb depth 64)) ≡ false → Turned t n root stack depth i link up down
+  pub pairing-turn : (kind link : ℕ) (closes : Bool) (up down : ℕ) → kind ≡ kindAt t i → link ≡ linkAt t i → closes ≡ isClose kind → up ≡ pick (eqb kind markerOpenKind) 1 0 → down ≡ pick closes 1 0 → ((closes && not (eqb (getD stack depth 0) i)) || (eqb kind markerOpenKind && eqb depth 64)) ≡ false → Turned t n root stack depth i link up down
   pairing-turn kind link closes up down k l c u d e = rw (u, d, c, k, l) (turned (isOpen (kindAt t i)) (isClose (kindAt t i)) refl refl (rw (c, k) at e))
 
 -- the root's link, where no open is known to have it, and the rest
@@ -171,7 +170,7 @@ module _ (s t : List ℕ) (n root : ℕ) (size : Sized t n) (link : root ≡ lin
   unfolding read
   ended-at i h p c =
       let z : n - i ≡ 0 = omega arith in
-      let alone : firstBad 7 (opensTo t root) 1 (n - 1) ≡ none = sym (p .opens tt) ∙ first-end 7 (opensTo t root) n i h in
+      let alone : firstBad brokenLinks (opensTo t root) 1 (n - 1) ≡ none = sym (p .opens tt) ∙ first-end brokenLinks (opensTo t root) n i h in
       let root-good : goodRoot t ≡ true = root-by t n root false (count-is t n size) link (rw alone) ∙ good in
       rw (c .kinds, c .spans, root-good) (sym (p .reading) ∙ rw z)
 

@@ -11,6 +11,7 @@ use borrow.Author.Tests.{lt-ltb, le-ltb, eq-eqb, ne-eqb}
 use Rattle.tape.specs.Reading.{Step, go, stop, opened, closed}
 use Rattle.tape.specs.Inner.{stacked, held, Opened, Closed}
 use Rattle.tape.specs.declared.Reading.{Reading}
+use Rattle.refusals.specs.Refusal.{brokenLinks, tooDeep}
 
 pub stacked-length : (xs : List ℕ) (k : ℕ) → length (stacked xs k) ≡ k
 stacked-length xs zero = refl
@@ -35,7 +36,7 @@ stacked-pop xs k h =
     ap (stacked xs) e
 
 module _ (link i : ℕ) (stack : List ℕ) (r : Reading) (room : length stack ≡ 64) where
-  pub open-full : 64 ≤ r .depth → r .depth ≤ 64 → Opened link i stack stack r (record { depth = r .depth; number = 8; place = i })
+  pub open-full : 64 ≤ r .depth → r .depth ≤ 64 → Opened link i stack stack r (record { depth = r .depth; number = tooDeep; place = i })
   open-full h l = record { step = rw (le-ltb (length (stacked stack (r .depth))) 64 (rw (stacked-length stack (r .depth)) h)) (refl, refl); low = l; room = room }
 
   pub open-room : r .depth < 64 → Opened link i stack (set stack (r .depth) link) r (record { depth = r .depth + 1; number = 0; place = 0 })
@@ -48,7 +49,7 @@ module _ (link i : ℕ) (stack : List ℕ) (r : Reading) (room : length stack �
 
 module _ (root i : ℕ) (stack : List ℕ) (r : Reading) (low : r .depth ≤ 64) where
   abbrev failed : Reading
-  failed = record { depth = r .depth; number = 7; place = i }
+  failed = record { depth = r .depth; number = brokenLinks; place = i }
 
   pub close-root : r .depth ≡ 0 → root ≡ i → Closed root i stack r r
   close-root d e = record { step = λ z. rw (d, eq-eqb i root (sym e)) (z, refl); low = low }

@@ -1,7 +1,7 @@
 -- The pass over the nodes: what is left gives what the whole gives, of each number.
 -- Assumes nothing.
 use mathlib.Core.Path.{_≡_, refl, sym, ap, _∙_}
-use mathlib.Core.Bool.{Bool, true, false, not, _&&_, _||_}
+use mathlib.Core.Bool.{Bool, true, false, not, _&&_, _||_, and-true}
 use mathlib.Core.List.{List, [], _∷_}
 use mathlib.Core.Logic.{inl}
 use mathlib.Core.Option.{Option, some, none}
@@ -13,39 +13,23 @@ use lib.ListN.{length, replicate, length-replicate}
 use borrow.Author.Tests.{eq-eqb, ne-eqb, lt-ltb, le-ltb, le-leb, lt-leb, leb-true, leb-false}
 use Rattle.text.specs.Pick.{within, pick}
 use Rattle.tape.specs.Nodes.{count, kindAt, linkAt, isClose}
-use Rattle.tape.specs.Reading.{Refusal, refuse, onlyIf, orElse, firstBad, isNone, badLength, badKind, badSpan, opensTo, goodRoot, ended, read, tapeRefusal, refusalOf}
+use Rattle.refusals.specs.Refusal.{Refusal, refuse, onlyIf, orElse, firstBad, isNone, badNodeKind, badNodeSpan, brokenLinks}
+use Rattle.tape.specs.Reading.{badLength, badKind, badSpan, opensTo, goodRoot, ended, read, tapeRefusal, refusalOf}
 use Rattle.tape.specs.Inner.{Sized, stacked, met, metSpan, spanAfter, says, Known, Stepped, rootBy, leftOpen, lastly, fromOne}
 use Rattle.tape.specs.declared.TapeCheck.{TapeCheck}
 use Rattle.tape.specs.declared.Reading.{Reading}
+use Rattle.refusals.proofs.First.{first-step, first-pass, first-hit, first-end}
 
--- the first bad node, one node at a time
-module _ (number : ℕ) (bad : ℕ → Bool) (n i : ℕ) where
-  pub first-step : i < n → firstBad number bad i (n - i) ≡ orElse (onlyIf (bad i) (refuse number i)) (firstBad number bad (i + 1) (n - (i + 1)))
-  unfolding firstBad
-  first-step h =
-      let e : n - i ≡ suc (n - (i + 1)) = omega arith in
-      rw (e, add-one)
-
-  pub first-pass : i < n → bad i ≡ false → firstBad number bad i (n - i) ≡ firstBad number bad (i + 1) (n - (i + 1))
-  first-pass h e = first-step h ∙ rw e
-
-  pub first-hit : i < n → bad i ≡ true → firstBad number bad i (n - i) ≡ refuse number i
-  first-hit h e = first-step h ∙ rw e
-
-  pub first-end : n ≤ i → firstBad number bad i (n - i) ≡ none
-  unfolding firstBad
-  first-end h = let e : n - i ≡ 0 = omega arith in rw e
-
-span-on : (s t : List ℕ) (i span : ℕ) (rest : Option Refusal) → 1 ≤ i → metSpan (spanAfter s t i span) rest ≡ metSpan span (orElse (onlyIf (badSpan s t i) (refuse 6 i)) rest)
+span-on : (s t : List ℕ) (i span : ℕ) (rest : Option Refusal) → 1 ≤ i → metSpan (spanAfter s t i span) rest ≡ metSpan span (orElse (onlyIf (badSpan s t i) (refuse badNodeSpan i)) rest)
 span-on s t i (suc place) rest h = refl
 span-on s t i zero rest h = go (badSpan s t i) i h
   where
-    go : (b : Bool) (i : ℕ) → 1 ≤ i → metSpan (pick b i 0) rest ≡ orElse (onlyIf b (refuse 6 i)) rest
+    go : (b : Bool) (i : ℕ) → 1 ≤ i → metSpan (pick b i 0) rest ≡ orElse (onlyIf b (refuse badNodeSpan i)) rest
     go true zero h = absurd (omega arith)
     go true (suc i) h = refl
     go false i h = refl
 
-taken-at : (taken b : Bool) (i : ℕ) (rest : Option Refusal) → (not (taken || b) && isNone rest) ≡ (not taken && isNone (orElse (onlyIf b (refuse 7 i)) rest))
+taken-at : (taken b : Bool) (i : ℕ) (rest : Option Refusal) → (not (taken || b) && isNone rest) ≡ (not taken && isNone (orElse (onlyIf b (refuse brokenLinks i)) rest))
 taken-at true b i rest = refl
 taken-at false true i rest = refl
 taken-at false false i rest = refl
@@ -60,9 +44,9 @@ pub record Going (s t : List ℕ) (n root : ℕ) (stack : List ℕ) (span : ℕ)
   pub link : root ≡ linkAt t 0
   pub after : 1 ≤ i
   pub within : i ≤ n
-  pub kinds : firstBad 5 (badKind t) i (n - i) ≡ firstBad 5 (badKind t) 1 (n - 1)
-  pub spans : metSpan span (firstBad 6 (badSpan s t) i (n - i)) ≡ firstBad 6 (badSpan s t) 1 (n - 1)
-  pub roots : (not taken && isNone (firstBad 7 (opensTo t root) i (n - i))) ≡ isNone (firstBad 7 (opensTo t root) 1 (n - 1))
+  pub kinds : firstBad badNodeKind (badKind t) i (n - i) ≡ firstBad badNodeKind (badKind t) 1 (n - 1)
+  pub spans : metSpan span (firstBad badNodeSpan (badSpan s t) i (n - i)) ≡ firstBad badNodeSpan (badSpan s t) 1 (n - 1)
+  pub roots : (not taken && isNone (firstBad brokenLinks (opensTo t root) i (n - i))) ≡ isNone (firstBad brokenLinks (opensTo t root) 1 (n - 1))
   pub reading : says t n i stack r ≡ read t (n - 1) 1 []
   pub low : r .depth ≤ 64
   pub known : Known (r .number)
@@ -105,20 +89,20 @@ module _ (s t : List ℕ) (n root : ℕ) (stack : List ℕ) (span : ℕ) (taken 
         link = g .link;
         after = omega arith;
         within = omega arith;
-        kinds = sym (first-pass 5 (badKind t) n i below k) ∙ g .kinds;
-        spans = span-on s t i span (firstBad 6 (badSpan s t) (i + 1) (n - (i + 1))) (g .after) ∙ ap (metSpan span) (sym (first-step 6 (badSpan s t) n i below)) ∙ g .spans;
-        roots = taken-at taken (opensTo t root i) i (firstBad 7 (opensTo t root) (i + 1) (n - (i + 1))) ∙ ap (λ (x : Option Refusal). (not taken && isNone x)) (sym (first-step 7 (opensTo t root) n i below)) ∙ g .roots;
+        kinds = sym (first-pass badNodeKind (badKind t) n i below k) ∙ g .kinds;
+        spans = span-on s t i span (firstBad badNodeSpan (badSpan s t) (i + 1) (n - (i + 1))) (g .after) ∙ ap (metSpan span) (sym (first-step badNodeSpan (badSpan s t) n i below)) ∙ g .spans;
+        roots = taken-at taken (opensTo t root i) i (firstBad brokenLinks (opensTo t root) (i + 1) (n - (i + 1))) ∙ ap (λ (x : Option Refusal). (not taken && isNone x)) (sym (first-step brokenLinks (opensTo t root) n i below)) ∙ g .roots;
         reading = h .same n below ∙ g .reading;
         low = h .low;
         known = h .known;
         room = h .room;
       }
 
-  pub going-bad : badKind t i ≡ true → refuse 5 i ≡ fromOne s t n
-  going-bad k = rw (← g .kinds, first-hit 5 (badKind t) n i below k)
+  pub going-bad : badKind t i ≡ true → refuse badNodeKind i ≡ fromOne s t n
+  going-bad k = rw (← g .kinds, first-hit badNodeKind (badKind t) n i below k)
 
 -- the root's link, by whether an open has it too
-pub root-by : (t : List ℕ) (n root : ℕ) (taken : Bool) → count t ≡ n → root ≡ linkAt t 0 → isNone (firstBad 7 (opensTo t root) 1 (n - 1)) ≡ not taken → goodRoot t ≡ rootBy root n (isClose (kindAt t root)) taken
+pub root-by : (t : List ℕ) (n root : ℕ) (taken : Bool) → count t ≡ n → root ≡ linkAt t 0 → isNone (firstBad brokenLinks (opensTo t root) 1 (n - 1)) ≡ not taken → goodRoot t ≡ rootBy root n (isClose (kindAt t root)) taken
 root-by t n root taken c l e = rw (c, ← l, e)
 
 module _ (s t : List ℕ) (n root : ℕ) (stack : List ℕ) (span : ℕ) (taken : Bool) (r : Reading) (i : ℕ) (g : Going s t n root stack span taken r i) (done : n ≤ i) where
@@ -126,11 +110,7 @@ module _ (s t : List ℕ) (n root : ℕ) (stack : List ℕ) (span : ℕ) (taken 
   at-end = let w = g .within in omega arith
 
   root-is : goodRoot t ≡ rootBy root n (isClose (kindAt t root)) taken
-  root-is = root-by t n root taken (count-is t n (g .sized)) (g .link) (sym (g .roots) ∙ rw (first-end 7 (opensTo t root) n i done) (both-true (not taken)))
-    where
-      both-true : (b : Bool) → (b && true) ≡ b
-      both-true true = refl
-      both-true false = refl
+  root-is = root-by t n root taken (count-is t n (g .sized)) (g .link) (sym (g .roots) ∙ rw (first-end brokenLinks (opensTo t root) n i done) (and-true (not taken)))
 
   reading-is : met (r .number) (r .place) (leftOpen n (r .depth)) ≡ read t (n - 1) 1 []
   unfolding read
@@ -140,7 +120,7 @@ module _ (s t : List ℕ) (n root : ℕ) (stack : List ℕ) (span : ℕ) (taken 
       ap (met (r .number) (r .place)) (sym (ended-left n stack (r .depth)) ∙ rw (← z)) ∙ rw e at (g .reading)
 
   pub going-last : lastly t n root span taken r ≡ fromOne s t n
-  going-last = rw (← g .kinds, first-end 5 (badKind t) n i done, ← g .spans, first-end 6 (badSpan s t) n i done, root-is, ← reading-is)
+  going-last = rw (← g .kinds, first-end badNodeKind (badKind t) n i done, ← g .spans, first-end badNodeSpan (badSpan s t) n i done, root-is, ← reading-is)
 
 pub kind-low : (k : ℕ) → k < 1 → true ≡ not (Rattle.text.specs.Pick.within 1 8 k)
 kind-low k h = rw (lt-leb 1 k h)

@@ -6,17 +6,7 @@ use mathlib.Core.List.{List, [], _∷_}
 use mathlib.Core.Logic.{_⊎_}
 use Rattle.tape.specs.Nodes.{count}
 use Rattle.tape.specs.Reading.{badLength, badKind, badSpan, goodRoot, Step, go, stop, step}
-
--- no node from a on and before b is bad
-abbrev pub AllGood : (ℕ → Bool) → ℕ → ℕ → Type 0
-AllGood bad a b = (i : ℕ) → a ≤ i → i < b → bad i ≡ false
-
--- "Of several nodes the first counts."
-pub record First (bad : ℕ → Bool) (a b place : ℕ) : Type 0 where
-  pub from : a ≤ place
-  pub below : place < b
-  pub is : bad place ≡ true
-  pub earlier : AllGood bad a place
+use Rattle.refusals.specs.Refusal.{brokenLinks, tooDeep, AllGood, First}
 
 -- the reading from node 1 comes to node i with these links awaited, the innermost first
 pub data Reaches (t : List ℕ) : ℕ → List ℕ → Type 0 where
@@ -53,7 +43,7 @@ abbrev pub Gives6 : List ℕ → List ℕ → ℕ → Type 0
 Gives6 s t place = (badLength t ≡ false) × AllGood (badKind t) 0 (count t) × First (badSpan s t) 1 (count t) place
 
 abbrev pub Gives7 : List ℕ → List ℕ → ℕ → Type 0
-Gives7 s t place = Plain s t × (((goodRoot t ≡ false) × (place ≡ 0)) ⊎ ((goodRoot t ≡ true) × (Stops t 7 place ⊎ LeftOpen t place)))
+Gives7 s t place = Plain s t × (((goodRoot t ≡ false) × (place ≡ 0)) ⊎ ((goodRoot t ≡ true) × (Stops t brokenLinks place ⊎ LeftOpen t place)))
 
 abbrev pub Gives8 : List ℕ → List ℕ → ℕ → Type 0
-Gives8 s t place = Plain s t × (goodRoot t ≡ true) × Stops t 8 place
+Gives8 s t place = Plain s t × (goodRoot t ≡ true) × Stops t tooDeep place

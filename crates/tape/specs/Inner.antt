@@ -9,7 +9,8 @@ use lib.Dec.{eqb}
 use lib.ListN.{length, getD}
 use Rattle.text.specs.Pick.{pick}
 use Rattle.tape.specs.Nodes.{count, kindAt, linkAt, isClose}
-use Rattle.tape.specs.Reading.{Refusal, refuse, onlyIf, orElse, firstBad, badKind, badSpan, opensTo, goodRoot, read, Step, go, stop, opened, closed}
+use Rattle.refusals.specs.Refusal.{Refusal, refuse, onlyIf, orElse, firstBad, badNodeKind, badNodeSpan, brokenLinks}
+use Rattle.tape.specs.Reading.{badKind, badSpan, opensTo, goodRoot, read, Step, go, stop, opened, closed}
 use Rattle.tape.specs.declared.TapeCheck.{TapeCheck}
 use Rattle.tape.specs.declared.Reading.{Reading}
 
@@ -32,7 +33,7 @@ met (suc number) place rest = refuse (suc number) place
 -- where the first bad span was met, or what the rest gives
 abbrev pub metSpan : ℕ → Option Refusal → Option Refusal
 metSpan zero rest = rest
-metSpan (suc place) rest = refuse 6 (suc place)
+metSpan (suc place) rest = refuse badNodeSpan (suc place)
 
 abbrev pub spanAfter : List ℕ → List ℕ → ℕ → ℕ → ℕ
 spanAfter s t i zero = pick (badSpan s t i) i 0
@@ -83,24 +84,24 @@ rootBy link n closes taken = eqb link n || (eqb (link + 1) n && (closes && not t
 -- an open that is left unclosed at the end
 abbrev pub leftOpen : ℕ → ℕ → Option Refusal
 leftOpen n zero = none
-leftOpen n (suc depth) = refuse 7 n
+leftOpen n (suc depth) = refuse brokenLinks n
 
 -- the rest of the numbers when all nodes are read
 abbrev pub lastly : List ℕ → ℕ → ℕ → ℕ → Bool → Reading → Option Refusal
 lastly t n root span taken r =
     orElse (metSpan span none)
-    (orElse (onlyIf (not (rootBy root n (isClose (kindAt t root)) taken)) (refuse 7 0)) (met (r .number) (r .place) (leftOpen n (r .depth))))
+    (orElse (onlyIf (not (rootBy root n (isClose (kindAt t root)) taken)) (refuse brokenLinks 0)) (met (r .number) (r .place) (leftOpen n (r .depth))))
 
 -- the numbers from 5 on, where the root's kind is good
 abbrev pub fromOne : List ℕ → List ℕ → ℕ → Option Refusal
 fromOne s t n =
-    orElse (firstBad 5 (badKind t) 1 (n - 1))
-    (orElse (firstBad 6 (badSpan s t) 1 (n - 1)) (orElse (onlyIf (not (goodRoot t)) (refuse 7 0)) (read t (n - 1) 1 [])))
+    orElse (firstBad badNodeKind (badKind t) 1 (n - 1))
+    (orElse (firstBad badNodeSpan (badSpan s t) 1 (n - 1)) (orElse (onlyIf (not (goodRoot t)) (refuse brokenLinks 0)) (read t (n - 1) 1 [])))
 
 -- no kind and no span from node i on is bad
 pub record Clear (s t : List ℕ) (n i : ℕ) : Type 0 where
-  pub kinds : firstBad 5 (badKind t) i (n - i) ≡ none
-  pub spans : firstBad 6 (badSpan s t) i (n - i) ≡ none
+  pub kinds : firstBad badNodeKind (badKind t) i (n - i) ≡ none
+  pub spans : firstBad badNodeSpan (badSpan s t) i (n - i) ≡ none
 
 -- this link is not awaited
 abbrev pub Apart : ℕ → List ℕ → Type 0
@@ -109,5 +110,5 @@ Apart link (x ∷ awaited) = (x ≡ link → ⊥) × Apart link awaited
 
 -- the nodes from 1 to i read, with these links awaited: what is left gives what the whole gives, of the reading, and of the opens that have the root's link, if that isn't awaited
 pub record Paired (t : List ℕ) (n root i : ℕ) (awaited : List ℕ) : Type 0 where
-  pub opens : Apart root awaited → firstBad 7 (opensTo t root) i (n - i) ≡ firstBad 7 (opensTo t root) 1 (n - 1)
+  pub opens : Apart root awaited → firstBad brokenLinks (opensTo t root) i (n - i) ≡ firstBad brokenLinks (opensTo t root) 1 (n - 1)
   pub reading : read t (n - i) i awaited ≡ read t (n - 1) 1 []

@@ -38,24 +38,52 @@ lenAt t i = word t (16 * i + 8)
 abbrev pub linkAt : List ℕ → ℕ → ℕ
 linkAt t i = word t (16 * i + 12)
 
+-- "kind u8 (0 to 8 in `NodeKind` order)"
+abbrev pub rootKind : ℕ
+rootKind = 0
+
+abbrev pub markerOpenKind : ℕ
+markerOpenKind = 1
+
+abbrev pub markerCloseKind : ℕ
+markerCloseKind = 2
+
+abbrev pub chapterKind : ℕ
+chapterKind = 3
+
+abbrev pub verseKind : ℕ
+verseKind = 4
+
+abbrev pub textKind : ℕ
+textKind = 5
+
+abbrev pub attributeKind : ℕ
+attributeKind = 6
+
+abbrev pub blockEndKind : ℕ
+blockEndKind = 7
+
+abbrev pub errorKind : ℕ
+errorKind = 8
+
 -- "kinds MarkerClose, BlockEnd"
 abbrev pub isClose : ℕ → Bool
-isClose k = eqb k 2 || eqb k 7
+isClose k = eqb k markerCloseKind || eqb k blockEndKind
 
 abbrev pub isOpen : ℕ → Bool
-isOpen k = eqb k 1
+isOpen k = eqb k markerOpenKind
 
--- the number of a kind, in the Rust's order
+-- the number of a kind
 abbrev pub kindOf : NodeKind → ℕ
-kindOf Root = 0
-kindOf MarkerOpen = 1
-kindOf MarkerClose = 2
-kindOf Chapter = 3
-kindOf Verse = 4
-kindOf Text = 5
-kindOf Attribute = 6
-kindOf BlockEnd = 7
-kindOf Error = 8
+kindOf Root = rootKind
+kindOf MarkerOpen = markerOpenKind
+kindOf MarkerClose = markerCloseKind
+kindOf Chapter = chapterKind
+kindOf Verse = verseKind
+kindOf Text = textKind
+kindOf Attribute = attributeKind
+kindOf BlockEnd = blockEndKind
+kindOf Error = errorKind
 
 -- a node with all that a check of it reads: its number, its fields, and the bytes of its text
 pub record Node : Type 0 where

@@ -7,34 +7,10 @@ use lib.Dec.{eqb, ltb}
 use lib.ListN.{length}
 use Rattle.text.specs.Pick.{within, pick}
 use Rattle.text.specs.Characters.{starts}
-use Rattle.tape.specs.Nodes.{count, kindAt, startAt, lenAt, linkAt, isClose, isOpen}
+use Rattle.tape.specs.Nodes.{count, kindAt, startAt, lenAt, linkAt, isClose, isOpen, rootKind, markerOpenKind, errorKind}
 use Rattle.tape.specs.declared.TapeCheck.{TapeCheck}
 use Rattle.tape.specs.declared.TapeCheck.the-variants.{Good, Length, Kind, Span, Links, Deep}
-
-pub record Refusal : Type 0 where
-  pub number : ℕ
-  pub place : ℕ
-
-abbrev pub refuse : ℕ → ℕ → Option Refusal
-refuse number place = some (record { number = number; place = place })
-
-abbrev pub onlyIf : Bool → Option Refusal → Option Refusal
-onlyIf true r = r
-onlyIf false r = none
-
--- a number that is tried before others
-abbrev pub orElse : Option Refusal → Option Refusal → Option Refusal
-orElse (some r) later = some r
-orElse none later = later
-
--- the first of the n nodes from node a on that is bad, with the number
-unfoldable pub firstBad : ℕ → (ℕ → Bool) → ℕ → ℕ → Option Refusal
-firstBad number bad a zero = none
-firstBad number bad a (suc n) = orElse (onlyIf (bad a) (refuse number a)) (firstBad number bad (suc a) n)
-
-abbrev pub isNone : Option Refusal → Bool
-isNone none = true
-isNone (some r) = false
+use Rattle.refusals.specs.Refusal.{Refusal, refuse, onlyIf, orElse, firstBad, isNone, badTapeLength, badNodeKind, badNodeSpan, brokenLinks, tooDeep}
 
 -- 4: "The tape's length is 0, no multiple of 16, or over 65,535 nodes; place 0."
 abbrev pub badLength : List ℕ → Bool
@@ -42,8 +18,8 @@ badLength t = eqb (length t) 0 || (not (eqb (length t % 16) 0) || ltb 65535 (cou
 
 -- 5: "A kind is over 8, or Root is missing at 0 or present elsewhere; place: that node."
 abbrev pub badKind : List ℕ → ℕ → Bool
-badKind t zero = not (eqb (kindAt t 0) 0)
-badKind t (suc i) = not (within 1 8 (kindAt t (suc i)))
+badKind t zero = not (eqb (kindAt t 0) rootKind)
+badKind t (suc i) = not (within markerOpenKind errorKind (kindAt t (suc i)))
 
 -- 6: "A span from node 1 on leaves the source or splits a character; place: that node."
 abbrev pub badSpan : List ℕ → List ℕ → ℕ → Bool
@@ -56,7 +32,7 @@ opensTo t link i = isOpen (kindAt t i) && eqb (linkAt t i) link
 
 abbrev pub goodRoot : List ℕ → Bool
 goodRoot t =
-    eqb (linkAt t 0) (count t) || (eqb (linkAt t 0 + 1) (count t) && (isClose (kindAt t (linkAt t 0)) && isNone (firstBad 7 (opensTo t (linkAt t 0)) 1 (count t - 1))))
+    eqb (linkAt t 0) (count t) || (eqb (linkAt t 0 + 1) (count t) && (isClose (kindAt t (linkAt t 0)) && isNone (firstBad brokenLinks (opensTo t (linkAt t 0)) 1 (count t - 1))))
 
 -- 7 and 8, the others: "Read nodes from 1 with the opens not yet closed, the root outermost. A close (kinds MarkerClose, BlockEnd) at i must be the link of the innermost open."
 -- "A 65th open nests inside 64, root not counted; place: that node"
@@ -66,12 +42,12 @@ pub data Step : Type 0 where
 
 -- one node more opened, where its link is awaited
 abbrev pub opened : ℕ → List ℕ → Step
-opened link awaited = pick (ltb (length awaited) 64) (go (link ∷ awaited)) (stop 8)
+opened link awaited = pick (ltb (length awaited) 64) (go (link ∷ awaited)) (stop tooDeep)
 
 -- the innermost open closed, or the root
 abbrev pub closed : ℕ → ℕ → List ℕ → Step
-closed root i [] = pick (eqb i root) (go []) (stop 7)
-closed root i (link ∷ awaited) = pick (eqb i link) (go awaited) (stop 7)
+closed root i [] = pick (eqb i root) (go []) (stop brokenLinks)
+closed root i (link ∷ awaited) = pick (eqb i link) (go awaited) (stop brokenLinks)
 
 unfoldable pub step : List ℕ → ℕ → List ℕ → Step
 step t i awaited =
@@ -85,7 +61,7 @@ resume (stop number) i rest = refuse number i
 -- "else n for an unclosed open"
 abbrev pub ended : ℕ → List ℕ → Option Refusal
 ended n [] = none
-ended n (link ∷ awaited) = refuse 7 n
+ended n (link ∷ awaited) = refuse brokenLinks n
 
 -- the n nodes from node i on, with the links that are awaited, the innermost first
 unfoldable pub read : List ℕ → ℕ → ℕ → List ℕ → Option Refusal
@@ -95,16 +71,16 @@ read t (suc n) i awaited = resume (step t i awaited) i (read t n (suc i))
 -- the numbers in checking order, of 7 and 8 the smaller place
 unfoldable pub tapeRefusal : List ℕ → List ℕ → Option Refusal
 tapeRefusal s t =
-    orElse (onlyIf (badLength t) (refuse 4 0))
-    (orElse (firstBad 5 (badKind t) 0 (count t))
-    (orElse (firstBad 6 (badSpan s t) 1 (count t - 1))
-    (orElse (onlyIf (not (goodRoot t)) (refuse 7 0)) (read t (count t - 1) 1 []))))
+    orElse (onlyIf (badLength t) (refuse badTapeLength 0))
+    (orElse (firstBad badNodeKind (badKind t) 0 (count t))
+    (orElse (firstBad badNodeSpan (badSpan s t) 1 (count t - 1))
+    (orElse (onlyIf (not (goodRoot t)) (refuse brokenLinks 0)) (read t (count t - 1) 1 []))))
 
 -- what the answer of the check says
 abbrev pub refusalOf : TapeCheck → Option Refusal
 refusalOf Good = none
-refusalOf Length = refuse 4 0
-refusalOf (Kind i) = refuse 5 i
-refusalOf (Span i) = refuse 6 i
-refusalOf (Links i) = refuse 7 i
-refusalOf (Deep i) = refuse 8 i
+refusalOf Length = refuse badTapeLength 0
+refusalOf (Kind i) = refuse badNodeKind i
+refusalOf (Span i) = refuse badNodeSpan i
+refusalOf (Links i) = refuse brokenLinks i
+refusalOf (Deep i) = refuse tooDeep i

@@ -7,7 +7,7 @@ ghost use Prim.Native.Nat.{_+_, _-_, _<_, _≤_};
 ghost use lib.ListN.{length};
 ghost use Rattle.text.specs.Pick.{within, pick};
 ghost use Rattle.text.specs.Characters.{starts};
-ghost use Rattle.tape.specs.Nodes.{count, half, word, kindAt, markerAt, startAt, lenAt, linkAt, isClose, kindOf};
+ghost use Rattle.tape.specs.Nodes.{count, half, word, kindAt, markerAt, startAt, lenAt, linkAt, isClose, kindOf, markerOpenKind, errorKind};
 ghost use Rattle.tape.specs.Reading.{badSpan, opensTo, refusalOf, tapeRefusal};
 ghost use Rattle.tape.specs.Inner.{Sized, Known, Opened, Closed, Held, Stepped, spanAfter, rootBy, lastly, fromOne, Clear, Paired};
 
@@ -23,6 +23,25 @@ pub enum NodeKind {
     Error,
 }
 
+// The kinds by number, in the order of `NodeKind`.
+pub const ROOT: u8 = 0;
+
+pub const MARKER_OPEN: u8 = 1;
+
+pub const MARKER_CLOSE: u8 = 2;
+
+pub const CHAPTER: u8 = 3;
+
+pub const VERSE: u8 = 4;
+
+pub const TEXT: u8 = 5;
+
+pub const ATTRIBUTE: u8 = 6;
+
+pub const BLOCK_END: u8 = 7;
+
+pub const ERROR: u8 = 8;
+
 // What the check of a tape finds: nothing, or the number that it is turned back with (4 to 8 in this order) and its place.
 pub enum TapeCheck {
     Good,
@@ -37,7 +56,7 @@ pub enum TapeCheck {
 // stopped at, or 0.
 pub struct Reading {
     pub depth: usize,
-    pub number: usize,
+    pub number: u64,
     pub place: usize,
 }
 
@@ -77,14 +96,14 @@ pub fn kind(tape: &[u8], i: usize) -> NodeKind
 {
     let k = kind_at(tape, i);
     match k {
-        0 => NodeKind::Root,
-        1 => NodeKind::MarkerOpen,
-        2 => NodeKind::MarkerClose,
-        3 => NodeKind::Chapter,
-        4 => NodeKind::Verse,
-        5 => NodeKind::Text,
-        6 => NodeKind::Attribute,
-        7 => NodeKind::BlockEnd,
+        ROOT => NodeKind::Root,
+        MARKER_OPEN => NodeKind::MarkerOpen,
+        MARKER_CLOSE => NodeKind::MarkerClose,
+        CHAPTER => NodeKind::Chapter,
+        VERSE => NodeKind::Verse,
+        TEXT => NodeKind::Text,
+        ATTRIBUTE => NodeKind::Attribute,
+        BLOCK_END => NodeKind::BlockEnd,
         _ => NodeKind::Error,
     }
 }
@@ -120,7 +139,11 @@ pub fn link_at(tape: &[u8], i: usize) -> u32
 pub fn is_close(kind: u8) -> bool
     ensures { λ r. ⌜ r ≡ isClose kind ⌝ }
 {
-    if kind == 2 { true } else { kind == 7 }
+    if kind == MARKER_CLOSE {
+        true
+    } else {
+        kind == BLOCK_END
+    }
 }
 
 // Whether a node's span leaves the source or splits a character.
@@ -159,7 +182,7 @@ fn open_step(link: u32, i: usize, stack: &mut [u32], r: Reading) -> Reading
     if 64 <= depth {
         return Reading {
             depth,
-            number: 8,
+            number: refusals::TOO_DEEP,
             place: i,
         };
     }
@@ -179,7 +202,7 @@ fn close_step(root: u32, i: usize, stack: &[u32], r: Reading) -> Reading
     let depth = r.depth;
     let failed = Reading {
         depth,
-        number: 7,
+        number: refusals::BROKEN_LINKS,
         place: i,
     };
     if depth == 0 {
@@ -208,7 +231,7 @@ fn step(tape: &[u8], root: u32, i: usize, kind: u8, stack: &mut [u32], r: Readin
     if r.number != 0 {
         return r;
     }
-    if kind == 1 {
+    if kind == MARKER_OPEN {
         return open_step(link_at(tape, i), i, stack, r);
     }
     if is_close(kind) {
@@ -225,7 +248,7 @@ fn taken_step(tape: &[u8], root: u32, i: usize, kind: u8, taken: bool) -> bool
     if taken {
         return true;
     }
-    if kind != 1 {
+    if kind != MARKER_OPEN {
         return false;
     }
     link_at(tape, i) == root
@@ -261,10 +284,10 @@ fn answer(tape: &[u8], n: usize, root: u32, span: usize, taken: bool, r: Reading
     if !good_root(tape, n, root, taken) {
         return TapeCheck::Links(0);
     }
-    if r.number == 8 {
+    if r.number == refusals::TOO_DEEP {
         return TapeCheck::Deep(r.place);
     }
-    if r.number == 7 {
+    if r.number == refusals::BROKEN_LINKS {
         return TapeCheck::Links(r.place);
     }
     if r.depth != 0 {
@@ -274,9 +297,13 @@ fn answer(tape: &[u8], n: usize, root: u32, span: usize, taken: bool, r: Reading
 }
 
 fn bad_kind(kind: u8) -> bool
-    ensures { λ r. ⌜ r ≡ not (within 1 8 kind) ⌝ }
+    ensures { λ r. ⌜ r ≡ not (within markerOpenKind errorKind kind) ⌝ }
 {
-    if kind < 1 { true } else { 8 < kind }
+    if kind < MARKER_OPEN {
+        true
+    } else {
+        ERROR < kind
+    }
 }
 
 // Numbers 5 to 8 from node 1 on, in one pass: a bad kind comes before all others, and the rest waits for the end.
@@ -394,7 +421,7 @@ fn are_paired(tape: &[u8], root: u32) -> bool
     while i < root as usize {
         let kind = kind_at(tape, i);
         let link = link_at(tape, i);
-        let opens = kind == 1;
+        let opens = kind == MARKER_OPEN;
         let closes = is_close(kind);
         let top = stack[depth];
         stack[depth + 1] = link;
@@ -447,7 +474,7 @@ pub fn tape_check(source: &[u8], tape: &[u8]) -> TapeCheck
     if 65535 < n {
         return TapeCheck::Length;
     }
-    if kind_at(tape, 0) != 0 {
+    if kind_at(tape, 0) != ROOT {
         return TapeCheck::Kind(0);
     }
     scan(source, tape, n)

@@ -22,6 +22,7 @@ use Rattle.messages.specs.Told.{refused, laid, byRoom, bytesBy}
 use Rattle.telling.specs.Telling as answers
 use Rattle.telling.specs.Telling.{fitting, textsFrom, joined, endsFrom, turnedBack, toldBy}
 use Rattle.text.specs.Pick.{pick}
+use Rattle.refusals.specs.Refusal.{messageListTooShort}
 
 -- bytes laid over the part of a list that begins at a place
 over-part : (l : List ℕ) (at : ℕ) (s : List ℕ) → take at l ++ over (drop at l) 0 s ≡ over l at s
@@ -48,7 +49,7 @@ told-laid : (o : Option (List ℕ)) (part ys : List ℕ) (n : ℕ) → laid n �
 told-laid none part ys n e f = let z : _≡_ {A = ℕ} 0 1 = cc in absurd (omega arith)
 told-laid (some x) part ys n e f = test (ltb (length part) (length x)) refl e f
   where
-    test : (b : Bool) → ltb (length part) (length x) ≡ b → laid n ≡ pick b (refused (record { number = 13; place = length x })) (laid (length x)) → ys ≡ pick b part (over part 0 x) → Fits (some x) part ys n
+    test : (b : Bool) → ltb (length part) (length x) ≡ b → laid n ≡ pick b (refused (record { number = messageListTooShort; place = length x })) (laid (length x)) → ys ≡ pick b part (over part 0 x) → Fits (some x) part ys n
     test true h e f = let z : _≡_ {A = ℕ} 0 1 = cc in absurd (omega arith)
     test false h e f =
         let z : n ≡ length x = cc in
@@ -64,7 +65,7 @@ told-refused : (o : Option (List ℕ)) (part ys : List ℕ) (a b : ℕ) → refu
 told-refused none part ys a b e f = record { stops = λ rest. refl; why = cc; list = f }
 told-refused (some x) part ys a b e f = test (ltb (length part) (length x)) refl e f
   where
-    test : (d : Bool) → ltb (length part) (length x) ≡ d → refused (record { number = a; place = b }) ≡ pick d (refused (record { number = 13; place = length x })) (laid (length x)) → ys ≡ pick d part (over part 0 x) → Lacks (some x) part ys a b
+    test : (d : Bool) → ltb (length part) (length x) ≡ d → refused (record { number = a; place = b }) ≡ pick d (refused (record { number = messageListTooShort; place = length x })) (laid (length x)) → ys ≡ pick d part (over part 0 x) → Lacks (some x) part ys a b
     test true h e f = record { stops = λ rest. rw h; why = cc; list = f }
     test false h e f = let z : _≡_ {A = ℕ} 0 1 = cc in absurd (omega arith)
 

@@ -5,7 +5,7 @@ use mathlib.Core.List.{List, [], _∷_, _++_}
 use mathlib.Core.Option.{Option, some, none}
 use lib.Dec.{eqb, ltb}
 use lib.ListN.{length, getD}
-use Rattle.tape.specs.Reading.{Refusal}
+use Rattle.refusals.specs.Refusal.{Refusal, noMessage, messageListTooShort}
 use Rattle.buffer.specs.Over.{over}
 use Rattle.messages.specs.Message.{Asked, messageText}
 use Rattle.messages.specs.Told.{firstNine}
@@ -48,8 +48,8 @@ endsFrom at (x ∷ xs) = (at + length x) ∷ endsFrom (at + length x) xs
 
 -- what turns the next text back: number 12, or 13 with the length that it needs
 abbrev pub turnedBack : Option (List ℕ) → Refusal
-turnedBack none = record { number = 12; place = 0 }
-turnedBack (some x) = record { number = 13; place = length x }
+turnedBack none = record { number = noMessage; place = 0 }
+turnedBack (some x) = record { number = messageListTooShort; place = length x }
 
 -- numbers 1 to 9; or how many texts are laid and how many bytes they take, and where not all are, what turns the next one back
 pub data Told : Type 0 where

@@ -1,7 +1,7 @@
 -- Where a character may start: by the byte that stands there, and, in well-formed text, by the widths of the characters before.
 -- Assumes nothing.
 use mathlib.Core.Path.{_≡_, refl, sym, ap, _∙_}
-use mathlib.Core.Bool.{Bool, true, false, not, _&&_, _||_}
+use mathlib.Core.Bool.{Bool, true, false, not, _&&_, _||_, or-false}
 use mathlib.Core.List.{List, [], _∷_, _++_, List·Memᴰ}
 use Prim.Native.Nat.{ℕ, zero, suc, _+_, _-_, _<_, _≤_}
 use native.Mathlib.Nat.{not-suc-le-zero}
@@ -120,12 +120,8 @@ boundary (more row (b ∷ a) {s} {l} m f r e) at =
         inside (b ∷ a ++ s) (suc k) (λ z. omega arith) (omega (arith, length-append a s))
         ∙ rw (List·getD-append a s 0 k (omega arith), row-further row b a k m f (omega arith)) (sym (ne-eqb (suc k) 0 (λ z. omega arith)))
 
-    either-false : (t : Bool) → t ≡ (t || false)
-    either-false true = refl
-    either-false false = refl
-
     go : Dec (at < suc (length a)) → ((k : ℕ) → starts s k ≡ between (chars s) k) → starts (b ∷ a ++ s) at ≡ (eqb at 0 || (leb (suc (length a)) at && between (chars s) (at - suc (length a))))
-    go (yes h) ih = inner at h ∙ rw (lt-leb (suc (length a)) at h) (either-false (eqb at 0))
+    go (yes h) ih = inner at h ∙ rw (lt-leb (suc (length a)) at h) (sym (or-false (eqb at 0)))
     go (no h) ih =
         let split : at ≡ suc (length a) + (at - suc (length a)) = omega arith in
         ap (starts (b ∷ a ++ s)) split

@@ -15,14 +15,15 @@ use borrow.Author.Tests.{leb-true}
 use Rattle.text.specs.Pick.{Range, within, pick}
 use Rattle.text.specs.Utf8.{begins, widthBy, table, widthOf, scan, firstIllFormed, fits, Made, nothing, more, FirstIllFormed}
 use Rattle.text.proofs.Induction.{by-length}
-use Rattle.text.proofs.Rows.{both-left, both-right, width-le, row-long, row-begins}
+use Rattle.text.proofs.Rows.{width-le, row-long, row-begins}
 use Rattle.text.proofs.Scan.{over, bad, ended}
+use Rattle.text.proofs.Bool.{and-left, and-right}
 
 pub fits-length : (row : List Range) (a : List ℕ) → fits row a ≡ true → length a ≡ length row
 fits-length [] [] e = refl
 fits-length [] (b ∷ a) e = absurd (false≢true e)
 fits-length (r ∷ rs) [] e = absurd (false≢true e)
-fits-length (r ∷ rs) (b ∷ a) e = ap suc (fits-length rs a (both-right (within (r .lo) (r .hi) b) (fits rs a) e))
+fits-length (r ∷ rs) (b ∷ a) e = ap suc (fits-length rs a (and-right (within (r .lo) (r .hi) b) (fits rs a) e))
 
 pub fits-begins : (row : List Range) (a t : List ℕ) → fits row a ≡ true → begins row (a ++ t) ≡ true
 unfolding begins
@@ -30,14 +31,14 @@ fits-begins [] [] t e = refl
 fits-begins [] (b ∷ a) t e = absurd (false≢true e)
 fits-begins (r ∷ rs) [] t e = absurd (false≢true e)
 fits-begins (r ∷ rs) (b ∷ a) t e =
-    rw (both-left (within (r .lo) (r .hi) b) (fits rs a) e) (fits-begins rs a t (both-right (within (r .lo) (r .hi) b) (fits rs a) e))
+    rw (and-left (within (r .lo) (r .hi) b) (fits rs a) e) (fits-begins rs a t (and-right (within (r .lo) (r .hi) b) (fits rs a) e))
 
 pub begins-fits : (row : List Range) (s : List ℕ) → begins row s ≡ true → fits row (take (length row) s) ≡ true
 unfolding begins
 begins-fits [] s e = refl
 begins-fits (r ∷ rs) [] e = absurd (false≢true e)
 begins-fits (r ∷ rs) (b ∷ s) e =
-    rw (both-left (within (r .lo) (r .hi) b) (begins rs s) e) (begins-fits rs s (both-right (within (r .lo) (r .hi) b) (begins rs s) e))
+    rw (and-left (within (r .lo) (r .hi) b) (begins rs s) e) (begins-fits rs s (and-right (within (r .lo) (r .hi) b) (begins rs s) e))
 
 -- the row that a width comes from
 pub record Found (rows : List (List Range)) (s : List ℕ) (w : ℕ) : Type 0 where

@@ -1,7 +1,7 @@
 -- A search among bytes is one among characters, where the test does not tell apart what lies above ASCII.
 -- Assumes nothing.
 use mathlib.Core.Path.{_≡_, refl, sym, ap, _∙_}
-use mathlib.Core.Bool.{Bool, true, false, not, false≢true}
+use mathlib.Core.Bool.{Bool, true, false, not, false≢true, and-false}
 use mathlib.Core.List.{List, [], _∷_, _++_, List·Memᴰ, List·Memᴰ·head, List·Memᴰ·tail}
 use Prim.Native.Nat.{ℕ, zero, suc, _+_, _-_, _*_, _%_, _<_, _≤_}
 use native.Mathlib.Nat.{not-suc-le-zero, le-of-suc-le-suc, zero-add}
@@ -16,24 +16,25 @@ use Rattle.text.specs.declared.Decoded.{Decoded}
 use Rattle.text.specs.Utf8.{begins, table, widthOf, fits, decoded, decode}
 use Rattle.text.specs.Number.{digit}
 use Rattle.text.specs.Characters.{chars, before, find, findByte}
-use Rattle.text.proofs.Rows.{both-false, both-left, both-right, within-lo, within-hi, row-short}
+use Rattle.text.proofs.Rows.{within-lo, within-hi, row-short}
 use Rattle.text.proofs.Scan.{ascii-one}
 use Rattle.text.proofs.Decode.{decode-1, decode-width}
 use Rattle.text.proofs.Chars.{chars-nil, chars-cons, tested-by, past, stops}
 use Rattle.text.proofs.Exact.{Found, found, begins-fits, fits-length}
 use Rattle.text.proofs.Shape.{row-further}
 use Rattle.text.proofs.Induction.{by-length}
+use Rattle.text.proofs.Bool.{and-left, and-right}
 
 -- the bytes that a row begins with
 pub byte-lo : (r : Range) (rs : List Range) (l : List ℕ) → begins (r ∷ rs) l ≡ true → r .lo ≤ getD l 0 0
 unfolding begins
 byte-lo r rs [] e = absurd (false≢true e)
-byte-lo r rs (b ∷ s) e = within-lo (r .lo) (r .hi) b (both-left (within (r .lo) (r .hi) b) (begins rs s) e)
+byte-lo r rs (b ∷ s) e = within-lo (r .lo) (r .hi) b (and-left (within (r .lo) (r .hi) b) (begins rs s) e)
 
 pub byte-hi : (r : Range) (rs : List Range) (l : List ℕ) → begins (r ∷ rs) l ≡ true → getD l 0 0 ≤ r .hi
 unfolding begins
 byte-hi r rs [] e = absurd (false≢true e)
-byte-hi r rs (b ∷ s) e = within-hi (r .lo) (r .hi) b (both-left (within (r .lo) (r .hi) b) (begins rs s) e)
+byte-hi r rs (b ∷ s) e = within-hi (r .lo) (r .hi) b (and-left (within (r .lo) (r .hi) b) (begins rs s) e)
 
 -- the first two bytes of a sequence that is a row
 two-bytes : (r q : Range) (rs row : List Range) (l : List ℕ) → row ≡ r ∷ q ∷ rs → begins row l ≡ true → (r .lo ≤ getD l 0 0) × (getD l 0 0 ≤ r .hi) × (q .lo ≤ getD l 1 0) × (getD l 1 0 ≤ q .hi)
@@ -41,7 +42,7 @@ unfolding begins
 two-bytes r q rs row [] e b = absurd (false≢true (rw e at b))
 two-bytes r q rs row (x ∷ s) e b =
     let f : begins (r ∷ q ∷ rs) (x ∷ s) ≡ true = rw e at b in
-    let g = both-right (within (r .lo) (r .hi) x) (begins (q ∷ rs) s) f in
+    let g = and-right (within (r .lo) (r .hi) x) (begins (q ∷ rs) s) f in
     (byte-lo r (q ∷ rs) (x ∷ s) f, byte-hi r (q ∷ rs) (x ∷ s) f, byte-lo q rs s g, byte-hi q rs s g)
 
 -- a sequence of more than one byte is a code point above ASCII, and so are its bytes
@@ -169,4 +170,4 @@ pub find-no-digit : (s : List ℕ) → findByte (λ (b : ℕ). not (digit b)) s 
 find-no-digit s = find-bytes (λ (b : ℕ). not (digit b)) (λ c d g k. ap not (high c g ∙ sym (high d k))) s
   where
     high : (c : ℕ) → 0x80 ≤ c → digit c ≡ false
-    high c g = rw (lt-leb c 0x39 (omega arith), both-false (leb 0x30 c))
+    high c g = rw (lt-leb c 0x39 (omega arith), and-false (leb 0x30 c))

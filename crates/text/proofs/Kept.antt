@@ -18,11 +18,12 @@ use Rattle.text.specs.Blank.{blank}
 use Rattle.text.specs.Characters.{charsPast, chars, before, find}
 use Rattle.text.specs.Words.{keptBy, kept}
 use Rattle.text.proofs.Induction.{by-length}
-use Rattle.text.proofs.Rows.{both-left, both-right, every, width-le}
+use Rattle.text.proofs.Rows.{every, width-le}
 use Rattle.text.proofs.Shape.{further, further-lo, further-rest, apart, shaped, table-shaped}
 use Rattle.text.proofs.Scan.{ascii-one}
 use Rattle.text.proofs.Decode.{decode-width}
 use Rattle.text.proofs.Chars.{chars-nil, chars-cons, chars-at}
+use Rattle.text.proofs.Bool.{and-left, and-right}
 
 -- what is kept of the whole text, where `end` is kept of its first i bytes, and k of the rest
 abbrev pub endOf : ℕ → ℕ → ℕ → ℕ
@@ -128,7 +129,7 @@ module _ (b : ℕ) (low : b < 0x80) where
   rows-snoc [] x s e = refl
   rows-snoc ([] ∷ rows) x s e = refl
   rows-snoc ((r ∷ rs) ∷ rows) x s e =
-      rw (begins-snoc rs s (both-right (apart r) (further rs) (both-left (shaped (r ∷ rs)) (every shaped rows) e)), rows-snoc rows x s (both-right (shaped (r ∷ rs)) (every shaped rows) e))
+      rw (begins-snoc rs s (and-right (apart r) (further rs) (and-left (shaped (r ∷ rs)) (every shaped rows) e)), rows-snoc rows x s (and-right (shaped (r ∷ rs)) (every shaped rows) e))
 
   width-snoc : (x : ℕ) (s : List ℕ) → widthOf (x ∷ s ++ b ∷ []) ≡ widthOf (x ∷ s)
   unfolding widthOf

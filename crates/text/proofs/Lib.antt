@@ -1,3 +1,4 @@
+pub mod Bool
 pub mod Induction
 pub mod Rows
 pub mod Ascii

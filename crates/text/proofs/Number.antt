@@ -1,7 +1,7 @@
 -- How the digits of a number are read, from one place to the next.
 -- Assumes nothing.
 use mathlib.Core.Path.{_≡_, refl, sym, ap, _∙_}
-use mathlib.Core.Bool.{Bool, true, false}
+use mathlib.Core.Bool.{Bool, true, false, and-false}
 use mathlib.Core.List.{List, [], _∷_}
 use mathlib.Core.Option.{Option, some, none}
 use Prim.Native.Nat.{ℕ, zero, suc, _+_, _-_, _*_, _<_, _≤_}
@@ -10,7 +10,7 @@ use native.Mathlib.Omega.{arith}
 use borrow.Author.Tests.{le-leb, lt-leb, eq-eqb, ne-eqb}
 use lib.ListN.{length, getD, drop, drop-of-length-le}
 use Rattle.text.specs.Number.{digit, allDigits, valueFrom, digitsFrom, digits, parsed}
-use Rattle.text.proofs.Rows.{both-false, place}
+use Rattle.text.proofs.Rows.{place}
 
 grows : (s : List ℕ) (n : ℕ) → n ≤ valueFrom n s
 unfolding valueFrom
@@ -22,7 +22,7 @@ pub too-large : (n : ℕ) (s : List ℕ) → 4294967295 < n → digitsFrom n s �
 unfolding digitsFrom
 too-large n s h =
     let large : 4294967295 < valueFrom n s = omega (arith, grows s n) in
-    rw (lt-leb (valueFrom n s) 4294967295 large, both-false (allDigits s))
+    rw (lt-leb (valueFrom n s) 4294967295 large, and-false (allDigits s))
 
 module _ (n : ℕ) (s : List ℕ) (i : ℕ) where
   -- past a digit, at a byte that is none, and at the end

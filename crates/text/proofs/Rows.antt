@@ -1,7 +1,7 @@
 -- What the rows of Table 3-7 say at a place of a list. The first ranges of the rows lie one above the other, so that a first byte picks its row.
 -- Assumes nothing.
 use mathlib.Core.Path.{_≡_, refl, sym, ap, _∙_}
-use mathlib.Core.Bool.{Bool, true, false, not, false≢true, _&&_}
+use mathlib.Core.Bool.{Bool, true, false, not, false≢true, _&&_, and-false, and-true}
 use mathlib.Core.List.{List, [], _∷_, List·Memᴰ, List·Memᴰ·head, List·Memᴰ·tail}
 use Prim.Native.Nat.{ℕ, zero, suc, _+_, _-_, _<_, _≤_, zero-le, suc-le-suc}
 use native.Mathlib.Nat.{not-suc-le-zero, le-of-suc-le-suc}
@@ -13,24 +13,13 @@ use lib.Seq.{drop-cons}
 use borrow.Author.Tests.{le-leb, lt-leb, ltb-true, leb-true}
 use Rattle.text.specs.Pick.{Range, span, within, pick}
 use Rattle.text.specs.Utf8.{begins, widthBy, table, widthOf}
-
-pub both-false : (a : Bool) → (a && false) ≡ false
-both-false true = refl
-both-false false = refl
-
-pub both-left : (a b : Bool) → (a && b) ≡ true → a ≡ true
-both-left true b e = refl
-both-left false b e = absurd (false≢true e)
-
-pub both-right : (a b : Bool) → (a && b) ≡ true → b ≡ true
-both-right true b e = e
-both-right false b e = absurd (false≢true e)
+use Rattle.text.proofs.Bool.{and-left, and-right}
 
 pub within-lo : (lo hi b : ℕ) → within lo hi b ≡ true → lo ≤ b
-within-lo lo hi b e = leb-true lo b (both-left (leb lo b) (leb b hi) e)
+within-lo lo hi b e = leb-true lo b (and-left (leb lo b) (leb b hi) e)
 
 pub within-hi : (lo hi b : ℕ) → within lo hi b ≡ true → b ≤ hi
-within-hi lo hi b e = leb-true b hi (both-right (leb lo b) (leb b hi) e)
+within-hi lo hi b e = leb-true b hi (and-right (leb lo b) (leb b hi) e)
 
 -- what stands at a place
 pub place : (s : List ℕ) (at : ℕ) → at < length s → drop at s ≡ getD s at 0 ∷ drop (at + 1) s
@@ -51,20 +40,16 @@ begins-yes lo hi rs s at h e = begins-at (span lo hi) rs s at h ∙ ap (λ (t : 
 pub begins-no : (lo hi : ℕ) (rs : List Range) (s : List ℕ) (at : ℕ) → at < length s → within lo hi (getD s at 0) ≡ false → begins (span lo hi ∷ rs) (drop at s) ≡ false
 begins-no lo hi rs s at h e = begins-at (span lo hi) rs s at h ∙ ap (λ (t : Bool). (t && begins rs (drop (at + 1) s))) e
 
-pub both-true : (a : Bool) → (a && true) ≡ a
-both-true true = refl
-both-true false = refl
-
 -- the last byte of a row
 pub begins-one : (lo hi : ℕ) (s : List ℕ) (at : ℕ) → at < length s → begins (span lo hi ∷ []) (drop at s) ≡ within lo hi (getD s at 0)
-begins-one lo hi s at h = begins-at (span lo hi) [] s at h ∙ rw (begins-nil (drop (at + 1) s)) (both-true (within lo hi (getD s at 0)))
+begins-one lo hi s at h = begins-at (span lo hi) [] s at h ∙ rw (begins-nil (drop (at + 1) s)) (and-true (within lo hi (getD s at 0)))
 
 -- a sequence is no longer than the list that it is in
 begun : (rs : List Range) (s : List ℕ) → begins rs s ≡ true → length rs ≤ length s
 unfolding begins
 begun [] s e = zero-le
 begun (r ∷ rs) [] e = absurd (false≢true e)
-begun (r ∷ rs) (b ∷ s) e = suc-le-suc (begun rs s (both-right (within (r .lo) (r .hi) b) (begins rs s) e))
+begun (r ∷ rs) (b ∷ s) e = suc-le-suc (begun rs s (and-right (within (r .lo) (r .hi) b) (begins rs s) e))
 
 pub begins-short : (rs : List Range) (s : List ℕ) (at : ℕ) → length s - at < length rs → begins rs (drop at s) ≡ false
 begins-short rs s at h = go (begins rs (drop at s)) refl
@@ -93,8 +78,8 @@ every p (row ∷ rows) = p row && every p rows
 
 pub every-in : (p : List Range → Bool) (rows : List (List Range)) (row : List Range) → every p rows ≡ true → List·Memᴰ row rows → p row ≡ true
 unfolding every
-every-in p (q ∷ rows) row e (List·Memᴰ·head h) = rw h (both-left (p q) (every p rows) e)
-every-in p (q ∷ rows) row e (List·Memᴰ·tail m) = every-in p rows row (both-right (p q) (every p rows) e) m
+every-in p (q ∷ rows) row e (List·Memᴰ·head h) = rw h (and-left (p q) (every p rows) e)
+every-in p (q ∷ rows) row e (List·Memᴰ·tail m) = every-in p rows row (and-right (p q) (every p rows) e) m
 
 -- a row has from 1 to 4 bytes
 sized : List Range → Bool
@@ -129,7 +114,7 @@ module _ (r : Range) (rs : List Range) (rows : List (List Range)) (b : ℕ) (s :
 
   over : r .hi < b → widthBy ((r ∷ rs) ∷ rows) (b ∷ s) ≡ widthBy rows (b ∷ s)
   unfolding widthBy begins
-  over h = rw (lt-leb b (r .hi) h, both-false (leb (r .lo) b))
+  over h = rw (lt-leb b (r .hi) h, and-false (leb (r .lo) b))
 
   fits : r .lo ≤ b → b ≤ r .hi → widthBy rows (b ∷ s) ≡ 0 → widthBy ((r ∷ rs) ∷ rows) (b ∷ s) ≡ pick (begins rs s) (suc (length rs)) 0
   unfolding widthBy begins
@@ -156,8 +141,8 @@ unfolding above widthBy
 under-all h [] b s e l = refl
 under-all h ([] ∷ rows) b s e l = absurd (false≢true e)
 under-all h ((r ∷ rs) ∷ rows) b s e l =
-    let low : h < r .lo = ltb-true h (r .lo) (both-left (ltb h (r .lo)) (above h rows) e) in
-    under r rs rows b s (omega arith) ∙ under-all h rows b s (both-right (ltb h (r .lo)) (above h rows) e) l
+    let low : h < r .lo = ltb-true h (r .lo) (and-left (ltb h (r .lo)) (above h rows) e) in
+    under r rs rows b s (omega arith) ∙ under-all h rows b s (and-right (ltb h (r .lo)) (above h rows) e) l
 
 -- each row has a first range, and it ends at the number or below it
 unfoldable beneath : ℕ → List (List Range) → Bool
@@ -170,8 +155,8 @@ unfolding beneath widthBy
 over-all h [] b s e l = refl
 over-all h ([] ∷ rows) b s e l = absurd (false≢true e)
 over-all h ((r ∷ rs) ∷ rows) b s e l =
-    let high : r .hi ≤ h = leb-true (r .hi) h (both-left (leb (r .hi) h) (beneath h rows) e) in
-    over r rs rows b s (omega arith) ∙ over-all h rows b s (both-right (leb (r .hi) h) (beneath h rows) e) l
+    let high : r .hi ≤ h = leb-true (r .hi) h (and-left (leb (r .hi) h) (beneath h rows) e) in
+    over r rs rows b s (omega arith) ∙ over-all h rows b s (and-right (leb (r .hi) h) (beneath h rows) e) l
 
 -- a row among those above a number starts above it
 above-in : (h : ℕ) (rows : List (List Range)) (r : Range) (rs : List Range) → above h rows ≡ true → List·Memᴰ (r ∷ rs) rows → h < r .lo
@@ -179,8 +164,8 @@ unfolding above
 above-in h ([] ∷ rows) r rs e m = absurd (false≢true e)
 above-in h ((q ∷ qs) ∷ rows) r rs e (List·Memᴰ·head p) =
     let same : q ≡ r = cc in
-    rw (← same) (ltb-true h (q .lo) (both-left (ltb h (q .lo)) (above h rows) e))
-above-in h ((q ∷ qs) ∷ rows) r rs e (List·Memᴰ·tail m) = above-in h rows r rs (both-right (ltb h (q .lo)) (above h rows) e) m
+    rw (← same) (ltb-true h (q .lo) (and-left (ltb h (q .lo)) (above h rows) e))
+above-in h ((q ∷ qs) ∷ rows) r rs e (List·Memᴰ·tail m) = above-in h rows r rs (and-right (ltb h (q .lo)) (above h rows) e) m
 
 row-among : (rows : List (List Range)) (r : Range) (rs : List Range) (b : ℕ) (s : List ℕ) → rising rows ≡ true → List·Memᴰ (r ∷ rs) rows → r .lo ≤ b → b ≤ r .hi → widthBy rows (b ∷ s) ≡ pick (begins rs s) (suc (length rs)) 0
 unfolding rising
@@ -188,11 +173,11 @@ row-among ([] ∷ rows) r rs b s e m g h = absurd (false≢true e)
 row-among ((q ∷ qs) ∷ rows) r rs b s e (List·Memᴰ·head p) g h =
     let same : q ≡ r = cc in
     let rest : qs ≡ rs = cc in
-    let high : above (r .hi) rows ≡ true = rw (← same) (both-left (above (q .hi) rows) (rising rows) e) in
+    let high : above (r .hi) rows ≡ true = rw (← same) (and-left (above (q .hi) rows) (rising rows) e) in
     rw (same, rest) (fits r rs rows b s g h (under-all (r .hi) rows b s high h))
 row-among ((q ∷ qs) ∷ rows) r rs b s e (List·Memᴰ·tail m) g h =
-    let high : q .hi < r .lo = above-in (q .hi) rows r rs (both-left (above (q .hi) rows) (rising rows) e) m in
-    over q qs rows b s (omega arith) ∙ row-among rows r rs b s (both-right (above (q .hi) rows) (rising rows) e) m g h
+    let high : q .hi < r .lo = above-in (q .hi) rows r rs (and-left (above (q .hi) rows) (rising rows) e) m in
+    over q qs rows b s (omega arith) ∙ row-among rows r rs b s (and-right (above (q .hi) rows) (rising rows) e) m g h
 
 -- a first byte in the first range of a row
 pub row-in : (r : Range) (rs : List Range) (b : ℕ) (s : List ℕ) → List·Memᴰ (r ∷ rs) table → r .lo ≤ b → b ≤ r .hi → widthOf (b ∷ s) ≡ pick (begins rs s) (suc (length rs)) 0
@@ -205,8 +190,8 @@ unfolding begins
 row-begins [] l m e = absurd (not-suc-le-zero (row-long [] m))
 row-begins (r ∷ rs) [] m e = absurd (false≢true e)
 row-begins (r ∷ rs) (b ∷ s) m e =
-    let here : within (r .lo) (r .hi) b ≡ true = both-left (within (r .lo) (r .hi) b) (begins rs s) e in
-    row-in r rs b s m (within-lo (r .lo) (r .hi) b here) (within-hi (r .lo) (r .hi) b here) ∙ rw (both-right (within (r .lo) (r .hi) b) (begins rs s) e)
+    let here : within (r .lo) (r .hi) b ≡ true = and-left (within (r .lo) (r .hi) b) (begins rs s) e in
+    row-in r rs b s m (within-lo (r .lo) (r .hi) b here) (within-hi (r .lo) (r .hi) b here) ∙ rw (and-right (within (r .lo) (r .hi) b) (begins rs s) e)
 
 row-there : (rows : List (List Range)) (k : ℕ) → k < length rows → List·Memᴰ (getD rows k []) rows
 row-there [] k h = absurd (not-suc-le-zero h)

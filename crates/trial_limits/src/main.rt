@@ -7,19 +7,6 @@ ghost use mathlib.Core.Path.{_≡_};
 ghost use Prim.Native.Nat.{_+_, _*_, _≤_};
 ghost use lib.ListN.{length};
 
-// Kinds of nodes.
-const ROOT: u8 = 0;
-
-const OPEN: u8 = 1;
-
-const CHAPTER: u8 = 3;
-
-const VERSE: u8 = 4;
-
-const TEXT: u8 = 5;
-
-const BLOCK_END: u8 = 7;
-
 // Places in the table of `main`.
 const ID: u16 = 0;
 
@@ -68,10 +55,10 @@ fn put_empty(nodes: &mut [u8], i: usize, kind: u8, marker: u16, link: usize)
 fn lay_flat(nodes: &mut [u8], n: usize)
     requires { ⌜ n ≤ 65536 ⌝ }
 {
-    put_empty(nodes, 0, ROOT, 0, n);
+    put_empty(nodes, 0, tape::ROOT, 0, n);
     let mut i: usize = 1;
     while i < n {
-        put_empty(nodes, i, VERSE, V, 0);
+        put_empty(nodes, i, tape::VERSE, V, 0);
         i += 1;
     }
 }
@@ -80,46 +67,46 @@ fn lay_flat(nodes: &mut [u8], n: usize)
 fn lay_nested(nodes: &mut [u8], d: usize)
     requires { ⌜ d ≤ 65 ⌝ }
 {
-    put_empty(nodes, 0, ROOT, 0, 2 * d + 2);
-    put_empty(nodes, d + 1, VERSE, V, 0);
+    put_empty(nodes, 0, tape::ROOT, 0, 2 * d + 2);
+    put_empty(nodes, d + 1, tape::VERSE, V, 0);
     let mut i: usize = 1;
     while i <= d {
-        put_empty(nodes, i, OPEN, P, 2 * d + 2 - i);
-        put_empty(nodes, 2 * d + 2 - i, BLOCK_END, P, 0);
+        put_empty(nodes, i, tape::MARKER_OPEN, P, 2 * d + 2 - i);
+        put_empty(nodes, 2 * d + 2 - i, tape::BLOCK_END, P, 0);
         i += 1;
     }
 }
 
 // A paragraph by entry 511 of the table and one by entry 512, which only a table of more than 512 would have: 5 nodes.
 fn lay_last(nodes: &mut [u8]) {
-    put_empty(nodes, 0, ROOT, 0, 5);
-    put_empty(nodes, 1, OPEN, 511, 2);
-    put_empty(nodes, 2, BLOCK_END, 511, 0);
-    put_empty(nodes, 3, OPEN, 512, 4);
-    put_empty(nodes, 4, BLOCK_END, 512, 0);
+    put_empty(nodes, 0, tape::ROOT, 0, 5);
+    put_empty(nodes, 1, tape::MARKER_OPEN, 511, 2);
+    put_empty(nodes, 2, tape::BLOCK_END, 511, 0);
+    put_empty(nodes, 3, tape::MARKER_OPEN, 512, 4);
+    put_empty(nodes, 4, tape::BLOCK_END, 512, 0);
 }
 
 // The nodes of the source of `labels`: 11.
 fn lay_labels(nodes: &mut [u8]) {
-    put_node(nodes, 0, ROOT, 0, 0, 63, 11);
+    put_node(nodes, 0, tape::ROOT, 0, 0, 63, 11);
     lay_book(nodes);
     lay_verses(nodes);
 }
 
 fn lay_book(nodes: &mut [u8]) {
-    put_node(nodes, 1, OPEN, ID, 0, 3, 3);
-    put_node(nodes, 2, TEXT, 0, 3, 5, 0);
-    put_node(nodes, 3, BLOCK_END, ID, 8, 0, 0);
-    put_node(nodes, 4, CHAPTER, C, 8, 5, 1);
+    put_node(nodes, 1, tape::MARKER_OPEN, ID, 0, 3, 3);
+    put_node(nodes, 2, tape::TEXT, 0, 3, 5, 0);
+    put_node(nodes, 3, tape::BLOCK_END, ID, 8, 0, 0);
+    put_node(nodes, 4, tape::CHAPTER, C, 8, 5, 1);
 }
 
 fn lay_verses(nodes: &mut [u8]) {
-    put_node(nodes, 5, OPEN, P, 13, 2, 10);
-    put_node(nodes, 6, VERSE, V, 16, 14, 4294967294);
-    put_node(nodes, 7, VERSE, V, 30, 14, 4294967295);
-    put_node(nodes, 8, VERSE, V, 44, 14, 0);
-    put_node(nodes, 9, VERSE, V, 58, 5, 1);
-    put_node(nodes, 10, BLOCK_END, P, 63, 0, 0);
+    put_node(nodes, 5, tape::MARKER_OPEN, P, 13, 2, 10);
+    put_node(nodes, 6, tape::VERSE, V, 16, 14, 4294967294);
+    put_node(nodes, 7, tape::VERSE, V, 30, 14, 4294967295);
+    put_node(nodes, 8, tape::VERSE, V, 44, 14, 0);
+    put_node(nodes, 9, tape::VERSE, V, 58, 5, 1);
+    put_node(nodes, 10, tape::BLOCK_END, P, 63, 0, 0);
 }
 
 // One entry after another, over the whole list.

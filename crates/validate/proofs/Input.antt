@@ -10,7 +10,8 @@ use native.Mathlib.Omega.{arith}
 use lib.Dec.{ltb}
 use lib.ListN.{length}
 use borrow.Author.Tests.{lt-ltb, le-ltb}
-use Rattle.tape.specs.Reading.{Refusal, refuse, onlyIf, orElse, tapeRefusal}
+use Rattle.refusals.specs.Refusal.{Refusal, refuse, onlyIf, orElse, badTableLayout, sourceTooLong, sourceNotUtf8, workingListTooShort}
+use Rattle.tape.specs.Reading.{tapeRefusal}
 use Rattle.tape.specs.Forest.{Accepted}
 use Rattle.tape.proofs.OneNumber.{accepted}
 use Rattle.findings.specs.Written.{total}
@@ -33,10 +34,10 @@ use Rattle.table.specs.declared.Layout.the-variants as layout
 
 -- number 10
 module _ (n seen opens : ℕ) where
-  pub short-seen : seen < n → refuse 10 n ≡ listsRefusal n seen opens
+  pub short-seen : seen < n → refuse workingListTooShort n ≡ listsRefusal n seen opens
   short-seen h = rw (lt-ltb seen n h)
 
-  pub short-opens : n ≤ seen → opens < n → refuse 10 n ≡ listsRefusal n seen opens
+  pub short-opens : n ≤ seen → opens < n → refuse workingListTooShort n ≡ listsRefusal n seen opens
   short-opens h k = rw (le-ltb seen n h, lt-ltb opens n k)
 
   pub long-lists : n ≤ seen → n ≤ opens → none ≡ listsRefusal n seen opens
@@ -74,22 +75,22 @@ first-some x y a b e = rw e
 
 -- numbers 2 and 3
 module _ (s : List ℕ) where
-  pub source-long : 1048576 < length s → refuse 2 0 ≡ sourceRefusal s
+  pub source-long : 1048576 < length s → refuse sourceTooLong 0 ≡ sourceRefusal s
   source-long h = rw (lt-ltb 1048576 (length s) h)
 
   module _ (short : length s ≤ 1048576) (u : Utf8) (read : placeOf u ≡ firstIllFormed s) where
     pub source-good : u ≡ WellFormed → none ≡ sourceRefusal s
     source-good e = let z : firstIllFormed s ≡ none = sym read ∙ ap placeOf e in rw (le-ltb 1048576 (length s) short, z)
 
-    pub source-ill : (at : ℕ) → u ≡ IllFormed at → refuse 3 at ≡ sourceRefusal s
+    pub source-ill : (at : ℕ) → u ≡ IllFormed at → refuse sourceNotUtf8 at ≡ sourceRefusal s
     source-ill at e = let z : firstIllFormed s ≡ some at = sym read ∙ ap placeOf e in rw (le-ltb 1048576 (length s) short, z)
 
 -- number 1
 module _ (table : List ℕ) (y : Option Refusal) (r : Layout) (read : layoutPlace r ≡ badTable table) where
-  pub table-bad : (at : ℕ) → r ≡ layout.Bad at → refuse 1 at ≡ orElse (atPlace 1 (badTable table)) y
+  pub table-bad : (at : ℕ) → r ≡ layout.Bad at → refuse badTableLayout at ≡ orElse (atPlace badTableLayout (badTable table)) y
   table-bad at e = let z : badTable table ≡ some at = sym read ∙ ap layoutPlace e in rw z
 
-  pub table-good : (n : ℕ) → r ≡ layout.Good n → atPlace 1 (badTable table) ≡ none
+  pub table-good : (n : ℕ) → r ≡ layout.Good n → atPlace badTableLayout (badTable table) ≡ none
   table-good n e = let z : badTable table ≡ none = sym read ∙ ap layoutPlace e in rw z
 
 pub table-index : (table words : List ℕ) (r : Layout) (n : ℕ) → r ≡ layout.Good n → leaves table words r → Indexed table words n

@@ -10,10 +10,10 @@ use mathlib.Core.Logic.{_↔_, _⊎_, inl, inr}
 use mathlib.Core.Option.{Option, some, none}
 use lib.ListN.{length, take, drop, take-append-drop}
 use lib.Seq.{take-at, take-append-add, length-take-le}
-use Rattle.tape.specs.Reading.{Refusal, orElse}
+use Rattle.refusals.specs.Refusal.{Refusal, orElse}
 use Rattle.tape.specs.Forest.{top}
 use Rattle.tape.specs.Alike.{BeginAlike}
-use Rattle.tape.proofs.OneNumber.{which}
+use Rattle.refusals.proofs.First.{which}
 use Rattle.findings.specs.Finding.{Finding}
 use Rattle.findings.specs.Written.{room, overlay, encode}
 use Rattle.findings.proofs.Overlay.{overlay-is, overlay-cut, encode-append, encode-length}

@@ -12,8 +12,9 @@ use lib.Seq.{length-take-le}
 use borrow.Author.Tests.{ltb-false}
 use Rattle.tape.specs.Nodes.{count}
 use Rattle.tape.specs.Forest.{Accepted, top}
-use Rattle.tape.specs.Reading.{Refusal, refuse, onlyIf, orElse}
-use Rattle.tape.proofs.OneNumber.{accepted, neither, either-false, only-not}
+use Rattle.refusals.specs.Refusal.{Refusal, refuse, onlyIf, orElse}
+use Rattle.refusals.proofs.First.{neither, only-not}
+use Rattle.tape.proofs.OneNumber.{accepted}
 use Rattle.table.specs.Entries.{Indexed}
 use Rattle.findings.specs.Written.{overlay}
 use Rattle.definition.specs.Document.{findings}
@@ -23,6 +24,7 @@ use Rattle.validate.specs.declared.Answer.{Answer}
 use Rattle.validate.specs.declared.InputCheck.{InputCheck}
 use Rattle.validate.specs.declared.InputCheck.the-variants as input
 use Rattle.validate.specs.Entry.{answerOf, checkRefusal, Passed, fromTable, fromTape, Fit, Finished, lent}
+use Rattle.text.proofs.Bool.{or-parts}
 
 pub or-assoc : (a b c : Option Refusal) → orElse (orElse a b) c ≡ orElse a (orElse b c)
 or-assoc none b c = refl
@@ -65,10 +67,10 @@ module _ (table s t seen : List ℕ) (opens : List OpenStart) (l : List ℕ) whe
     long = only-not (shortList it) 10 (count t) (neither (of9 it) (of10 it) (neither (ofTape it) (orElse (of9 it) (of10 it)) fromTape-none .1) .1)
 
     pub seen-long : count t ≤ length seen
-    seen-long = ltb-false (length seen) (count t) (either-false (ltb (length seen) (count t)) (ltb (length opens) (count t)) long .0)
+    seen-long = ltb-false (length seen) (count t) (or-parts (ltb (length seen) (count t)) (ltb (length opens) (count t)) long .0)
 
     pub opens-long : count t ≤ length opens
-    opens-long = ltb-false (length opens) (count t) (either-false (ltb (length seen) (count t)) (ltb (length opens) (count t)) long .1)
+    opens-long = ltb-false (length opens) (count t) (or-parts (ltb (length seen) (count t)) (ltb (length opens) (count t)) long .1)
 
     pub fits : (words : List ℕ) (n : ℕ) → Indexed table words n → Fit table words n s t (take (count t) seen) (take (count t) opens)
     fits words n indexed = record { indexed = indexed; accepted = ok; short = short; seen-room = length-take-le (count t) seen seen-long; open-room = length-take-le (count t) opens opens-long }

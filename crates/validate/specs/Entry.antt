@@ -9,7 +9,8 @@ use lib.ListN.{length}
 use Rattle.tape.specs.Nodes.{count, linkAt}
 use Rattle.tape.specs.Forest.{top, forest, Accepted}
 use Rattle.text.specs.Utf8.{firstIllFormed}
-use Rattle.tape.specs.Reading.{Refusal, refuse, onlyIf, orElse, tapeRefusal}
+use Rattle.refusals.specs.Refusal.{Refusal, refuse, onlyIf, orElse, badTableLayout, sourceTooLong, sourceNotUtf8, workingListTooShort}
+use Rattle.tape.specs.Reading.{tapeRefusal}
 use Rattle.table.specs.Lines.{badTable}
 use Rattle.numbers.specs.Label.{labelRefusal}
 use Rattle.numbers.specs.declared.Suffix.the-variants as suffix
@@ -66,10 +67,10 @@ Opened entries (input.Refused number place) = Unit {0}
 
 -- the numbers from each on, with the lengths of the working lists
 abbrev pub sourceRefusal : List ℕ → Option Refusal
-sourceRefusal s = orElse (onlyIf (ltb 1048576 (length s)) (refuse 2 0)) (atPlace 3 (firstIllFormed s))
+sourceRefusal s = orElse (onlyIf (ltb 1048576 (length s)) (refuse sourceTooLong 0)) (atPlace sourceNotUtf8 (firstIllFormed s))
 
 abbrev pub listsRefusal : ℕ → ℕ → ℕ → Option Refusal
-listsRefusal n seen opens = onlyIf (ltb seen n || ltb opens n) (refuse 10 n)
+listsRefusal n seen opens = onlyIf (ltb seen n || ltb opens n) (refuse workingListTooShort n)
 
 abbrev pub fromLabels : List ℕ → List ℕ → List ℕ → ℕ → ℕ → Option Refusal
 fromLabels table s t seen opens = orElse (labelRefusal table s t) (listsRefusal (count t) seen opens)
@@ -81,7 +82,7 @@ abbrev pub fromSource : List ℕ → List ℕ → List ℕ → ℕ → ℕ → O
 fromSource table s t seen opens = orElse (sourceRefusal s) (fromTape table s t seen opens)
 
 abbrev pub fromTable : List ℕ → List ℕ → List ℕ → ℕ → ℕ → Option Refusal
-fromTable table s t seen opens = orElse (atPlace 1 (badTable table)) (fromSource table s t seen opens)
+fromTable table s t seen opens = orElse (atPlace badTableLayout (badTable table)) (fromSource table s t seen opens)
 
 abbrev pub none-yet : Counts
 none-yet = record { errors = 0; warnings = 0; infos = 0 }

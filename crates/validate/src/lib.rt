@@ -132,11 +132,11 @@ fn check_source(source: &[u8]) -> InputCheck
     ensures { λ r. ⌜ checkRefusal r ≡ sourceRefusal (now (source .entry)) ⌝ }
 {
     if 1048576 < source.len() {
-        return InputCheck::Refused(2, 0);
+        return InputCheck::Refused(refusals::SOURCE_TOO_LONG, 0);
     }
     match text::utf8_check(source) {
         Utf8::WellFormed => InputCheck::Accepted(0),
-        Utf8::IllFormed(at) => InputCheck::Refused(3, at as u64),
+        Utf8::IllFormed(at) => InputCheck::Refused(refusals::SOURCE_NOT_UTF8, at as u64),
     }
 }
 
@@ -146,11 +146,11 @@ fn check_tape(source: &[u8], tape: &[u8]) -> InputCheck
 {
     match tape::tape_check(source, tape) {
         TapeCheck::Good => InputCheck::Accepted(0),
-        TapeCheck::Length => InputCheck::Refused(4, 0),
-        TapeCheck::Kind(i) => InputCheck::Refused(5, i as u64),
-        TapeCheck::Span(i) => InputCheck::Refused(6, i as u64),
-        TapeCheck::Links(i) => InputCheck::Refused(7, i as u64),
-        TapeCheck::Deep(i) => InputCheck::Refused(8, i as u64),
+        TapeCheck::Length => InputCheck::Refused(refusals::BAD_TAPE_LENGTH, 0),
+        TapeCheck::Kind(i) => InputCheck::Refused(refusals::BAD_NODE_KIND, i as u64),
+        TapeCheck::Span(i) => InputCheck::Refused(refusals::BAD_NODE_SPAN, i as u64),
+        TapeCheck::Links(i) => InputCheck::Refused(refusals::BROKEN_LINKS, i as u64),
+        TapeCheck::Deep(i) => InputCheck::Refused(refusals::TOO_DEEP, i as u64),
     }
 }
 
@@ -159,10 +159,10 @@ fn check_lists(entries: usize, n: usize, seen: usize, opens: usize) -> InputChec
     ensures { λ r. ⌜ (checkRefusal r ≡ listsRefusal n seen opens) × Opened entries r ⌝ }
 {
     if seen < n {
-        return InputCheck::Refused(10, n as u64);
+        return InputCheck::Refused(refusals::WORKING_LIST_TOO_SHORT, n as u64);
     }
     if opens < n {
-        return InputCheck::Refused(10, n as u64);
+        return InputCheck::Refused(refusals::WORKING_LIST_TOO_SHORT, n as u64);
     }
     InputCheck::Accepted(entries)
 }
@@ -182,7 +182,7 @@ fn check_from_labels(
 {
     match numbers::label_check(table, words, entries, source, tape) {
         LabelCheck::Good => check_lists(entries, tape.len() / 16, seen, opens),
-        LabelCheck::Split(i) => InputCheck::Refused(9, i as u64),
+        LabelCheck::Split(i) => InputCheck::Refused(refusals::SPLIT_LABEL, i as u64),
     }
 }
 
@@ -254,7 +254,7 @@ pub fn check_input(
     ensures index { λ r. ⌜ Passed (now (table .entry)) (now (words .exit)) r ⌝ }
 {
     match table::index(table, words) {
-        Layout::Bad(at) => InputCheck::Refused(1, at as u64),
+        Layout::Bad(at) => InputCheck::Refused(refusals::BAD_TABLE_LAYOUT, at as u64),
         Layout::Good(entries) => check_from_source(
             table,
             words,

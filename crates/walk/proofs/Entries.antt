@@ -7,7 +7,7 @@ use mathlib.Core.List.{List}
 use mathlib.Core.Option.{Option, some, none, Option·none-ne-some}
 use lib.ListN.{length}
 use borrow.Author.Tests.{ne-eqb}
-use Rattle.tape.specs.Nodes.{nodeAt, kindAt, markerAt, isOpen}
+use Rattle.tape.specs.Nodes.{nodeAt, kindAt, markerAt, isOpen, markerOpenKind}
 use Rattle.table.specs.Entries.{Entry, Indexed, entries, nth, infoOf, entryOfInfo}
 use Rattle.table.specs.declared.Info.{Info}
 use Rattle.table.specs.declared.MarkerInfo.{MarkerInfo}
@@ -18,7 +18,7 @@ use Rattle.walk.specs.Walking.{onlyOpen}
 -- what is read of a marker and of a leaf
 module _ (table t : List ℕ) (i k : ℕ) (is : k ≡ kindAt t i) where
   pub read-open : (m : Info) → k ≡ 1 → infoOf m ≡ infoAt table t i → infoOf m ≡ onlyOpen (isOpen (kindAt t i)) (infoAt table t i)
-  read-open m h read = let one : kindAt t i ≡ 1 = sym is ∙ h in rw one read
+  read-open m h read = let one : kindAt t i ≡ markerOpenKind = sym is ∙ h in rw one read
 
   pub read-leaf : (k ≡ 1 → ⊥) → none ≡ onlyOpen (isOpen (kindAt t i)) (infoAt table t i)
   read-leaf h = let other : isOpen (kindAt t i) ≡ false = ap isOpen (sym is) ∙ ne-eqb k 1 h in rw other

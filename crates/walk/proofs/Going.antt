@@ -9,10 +9,9 @@ use mathlib.Core.Option.{Option, some, none, Option·none-ne-some}
 use lib.Dec.{eqb}
 use lib.ListN.{length}
 use borrow.Author.Tests.{ne-eqb, eqb-true}
-use Rattle.tape.specs.Nodes.{Node, count, nodeAt, kindAt, linkAt, isOpen}
+use Rattle.tape.specs.Nodes.{Node, count, nodeAt, kindAt, linkAt, isOpen, markerOpenKind, chapterKind, verseKind}
 use Rattle.tape.specs.Forest.{Forest, end, forest, Nested, Accepted}
 use Rattle.tape.proofs.Nest.{nested-le, forest-done}
-use Rattle.tape.proofs.OneNumber.{either-false}
 use Rattle.table.specs.Entries.{Entry, Indexed, infoOf, entryOfInfo}
 use Rattle.table.specs.declared.MarkerInfo.{MarkerInfo}
 use Rattle.table.specs.declared.Info.{Info}
@@ -40,6 +39,7 @@ use Rattle.state.specs.declared.Record.{Record}
 use Rattle.walk.specs.Walking.{onlyOpen, Leafy, Unchanged, Passable, PassedBy, Anchored, walkAt, Ready, Went, Walked, toldAt, below, visitFindings, visitState, Visited, Visitable, anchorAfter, LeafPassed, numbersAfter}
 use Rattle.walk.proofs.Entries.{entry-read, entry-inside}
 use Rattle.walk.proofs.Steps.{next-later, anchored-past, starts-past, leaf-anchored, leaf-starts, walk-leaf, walk-skip, walk-open}
+use Rattle.text.proofs.Bool.{or-parts}
 
 -- the run from i on, of the run that began at `from` with the definition's walk w₀, the list l₀ and the record r₀
 pub record Going (table words : List ℕ) (entries : ℕ) (s t : List ℕ) (depth : ℕ) (o : state.Around) (from to : ℕ) (w₀ : def.Walked) (l₀ : List ℕ) (r₀ : Record) (seen : List ℕ) (opens : List OpenStart) (l : List ℕ) (r : Record) (numbers : Attached) (i : ℕ) : Type 0 where
@@ -242,7 +242,7 @@ module _ {table words : List ℕ} {entries : ℕ} {s t : List ℕ} {depth : ℕ}
         go k e = ne-eqb k 1 (λ z. let y : numbered 1 ≡ true = rw z at e in absurd (false≢true y))
 
     no-number : isOpen (kindAt t i) ≡ true → numbered (kindAt t i) ≡ false
-    no-number h = let one : kindAt t i ≡ 1 = eqb-true (kindAt t i) 1 h in rw one
+    no-number h = let one : kindAt t i ≡ markerOpenKind = eqb-true (kindAt t i) markerOpenKind h in rw one
 
     pub passable : Passable table words entries s t o i after to seen r
     passable =
@@ -264,7 +264,7 @@ module _ {table words : List ℕ} {entries : ℕ} {s t : List ℕ} {depth : ℕ}
 
     nothing-told : numbered (kindAt t i) ≡ false → leafTold table o (stateOf s t seen opens r) (nodeAt s t i) ≡ record { findings = []; state = stateOf s t seen opens r }
     unfolding leafTold given
-    nothing-told h = let k = either-false (eqb (kindAt t i) 3) (eqb (kindAt t i) 4) h in rw (k .0, k .1)
+    nothing-told h = let k = or-parts (eqb (kindAt t i) chapterKind) (eqb (kindAt t i) verseKind) h in rw (k .0, k .1)
 
     going-other : numbered (kindAt t i) ≡ false → isOpen (kindAt t i) ≡ false → Going table words entries s t depth o from to w₀ l₀ r₀ seen opens l r numbers after
     going-other h e =

@@ -8,10 +8,8 @@ use mathlib.Core.List.{List, []}
 use mathlib.Core.Option.{Option, some, none}
 use lib.Dec.{eqb}
 use borrow.Author.Tests.{eq-eqb, ne-eqb, eqb-true}
-use Rattle.text.proofs.Rows.{both-left, both-right}
-use Rattle.tape.specs.Nodes.{Node, nodeAt, kindAt}
+use Rattle.tape.specs.Nodes.{Node, nodeAt, kindAt, markerOpenKind, chapterKind, verseKind, textKind}
 use Rattle.tape.specs.Forest.{Forest, end, leaf, node, forest}
-use Rattle.tape.proofs.OneNumber.{either-false}
 use Rattle.cursor.specs.Inner.{Run}
 use Rattle.cursor.specs.Steps.{pastNode}
 use Rattle.cursor.proofs.Runs.{forest-at-leaf, forest-at-open}
@@ -28,25 +26,26 @@ use Rattle.state.specs.declared.Record.{Record}
 use Rattle.marker_checks.specs.Skip.{onlyTexts}
 use Rattle.walk.specs.Walking.{nowhere, walkAt, Ready, Walked, canSkipChildren}
 use Rattle.text.specs.Pick.{pick}
+use Rattle.text.proofs.Bool.{and-left, and-right, or-parts}
 
 -- the test, a node at a time
 module _ (s t : List ℕ) (i to : ℕ) (run : Run s t i to) (more : i < to) where
-  pub skipped-marker : kindAt t i ≡ 1 → false ≡ canSkipChildren (forest s t i to)
+  pub skipped-marker : kindAt t i ≡ markerOpenKind → false ≡ canSkipChildren (forest s t i to)
   unfolding canSkipChildren
-  skipped-marker e = sym (ap canSkipChildren (forest-at-open s t i to run more (eq-eqb (kindAt t i) 1 e)))
+  skipped-marker e = sym (ap canSkipChildren (forest-at-open s t i to run more (eq-eqb (kindAt t i) markerOpenKind e)))
 
-  at-leaf : (kindAt t i ≡ 1 → ⊥) → canSkipChildren (forest s t i to) ≡ pick (numbered (kindAt t i)) false (canSkipChildren (forest s t (pastNode t i) to))
+  at-leaf : (kindAt t i ≡ markerOpenKind → ⊥) → canSkipChildren (forest s t i to) ≡ pick (numbered (kindAt t i)) false (canSkipChildren (forest s t (pastNode t i) to))
   unfolding canSkipChildren
-  at-leaf n = ap canSkipChildren (forest-at-leaf s t i to run more (ne-eqb (kindAt t i) 1 n))
+  at-leaf n = ap canSkipChildren (forest-at-leaf s t i to run more (ne-eqb (kindAt t i) markerOpenKind n))
 
-  pub skipped-chapter : kindAt t i ≡ 3 → false ≡ canSkipChildren (forest s t i to)
-  skipped-chapter e = sym (at-leaf (λ z. omega arith) ∙ rw (eq-eqb (kindAt t i) 3 e))
+  pub skipped-chapter : kindAt t i ≡ chapterKind → false ≡ canSkipChildren (forest s t i to)
+  skipped-chapter e = sym (at-leaf (λ z. omega arith) ∙ rw (eq-eqb (kindAt t i) chapterKind e))
 
-  pub skipped-verse : kindAt t i ≡ 4 → false ≡ canSkipChildren (forest s t i to)
-  skipped-verse e = sym (at-leaf (λ z. omega arith) ∙ rw (ne-eqb (kindAt t i) 3 (omega arith), eq-eqb (kindAt t i) 4 e))
+  pub skipped-verse : kindAt t i ≡ verseKind → false ≡ canSkipChildren (forest s t i to)
+  skipped-verse e = sym (at-leaf (λ z. omega arith) ∙ rw (ne-eqb (kindAt t i) chapterKind (omega arith), eq-eqb (kindAt t i) verseKind e))
 
-  pub skipped-past : (kindAt t i ≡ 1 → ⊥) → (kindAt t i ≡ 3 → ⊥) → (kindAt t i ≡ 4 → ⊥) → canSkipChildren (forest s t i to) ≡ canSkipChildren (forest s t (pastNode t i) to)
-  skipped-past a b d = at-leaf a ∙ rw (ne-eqb (kindAt t i) 3 b, ne-eqb (kindAt t i) 4 d)
+  pub skipped-past : (kindAt t i ≡ markerOpenKind → ⊥) → (kindAt t i ≡ chapterKind → ⊥) → (kindAt t i ≡ verseKind → ⊥) → canSkipChildren (forest s t i to) ≡ canSkipChildren (forest s t (pastNode t i) to)
+  skipped-past a b d = at-leaf a ∙ rw (ne-eqb (kindAt t i) chapterKind b, ne-eqb (kindAt t i) verseKind d)
 
 pub skipped-end : true ≡ canSkipChildren end
 unfolding canSkipChildren
@@ -57,8 +56,8 @@ pub texts-skipped : (f : Forest) → onlyTexts f ≡ true → canSkipChildren f 
 unfolding onlyTexts canSkipChildren
 texts-skipped end h = refl
 texts-skipped (leaf x r) h =
-    let k = eqb-true (x .kind) 5 (both-left (eqb (x .kind) 5) (onlyTexts r) h) in
-    rw (ne-eqb (x .kind) 3 (λ z. omega arith), ne-eqb (x .kind) 4 (λ z. omega arith)) (texts-skipped r (both-right (eqb (x .kind) 5) (onlyTexts r) h))
+    let k = eqb-true (x .kind) textKind (and-left (eqb (x .kind) textKind) (onlyTexts r) h) in
+    rw (ne-eqb (x .kind) chapterKind (λ z. omega arith), ne-eqb (x .kind) verseKind (λ z. omega arith)) (texts-skipped r (and-right (eqb (x .kind) textKind) (onlyTexts r) h))
 texts-skipped (node x c r) h = absurd (false≢true h)
 
 -- without an anchor the walk of such a run leaves the record as it is
@@ -72,7 +71,7 @@ skipped-walk table o (leaf x r) st h = go (numbered (x .kind)) refl h (λ q. ski
   where
     go : (v : Bool) → numbered (x .kind) ≡ v → pick v false (canSkipChildren r) ≡ true → (canSkipChildren r ≡ true → walk table o none r st ≡ still st) → walk table o none (leaf x r) st ≡ still st
     go true e h rest = absurd (false≢true h)
-    go false e h rest = let k = either-false (eqb (x .kind) 3) (eqb (x .kind) 4) e in rw (k .0, k .1) (rest h)
+    go false e h rest = let k = or-parts (eqb (x .kind) chapterKind) (eqb (x .kind) verseKind) e in rw (k .0, k .1) (rest h)
 skipped-walk table o (node x c r) st h = absurd (false≢true h)
 
 pub skipped-walked : {table words : List ℕ} {entries : ℕ} {s t : List ℕ} {depth from to : ℕ} {seen : List ℕ} {opens : List OpenStart} {r : Record} (o : state.Around) (l : List ℕ) → Ready table words entries s t depth from to seen opens r → r .anchor ≡ 0 → canSkipChildren (forest s t from to) ≡ true → Walked s t (walkAt table s t o from to seen opens r) depth from to l r seen opens l r

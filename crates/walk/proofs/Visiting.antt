@@ -13,8 +13,7 @@ use Rattle.text.specs.Pick.{cut}
 use Rattle.tape.specs.Nodes.{Node, count, nodeAt, kindAt, linkAt, isOpen}
 use Rattle.tape.specs.Forest.{Forest, end, forest, Nested, Accepted}
 use Rattle.tape.proofs.Nest.{nested-le, nested-open}
-use Rattle.tape.proofs.OneNumber.{either-false}
-use Rattle.table.specs.Entries.{Entry, Indexed}
+use Rattle.table.specs.Entries.{Entry, Indexed, milestoneCategory}
 use Rattle.cursor.specs.Inner.{Run, Spanned}
 use Rattle.cursor.specs.Steps.{pastNode}
 use Rattle.cursor.proofs.Around.{spanned}
@@ -40,12 +39,13 @@ use Rattle.marker_checks.specs.Skip.{canSkipMarkerAt}
 use Rattle.marker_checks.proofs.Skip.{skipped-texts, skipped-category, skipped-marked}
 use Rattle.milestones.proofs.Whole.{other as no-milestone}
 use Rattle.walk.proofs.Skipped.{texts-skipped, skipped-walked}
+use Rattle.text.proofs.Bool.{or-parts}
 
 -- an accepted tape has at most 65,535 nodes
 pub count-low : (s t : List ℕ) → Accepted s t → count t ≤ 65535
 count-low s t ok =
-    let a = either-false (eqb (length t) 0) _ (ok .sized) in
-    ltb-false 65535 (count t) (either-false (not (eqb (length t % 16) 0)) _ (a .1) .1)
+    let a = or-parts (eqb (length t) 0) _ (ok .sized) in
+    ltb-false 65535 (count t) (or-parts (not (eqb (length t % 16) 0)) _ (a .1) .1)
 
 -- what a visit begins with
 pub record Visit (table words : List ℕ) (entries : ℕ) (s t : List ℕ) (depth : ℕ) (o : state.Around) (i to : ℕ) (e : Entry) (numbers : Attached) (seen : List ℕ) (opens : List OpenStart) (l : List ℕ) (r : Record) : Type 0 where
@@ -258,7 +258,7 @@ module _ {table words : List ℕ} {entries : ℕ} {s t : List ℕ} {depth : ℕ}
   pub visited-skipped : (v : Visit table words entries s t depth o i to e numbers seen opens l r) (b : Bool) → b ≡ canSkipMarkerAt table s t o e i (r .«has_chapter») → b ≡ true → Visited table s t o e i to seen opens l r seen opens l r
   visited-skipped v b b-is h =
       let k : canSkipMarkerAt table s t o e i (r .«has_chapter») ≡ true = sym b-is ∙ h in
-      let q : eqb (e .category) 6 ≡ false = skipped-category (cut (e .name) table) e o (r .«has_chapter») (childrenAt s t i) k in
+      let q : eqb (e .category) milestoneCategory ≡ false = skipped-category (cut (e .name) table) e o (r .«has_chapter») (childrenAt s t i) k in
       let m = skipped-marked table s t o (anchorOf s t (r .anchor) i) e i to r k l in
       visited-without-children v l r m l opens r refl (no-milestone e s t i opens l r (v .ready .starts) (rw q)) (texts-skipped (childrenAt s t i) (skipped-texts (cut (e .name) table) e o (r .«has_chapter») (childrenAt s t i) k))
 

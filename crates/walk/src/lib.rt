@@ -63,10 +63,10 @@ fn numbers_after(
     ensures { λ r. ⌜ startsOf r ≡ numbersAfter (now (source .entry)) (now (tape .entry)) i next to (startsOf numbers) ⌝ }
 {
     let kind = tape::kind_at(tape, i);
-    if kind == 3 {
+    if kind == tape::CHAPTER {
         return attachment::attached_numbers(source, tape, kind, next, to);
     }
-    if kind == 4 {
+    if kind == tape::VERSE {
         return attachment::attached_numbers(source, tape, kind, next, to);
     }
     numbers
@@ -101,10 +101,10 @@ fn leaf(
         list,
     );
     let kind = tape::kind_at(tape, i);
-    if kind == 3 {
+    if kind == tape::CHAPTER {
         return state::with_anchor(r, i);
     }
-    if kind == 4 {
+    if kind == tape::VERSE {
         return state::with_anchor(r, i);
     }
     r
@@ -123,7 +123,7 @@ fn marker(table: &[u8], words: &[u64], count: usize, tape: &[u8], i: usize) -> I
     requires { ⌜ (Indexed (now table) (now words) count) × (i < nodes (now tape)) ⌝ }
     ensures { λ r. ⌜ infoOf r ≡ onlyOpen (isOpen (kindAt (now (tape .entry)) i)) (infoAt (now (table .entry)) (now (tape .entry)) i) ⌝ }
 {
-    if tape::kind_at(tape, i) == 1 {
+    if tape::kind_at(tape, i) == tape::MARKER_OPEN {
         return cursor::marker_info(table, words, count, tape, i);
     }
     Info::Missing
@@ -176,13 +176,13 @@ fn can_skip_children(source: &[u8], tape: &[u8], from: usize, to: usize) -> bool
     let mut i = from;
     while i < to {
         let kind = tape::kind_at(tape, i);
-        if kind == 1 {
+        if kind == tape::MARKER_OPEN {
             return false;
         }
-        if kind == 3 {
+        if kind == tape::CHAPTER {
             return false;
         }
-        if kind == 4 {
+        if kind == tape::VERSE {
             return false;
         }
         i = cursor::past_node(tape, i);

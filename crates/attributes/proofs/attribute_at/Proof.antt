@@ -9,7 +9,7 @@ use Rattle.attributes.specs.Attributes.{findingsAt, attributeKinds}
 use Rattle.attributes.specs.Inner.{ofNode}
 use Rattle.cursor.specs.Names.{nameOf}
 use Rattle.findings.proofs.Overlay.{wrote-none}
-use Rattle.tape.specs.Nodes.{kindAt, nodeAt}
+use Rattle.tape.specs.Nodes.{kindAt, nodeAt, attributeKind}
 use Rattle.attributes.proofs.attribute_at.Statement.{statement}
 use Rattle.attributes.proofs.attribute_at.Tie as tie
 
@@ -28,7 +28,7 @@ kind-at-requires c κs = search needs
 returns : tie.Need-returns
 returns c =
     let a = c .before .before .before .before .before .args in
-    rw (ne-eqb (kindAt (now (a .tape)) (a .i)) 6 (λ e. c .if1 .taken (c .before .kind-at .ensures ∙ e))) (wrote-none (now (a .list)) (a .c))
+    rw (ne-eqb (kindAt (now (a .tape)) (a .i)) attributeKind (λ e. c .if1 .taken (c .before .kind-at .ensures ∙ e))) (wrote-none (now (a .list)) (a .c))
 
 span-requires : tie.Need-span-requires
 span-requires c κs = search needs

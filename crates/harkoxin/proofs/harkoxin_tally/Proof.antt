@@ -2,7 +2,7 @@
 -- Assumes nothing.
 use mathlib.Core.Path.{ap, _∙_}
 use mathlib.Core.Option.{Option}
-use Rattle.tape.specs.Reading.{Refusal}
+use Rattle.refusals.specs.Refusal.{Refusal}
 use Rattle.buffer.specs.Over.{over}
 use Rattle.harkoxin.specs.Words.{tallyWords}
 use borrow.Author.Needs.{needs}

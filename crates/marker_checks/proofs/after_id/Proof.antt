@@ -4,9 +4,10 @@ use borrow.Author.Needs.{needs}
 use denote.Ref.{now}
 use Rattle.tape.specs.Forest.{forest}
 use Rattle.definition.specs.Checks.{bookCode}
-use Rattle.marker_checks.proofs.Flags.{with-none, with-code, not-true, not-false}
+use Rattle.marker_checks.proofs.Flags.{with-none, with-code}
 use Rattle.marker_checks.proofs.after_id.Statement.{statement}
 use Rattle.marker_checks.proofs.after_id.Tie as tie
+use borrow.Author.Tests.{not-true, not-false}
 
 returns : tie.Need-returns
 returns c = with-none (c .before .before .before .args .named) (bookCode (forest (now (c .before .before .before .args .source)) (now (c .before .before .before .args .tape)) (c .before .before .before .args .from) (c .before .before .before .args .to))) (c .before .before .before .args .rec) (not-true _ (c .if1 .taken))

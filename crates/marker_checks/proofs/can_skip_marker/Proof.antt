@@ -8,9 +8,10 @@ use mathlib.Core.Bool.{Bool, not}
 use Rattle.tape.specs.Forest.{forest}
 use Rattle.marker_checks.specs.Own.{childrenAt}
 use Rattle.marker_checks.specs.Skip.{onlyTexts, askedFor}
-use Rattle.marker_checks.proofs.Flags.{both-holds, both-fails, not-true, not-false}
+use Rattle.marker_checks.proofs.Flags.{both-holds, both-fails}
 use Rattle.marker_checks.proofs.can_skip_marker.Statement.{statement}
 use Rattle.marker_checks.proofs.can_skip_marker.Tie as tie
+use borrow.Author.Tests.{not-true, not-false}
 
 is-placed-requires : tie.Need-is-placed-requires
 is-placed-requires c κs = search needs

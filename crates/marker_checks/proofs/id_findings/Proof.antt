@@ -17,9 +17,10 @@ use Rattle.definition.proofs.Givens.{given-room, given-wrote, given-end}
 use Rattle.definition.specs.Checks.{Check, given, bookCode, isBook, upper, warning}
 use Rattle.state.specs.Running.{stateOf}
 use Rattle.marker_checks.proofs.Whole.{idPart}
-use Rattle.marker_checks.proofs.Flags.{both-holds, not-true, not-false, id-none}
+use Rattle.marker_checks.proofs.Flags.{both-holds, id-none}
 use Rattle.marker_checks.proofs.id_findings.Statement.{statement}
 use Rattle.marker_checks.proofs.id_findings.Tie as tie
+use borrow.Author.Tests.{not-true, not-false}
 
 abbrev checks : tie.Start → List Check
 checks c = let a = c .args in idPart (now (a .source)) (now (a .tape)) (a .i) (a .rec) (a .link) (a .named)

@@ -6,9 +6,10 @@ use mathlib.Core.Bool.{not}
 use Rattle.table.specs.Bytes.{oneOf}
 use Rattle.attachment.specs.Attached.{startsOf, among}
 use Rattle.definition.specs.Checks.{numberMarkers}
-use Rattle.marker_checks.proofs.Flags.{both-holds, both-fails, not-true, not-false}
+use Rattle.marker_checks.proofs.Flags.{both-holds, both-fails}
 use Rattle.marker_checks.proofs.is_misplaced.Statement.{statement}
 use Rattle.marker_checks.proofs.is_misplaced.Tie as tie
+use borrow.Author.Tests.{not-true, not-false}
 
 is-number-marker-requires : tie.Need-is-number-marker-requires
 is-number-marker-requires c κs = search needs

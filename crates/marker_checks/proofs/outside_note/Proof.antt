@@ -3,13 +3,13 @@
 use mathlib.Core.Path.{sym, _∙_}
 use borrow.Author.Needs.{needs}
 use lib.Dec.{eqb}
-use Rattle.text.proofs.Rows.{both-false}
-use Rattle.table.specs.Entries.{entryOfInfo}
+use Rattle.table.specs.Entries.{entryOfInfo, characterCategory}
 use Rattle.marker_checks.proofs.outside_note.Statement.{statement}
 use Rattle.marker_checks.proofs.outside_note.Tie as tie
+use mathlib.Core.Bool.{and-false}
 
 returns : tie.Need-returns
-returns c = rw (c .if1 .taken) (sym (both-false (eqb (entryOfInfo (c .before .before .args .m) .category) 4)))
+returns c = rw (c .if1 .taken) (sym (and-false (eqb (entryOfInfo (c .before .before .args .m) .category) characterCategory)))
 
 is-of-requires : tie.Need-is-of-requires
 is-of-requires c κs = search needs

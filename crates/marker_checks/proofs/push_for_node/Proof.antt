@@ -4,9 +4,9 @@ use borrow.Author.Needs.{needs}
 use denote.Ref.{now}
 use Rattle.findings.specs.Finding.{findingOf}
 use Rattle.definition.proofs.Givens.{tell-room, tell-wrote, tell-none}
-use Rattle.marker_checks.proofs.Flags.{not-true, not-false}
 use Rattle.marker_checks.proofs.push_for_node.Statement.{statement}
 use Rattle.marker_checks.proofs.push_for_node.Tie as tie
+use borrow.Author.Tests.{not-true, not-false}
 
 returns : tie.Need-returns
 returns c = let a = c .before .before .before .args in tell-none (a .there) _ (now (a .list)) (a .c) (not-true _ (c .if1 .taken))

@@ -8,7 +8,7 @@ use Prim.Native.Nat.{_+_}
 use denote.Ref.{now}
 use borrow.Author.Needs.{needs}
 use borrow.Author.Tests.{eq-eqb, ne-eqb}
-use Rattle.tape.specs.Nodes.{kindAt, isOpen}
+use Rattle.tape.specs.Nodes.{kindAt, isOpen, markerOpenKind}
 use Rattle.cursor.specs.Inner.{Run}
 use Rattle.cursor.proofs.Runs.{run-inside}
 use Rattle.message_texts.specs.Texts as texts
@@ -21,7 +21,7 @@ use Rattle.messages.proofs.lay_book.Tie as tie
 
 -- the node is open
 is-open : (c : tie.Else1) → isOpen (kindAt (now (c .before .before .before .before .before .args .tape)) (c .before .before .before .before .before .args .q .node)) ≡ true
-is-open c = let s = c .before .before .before .before .before in eq-eqb (kindAt (now (s .args .tape)) (s .args .q .node)) 1 (sym (c .before .kind-at .ensures) ∙ c .if1 .left)
+is-open c = let s = c .before .before .before .before .before in eq-eqb (kindAt (now (s .args .tape)) (s .args .q .node)) markerOpenKind (sym (c .before .kind-at .ensures) ∙ c .if1 .left)
 
 run : (c : tie.After-link-at) → Run (now (c .before .before .before .before .before .before .args .source)) (now (c .before .before .before .before .before .before .args .tape)) (c .before .before .before .before .before .before .args .q .node + 1) (c .link-at .result)
 run c =
@@ -40,7 +40,7 @@ returns c =
     let q = askedBy (a .q) in
     let n = c .if1 .taken in
     let k = c .before .kind-at .ensures in
-    λ table. laid-lacks table (now (a .source)) (now (a .tape)) q texts.bookCode texts.empty texts.empty (holes-5 (q .code) (s .pre .3)) (no-open table (now (a .source)) (now (a .tape)) q (ne-eqb (kindAt (now (a .tape)) (q .node)) 1 (λ e. n (k ∙ e)))) (now (a .out))
+    λ table. laid-lacks table (now (a .source)) (now (a .tape)) q texts.bookCode texts.empty texts.empty (holes-5 (q .code) (s .pre .3)) (no-open table (now (a .source)) (now (a .tape)) q (ne-eqb (kindAt (now (a .tape)) (q .node)) markerOpenKind (λ e. n (k ∙ e)))) (now (a .out))
 
 add-book-code : tie.Need-add-book-code
 add-book-code c = search needs

@@ -4,7 +4,7 @@ use borrow.Author.Needs.{needs}
 use denote.Ref.{now}
 use mathlib.Core.Path.{sym, _∙_}
 use borrow.Author.Tests.{eqb-true}
-use Rattle.table.specs.Entries.{entryOfInfo}
+use Rattle.table.specs.Entries.{entryOfInfo, milestoneCategory}
 use Rattle.milestones.proofs.Reading.{other-category}
 use Rattle.milestones.proofs.step_of.Statement.{statement}
 use Rattle.milestones.proofs.step_of.Tie as tie
@@ -18,7 +18,7 @@ step-named-requires c κs = search needs
 returns : tie.Need-returns
 returns c =
     let m = c .before .before .before .before .before .args .m in
-    c .step-named .ensures (entryOfInfo m) (eqb-true (entryOfInfo m .category) 6 (sym (c .before .before .is-of .ensures) ∙ c .before .if1 .taken))
+    c .step-named .ensures (entryOfInfo m) (eqb-true (entryOfInfo m .category) milestoneCategory (sym (c .before .before .is-of .ensures) ∙ c .before .if1 .taken))
 
 returns-2 : tie.Need-returns-2
 returns-2 c =

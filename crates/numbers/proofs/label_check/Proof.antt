@@ -5,9 +5,9 @@ use denote.Ref.{now}
 use mathlib.Core.Path.{_≡_, refl, sym, ap, _∙_}
 use native.Mathlib.Omega.{arith}
 use Rattle.tape.specs.Nodes as nodes
-use Rattle.tape.specs.Reading.{firstBad}
+use Rattle.refusals.specs.Refusal.{firstBad, splitLabel}
 use Rattle.tape.specs.Forest.{Accepted}
-use Rattle.tape.proofs.Whole.{first-end}
+use Rattle.refusals.proofs.First.{first-end}
 use Rattle.table.specs.Entries.{Indexed}
 use Rattle.numbers.specs.Label.{badLabel, labelRefusal, refusalOf}
 use Rattle.numbers.proofs.Gathered.{first-there, first-later}
@@ -17,7 +17,7 @@ use Rattle.numbers.proofs.label_check.Statement.{statement}
 use Rattle.numbers.proofs.label_check.Tie as tie
 
 abbrev Inv-loop : tie.InvT-loop
-Inv-loop table words count source tape n i₀ i = (Indexed table words count) × (Accepted source tape) × (n ≡ nodes.count tape) × (1 ≤ i) × (firstBad 9 (badLabel table source tape) i (n - i) ≡ labelRefusal table source tape)
+Inv-loop table words count source tape n i₀ i = (Indexed table words count) × (Accepted source tape) × (n ≡ nodes.count tape) × (1 ≤ i) × (firstBad splitLabel (badLabel table source tape) i (n - i) ≡ labelRefusal table source tape)
 
 abbrev μ-loop : tie.MeasureT-loop
 μ-loop table words count source tape n i₀ i = n - i
@@ -74,7 +74,7 @@ returns-2 : tie.Need-returns-2 Inv-loop μ-loop
 returns-2 c =
     let a = c .before .before .before .before .before .before .args in
     let l = c .before .loop in
-    sym (first-end 9 (badLabel (now (a .table)) (now (a .source)) (now (a .tape))) _ (l .i) (omega arith)) ∙ l .inv .4
+    sym (first-end splitLabel (badLabel (now (a .table)) (now (a .source)) (now (a .tape))) _ (l .i) (omega arith)) ∙ l .inv .4
 
 pub label-check-spec : {M : Type 1} → statement M
 label-check-spec =

@@ -1,7 +1,8 @@
 -- `oracle_exports::accepted` meets its contract.
 -- Assumes nothing.
 use mathlib.Core.Path.{sym, ap, _∙_}
-use Rattle.tape.specs.Reading.{isNone, refusalOf}
+use Rattle.refusals.specs.Refusal.{isNone}
+use Rattle.tape.specs.Reading.{refusalOf}
 use borrow.Author.Needs.{needs}
 use Rattle.oracle_exports.proofs.accepted.Statement.{statement}
 use Rattle.oracle_exports.proofs.accepted.Tie as tie

@@ -6,10 +6,10 @@ use borrow.Author.Tests.{ltb-true, ltb-false}
 use native.Mathlib.Omega.{arith}
 use lib.ListN.{replicate}
 use Rattle.buffer.proofs.Laying.{Laying, laying-start, laying-full, laying-end}
-use Rattle.findings.specs.Finding.{codes}
 use Rattle.tally.proofs.Counting.{clear-on}
 use Rattle.tally.proofs.clear.Statement.{statement}
 use Rattle.tally.proofs.clear.Tie as tie
+use Rattle.findings.specs.Codes.{codes}
 
 abbrev Inv-loop : tie.InvT-loop
 Inv-loop counts₀ c₀ counts c = Laying (replicate codes 0) counts₀ 0 counts c
