@@ -22,6 +22,7 @@ use Rattle.numbers.specs.Verse.{Position, versePart, verseEnd, next, inSequence
 use Rattle.attachment.specs.Attached.{among, isAttached}
 use Rattle.definition.specs.State.{State, firstVerse, Around, Anchor, Told}
 use Rattle.findings.specs.Codes.{missingSpaceBeforeNumber, leadingZeros, missingChapterNumber, verseOutsideParagraph, charCrossesVerseBoundary, missingVerseNumber, duplicateId, invalidBookCode, noteSubmarkerOutsideNote, nonEmptyBlankLine, bodyParagraphBeforeChapter, misplacedNumberMarker, emptyFigure, emptyWordMarker, missingRequiredAttribute, duplicateChapter, invalidChapterSequence, invalidVerseSequence, chapterForm, verseForm, shouldBeUppercase, notValid}
+use Rattle.text.specs.Literal.{ascii}
 
 -- a finding with the span of a node: severity, code, form, two numbers
 abbrev pub about : Node → ℕ → ℕ → ℕ → ℕ → ℕ → Finding
@@ -211,10 +212,10 @@ hasMarkers (node x c r) = true
 -- ca, cp, va, vp
 unfoldable pub numberMarkers : List (List ℕ)
 numberMarkers =
-    (0x63 ∷ 0x61 ∷ [])
-    ∷ (0x63 ∷ 0x70 ∷ [])
-    ∷ (0x76 ∷ 0x61 ∷ [])
-    ∷ (0x76 ∷ 0x70 ∷ [])
+    ascii "ca"
+    ∷ ascii "cp"
+    ∷ ascii "va"
+    ∷ ascii "vp"
     ∷ []
 
 -- of the siblings that follow the anchor, those passed since and those from here on
@@ -224,22 +225,22 @@ attachedTo (some a) f at = isAttached (a .kind) (followed (a .passed) f) at
 
 -- `id`, `b`, `fig`, `w`, `rb`, `tr`
 abbrev pub idName : List ℕ
-idName = 0x69 ∷ 0x64 ∷ []
+idName = ascii "id"
 
 abbrev pub bName : List ℕ
-bName = 0x62 ∷ []
+bName = ascii "b"
 
 abbrev pub figName : List ℕ
-figName = 0x66 ∷ 0x69 ∷ 0x67 ∷ []
+figName = ascii "fig"
 
 abbrev pub wName : List ℕ
-wName = 0x77 ∷ []
+wName = ascii "w"
 
 abbrev pub rbName : List ℕ
-rbName = 0x72 ∷ 0x62 ∷ []
+rbName = ascii "rb"
 
 abbrev pub trName : List ℕ
-trName = 0x74 ∷ 0x72 ∷ []
+trName = ascii "tr"
 
 -- a paragraph that can hold verse text
 abbrev pub isBody : Entry → Bool

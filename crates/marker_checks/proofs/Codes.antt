@@ -15,6 +15,7 @@ use Rattle.table.specs.Books.{codes, bookOf}
 use Rattle.table.specs.Inner as table
 use Rattle.table.proofs.Words.{one-of, every, one-passes}
 use Rattle.definition.specs.Checks.{known, isBook, upper}
+use Rattle.text.specs.Literal.{ascii}
 
 same-known : (o : Option ℕ) → known o ≡ table.known o
 same-known none = refl
@@ -25,7 +26,7 @@ unfolding bookOf
 book-one s = same-known (bookOf s) ∙ sym (one-of codes s 0)
 
 pub no-book : (s : List ℕ) → (length s ≡ 3 → ⊥) → false ≡ isBook s
-unfolding every codes
+unfolding ascii every codes
 no-book s h = go (oneOf codes s) refl ∙ sym (book-one s)
   where
     go : (t : Bool) → oneOf codes s ≡ t → false ≡ oneOf codes s

@@ -22,6 +22,7 @@ use Rattle.definition.specs.Checks.{given, idChecks, numberMarkers, frontBy, at
 use Rattle.state.specs.Running.{startsFor}
 use Rattle.state.specs.declared.Record.{Record}
 use Rattle.marker_checks.specs.Inner.{withId}
+use Rattle.text.specs.Literal.{ascii}
 
 -- the code's flag a is the test x
 module _ (a x : Bool) (is : a ≡ x) where
@@ -62,7 +63,7 @@ abbrev pub pair : ℕ → ℕ → List ℕ
 pair a b = a ∷ b ∷ []
 
 pub four : (s : List ℕ) → (equal (pair 0x63 0x61) s || (equal (pair 0x63 0x70) s || (equal (pair 0x76 0x61) s || equal (pair 0x76 0x70) s))) ≡ oneOf numberMarkers s
-unfolding oneOf numberMarkers
+unfolding ascii oneOf numberMarkers
 four s = ap (λ (v : Bool). (equal (pair 0x63 0x61) s || (equal (pair 0x63 0x70) s || (equal (pair 0x76 0x61) s || v)))) (sym (or-false (equal (pair 0x76 0x70) s)))
 
 -- no paragraph comes early where a chapter or front matter stands before it

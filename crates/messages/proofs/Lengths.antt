@@ -19,6 +19,7 @@ use Rattle.numbers.specs.Label.{labelOf, isGlued, baseLen}
 use Rattle.definition.specs.Checks.{numberMarkers}
 use Rattle.messages.specs.Inner.{nameOr, isTables}
 use Rattle.messages.proofs.Shown.{entry-sound}
+use Rattle.text.specs.Literal.{ascii}
 
 -- the table's name for two codes, the source's for the others
 module _ (code : ℕ) (a b name : List ℕ) (is : name ≡ pick (isTables code) a b) where
@@ -95,6 +96,6 @@ entry-fits table words n ix t i name is = go (infoAt table t i) refl
 
 -- none of the four names is empty
 pub four-named : (name : List ℕ) → oneOf numberMarkers name ≡ true → 1 ≤ length name
-unfolding oneOf numberMarkers equal
+unfolding ascii oneOf numberMarkers equal
 four-named [] h = absurd (false≢true h)
 four-named (b ∷ bs) h = omega arith

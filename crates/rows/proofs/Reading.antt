@@ -16,6 +16,7 @@ use Rattle.text.proofs.Cuts.{rest-all}
 use Rattle.table.specs.Bytes.{starting}
 use Rattle.table.proofs.Words.{starts-long}
 use Rattle.rows.specs.Cells.{Range, isCell, isAligned, afterLetters, pair, hyphen, columnsIn, cellColumns}
+use Rattle.text.specs.Literal.{ascii}
 
 pub short-plain : (s : List ℕ) → length s ≤ 2 → false ≡ isAligned s
 short-plain [] h = refl
@@ -34,6 +35,7 @@ letters-cut s x v e h = rest-all s (pick v 3 2) ∙ ap (λ (w : Bool). drop (pic
 
 -- a cell's name has two letters at least
 pub cell-long : (s : List ℕ) → isCell s ≡ true → 2 ≤ length s
+unfolding ascii
 cell-long s h = go (starting (0x74 ∷ 0x68 ∷ []) s) refl h
   where
     go : (v : Bool) → starting (0x74 ∷ 0x68 ∷ []) s ≡ v → (v || starting (0x74 ∷ 0x63 ∷ []) s) ≡ true → 2 ≤ length s

@@ -12,6 +12,7 @@ use Rattle.table.specs.Bytes.{starting}
 use Rattle.rows.specs.declared.Columns.{Columns}
 use Rattle.rows.specs.declared.Cell.{Cell}
 use Rattle.rows.specs.declared.Cell.the-variants as cell
+use Rattle.text.specs.Literal.{ascii}
 
 -- the columns of a cell, first and last
 pub record Range : Type 0 where
@@ -20,7 +21,7 @@ pub record Range : Type 0 where
 
 -- `th` or `tc`, which begin a cell's name
 abbrev pub isCell : List ℕ → Bool
-isCell name = starting (0x74 ∷ 0x68 ∷ []) name || starting (0x74 ∷ 0x63 ∷ []) name
+isCell name = starting (ascii "th") name || starting (ascii "tc") name
 
 -- `thr`, `thc`, `tcr` and `tcc`: the third byte
 abbrev pub isAligned : List ℕ → Bool

@@ -15,6 +15,7 @@ use Rattle.table.specs.Bytes.{equal, oneOf, starting}
 use Rattle.table.specs.Names.{lemmaNames, rb, xt, ref, jmp, periph, qt, defaultOf}
 use Rattle.table.specs.Books.{codeFrom}
 use Rattle.table.specs.Inner.{attributeAt, attributeBy, categoryAt, roleAt}
+use Rattle.text.specs.Literal.{ascii}
 
 pub category-rest : (n : ℕ) → (n ≡ 0 → ⊥) → (n ≡ 1 → ⊥) → (n ≡ 2 → ⊥) → (n ≡ 3 → ⊥) → (n ≡ 4 → ⊥) → (n ≡ 5 → ⊥) → (n ≡ 6 → ⊥) → Other ≡ categoryAt n
 category-rest zero a b c d e f g = absurd (a refl)
@@ -83,6 +84,6 @@ default-by false false false false false false false false true q = refl
 default-by false false false false false false false false false q = refl
 
 pub default-is : (s : List ℕ) → defaultOf s ≡ attributeBy (codeFrom 0 owners s) (starting qt s)
-unfolding defaultOf oneOf lemmaNames codeFrom owners
+unfolding ascii defaultOf oneOf lemmaNames codeFrom owners
 default-is s =
     default-by (equal (119 ∷ []) s) (equal (119 ∷ 97 ∷ []) s) (equal (119 ∷ 103 ∷ []) s) (equal (119 ∷ 104 ∷ []) s) (equal rb s) (equal xt s) (equal ref s) (equal jmp s) (equal periph s) (starting qt s)

@@ -20,6 +20,7 @@ use Rattle.table.specs.Inner.{known, lineValue, stepBy, stepOf, further,
 use Rattle.table.proofs.Parts.{width, first, line-there, line-none}
 use Rattle.table.proofs.Values.{good-known, Named, name-says, shorter, Worded, word-says}
 use Rattle.table.proofs.Words.{every}
+use Rattle.text.specs.Literal.{ascii}
 
 -- the line at the head of what stands at a place, its end counted from the start of the text
 pub record Read (t : List ℕ) (at j : ℕ) (r : Step) : Type 0 where
@@ -101,11 +102,11 @@ module _ (t : List ℕ) (at j : ℕ) where
           rw (line-none t at end, m, ne-eqb j 0 (λ y. omega (arith, z y)), same)
 
 categories-short : shorter 14 categories ≡ true
-unfolding every categories
+unfolding ascii every categories
 categories-short = refl
 
 roles-short : shorter 8 roles ≡ true
-unfolding every roles
+unfolding ascii every roles
 roles-short = refl
 
 -- the answers of `marker_at`
@@ -146,13 +147,14 @@ module _ (t : List ℕ) (at : ℕ) (h : at < length t) where
         entry = entryOf (first at (drop at t)) (first b (drop b t)) (first c (drop c t))
 
         pub low : (v ≤ 16) × (u < 8) × (r < 3)
-        unfolding categories roles
+        unfolding ascii categories roles
         low = (named .high, category .inside, role .inside)
 
         name-len : v ≡ length (take (width (drop at t)) (drop at t)) - 5
         name-len = omega (arith, named .long)
 
         near : next ≤ at + 64
+        unfolding ascii
         near = omega (arith, named .long, named .high, category .long, role .long, good-first .long, good-second .long, good-third .long)
 
         pub marked-whole : at < 65000 → Marked t at (marker.Good (at + 5 + 65536 * (v + 32 * (u + 8 * r))) next)

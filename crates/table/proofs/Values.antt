@@ -18,6 +18,7 @@ use Rattle.table.specs.Books.{codeFrom}
 use Rattle.table.specs.Inner.{known, nameOf, keyed, lineValue}
 use Rattle.table.proofs.Words.{starts-long, one-of, every, one-passes, found}
 use Rattle.text.proofs.Bool.{and-left}
+use Rattle.text.specs.Literal.{ascii}
 
 -- a line is good exactly if it says something
 known-pick : (t : Bool) (n : ℕ) → t ≡ known (pick t (some n) none)
@@ -47,6 +48,7 @@ pub record Named (s : List ℕ) (v : ℕ) : Type 0 where
   pub high : v ≤ 16
 
 pub name-says : (s : List ℕ) (v : ℕ) → keyed nameKey nameOf s ≡ some v → Named s v
+unfolding ascii
 name-says s v e =
     let b = beyond nameKey s in
     let k = pick-says (starting nameKey s) (nameOf b) v e in

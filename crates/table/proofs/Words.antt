@@ -19,6 +19,7 @@ use Rattle.table.specs.Names.{noteOnly}
 use Rattle.table.specs.Books.{codeFrom}
 use Rattle.table.specs.Inner.{triples, known}
 use Rattle.text.proofs.Bool.{and-left, and-right}
+use Rattle.text.specs.Literal.{ascii}
 
 pub equal-true : (a b : List ℕ) → equal a b ≡ true → a ≡ b
 unfolding equal
@@ -96,7 +97,7 @@ one-passes p (w ∷ ws) s h e = go (equal w s) refl e (one-passes p ws s (and-ri
 
 -- the names that stand in notes alone begin with f or x
 pub not-noted : (s : List ℕ) → (getD s 0 0 ≡ 102 → ⊥) → (getD s 0 0 ≡ 120 → ⊥) → false ≡ oneOf noteOnly s
-unfolding every noteOnly
+unfolding ascii every noteOnly
 not-noted s h k = go (oneOf noteOnly s) refl
   where
     go : (t : Bool) → oneOf noteOnly s ≡ t → false ≡ t

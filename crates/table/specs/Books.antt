@@ -6,6 +6,7 @@ use Rattle.table.specs.Bytes.{equal}
 use Rattle.table.specs.declared.Book.{Book}
 use Rattle.table.specs.declared.Book.the-variants as book
 use Rattle.text.specs.Pick.{pick}
+use Rattle.text.specs.Literal.{ascii}
 
 -- GEN EXO LEV NUM DEU JOS JDG RUT 1SA 2SA 1KI 2KI 1CH
 -- 2CH EZR NEH EST JOB PSA PRO ECC SNG ISA JER LAM EZK
@@ -18,122 +19,122 @@ use Rattle.text.specs.Pick.{pick}
 -- INT CNC GLO TDX NDX XXA XXB XXC XXD XXE XXF XXG
 unfoldable pub codes : List (List ℕ)
 codes =
-    (71 ∷ 69 ∷ 78 ∷ [])
-    ∷ (69 ∷ 88 ∷ 79 ∷ [])
-    ∷ (76 ∷ 69 ∷ 86 ∷ [])
-    ∷ (78 ∷ 85 ∷ 77 ∷ [])
-    ∷ (68 ∷ 69 ∷ 85 ∷ [])
-    ∷ (74 ∷ 79 ∷ 83 ∷ [])
-    ∷ (74 ∷ 68 ∷ 71 ∷ [])
-    ∷ (82 ∷ 85 ∷ 84 ∷ [])
-    ∷ (49 ∷ 83 ∷ 65 ∷ [])
-    ∷ (50 ∷ 83 ∷ 65 ∷ [])
-    ∷ (49 ∷ 75 ∷ 73 ∷ [])
-    ∷ (50 ∷ 75 ∷ 73 ∷ [])
-    ∷ (49 ∷ 67 ∷ 72 ∷ [])
-    ∷ (50 ∷ 67 ∷ 72 ∷ [])
-    ∷ (69 ∷ 90 ∷ 82 ∷ [])
-    ∷ (78 ∷ 69 ∷ 72 ∷ [])
-    ∷ (69 ∷ 83 ∷ 84 ∷ [])
-    ∷ (74 ∷ 79 ∷ 66 ∷ [])
-    ∷ (80 ∷ 83 ∷ 65 ∷ [])
-    ∷ (80 ∷ 82 ∷ 79 ∷ [])
-    ∷ (69 ∷ 67 ∷ 67 ∷ [])
-    ∷ (83 ∷ 78 ∷ 71 ∷ [])
-    ∷ (73 ∷ 83 ∷ 65 ∷ [])
-    ∷ (74 ∷ 69 ∷ 82 ∷ [])
-    ∷ (76 ∷ 65 ∷ 77 ∷ [])
-    ∷ (69 ∷ 90 ∷ 75 ∷ [])
-    ∷ (68 ∷ 65 ∷ 78 ∷ [])
-    ∷ (72 ∷ 79 ∷ 83 ∷ [])
-    ∷ (74 ∷ 79 ∷ 76 ∷ [])
-    ∷ (65 ∷ 77 ∷ 79 ∷ [])
-    ∷ (79 ∷ 66 ∷ 65 ∷ [])
-    ∷ (74 ∷ 79 ∷ 78 ∷ [])
-    ∷ (77 ∷ 73 ∷ 67 ∷ [])
-    ∷ (78 ∷ 65 ∷ 77 ∷ [])
-    ∷ (72 ∷ 65 ∷ 66 ∷ [])
-    ∷ (90 ∷ 69 ∷ 80 ∷ [])
-    ∷ (72 ∷ 65 ∷ 71 ∷ [])
-    ∷ (90 ∷ 69 ∷ 67 ∷ [])
-    ∷ (77 ∷ 65 ∷ 76 ∷ [])
-    ∷ (77 ∷ 65 ∷ 84 ∷ [])
-    ∷ (77 ∷ 82 ∷ 75 ∷ [])
-    ∷ (76 ∷ 85 ∷ 75 ∷ [])
-    ∷ (74 ∷ 72 ∷ 78 ∷ [])
-    ∷ (65 ∷ 67 ∷ 84 ∷ [])
-    ∷ (82 ∷ 79 ∷ 77 ∷ [])
-    ∷ (49 ∷ 67 ∷ 79 ∷ [])
-    ∷ (50 ∷ 67 ∷ 79 ∷ [])
-    ∷ (71 ∷ 65 ∷ 76 ∷ [])
-    ∷ (69 ∷ 80 ∷ 72 ∷ [])
-    ∷ (80 ∷ 72 ∷ 80 ∷ [])
-    ∷ (67 ∷ 79 ∷ 76 ∷ [])
-    ∷ (49 ∷ 84 ∷ 72 ∷ [])
-    ∷ (50 ∷ 84 ∷ 72 ∷ [])
-    ∷ (49 ∷ 84 ∷ 73 ∷ [])
-    ∷ (50 ∷ 84 ∷ 73 ∷ [])
-    ∷ (84 ∷ 73 ∷ 84 ∷ [])
-    ∷ (80 ∷ 72 ∷ 77 ∷ [])
-    ∷ (72 ∷ 69 ∷ 66 ∷ [])
-    ∷ (74 ∷ 65 ∷ 83 ∷ [])
-    ∷ (49 ∷ 80 ∷ 69 ∷ [])
-    ∷ (50 ∷ 80 ∷ 69 ∷ [])
-    ∷ (49 ∷ 74 ∷ 78 ∷ [])
-    ∷ (50 ∷ 74 ∷ 78 ∷ [])
-    ∷ (51 ∷ 74 ∷ 78 ∷ [])
-    ∷ (74 ∷ 85 ∷ 68 ∷ [])
-    ∷ (82 ∷ 69 ∷ 86 ∷ [])
-    ∷ (84 ∷ 79 ∷ 66 ∷ [])
-    ∷ (74 ∷ 68 ∷ 84 ∷ [])
-    ∷ (69 ∷ 83 ∷ 71 ∷ [])
-    ∷ (87 ∷ 73 ∷ 83 ∷ [])
-    ∷ (83 ∷ 73 ∷ 82 ∷ [])
-    ∷ (66 ∷ 65 ∷ 82 ∷ [])
-    ∷ (76 ∷ 74 ∷ 69 ∷ [])
-    ∷ (83 ∷ 51 ∷ 89 ∷ [])
-    ∷ (83 ∷ 85 ∷ 83 ∷ [])
-    ∷ (66 ∷ 69 ∷ 76 ∷ [])
-    ∷ (49 ∷ 77 ∷ 65 ∷ [])
-    ∷ (50 ∷ 77 ∷ 65 ∷ [])
-    ∷ (51 ∷ 77 ∷ 65 ∷ [])
-    ∷ (52 ∷ 77 ∷ 65 ∷ [])
-    ∷ (49 ∷ 69 ∷ 83 ∷ [])
-    ∷ (50 ∷ 69 ∷ 83 ∷ [])
-    ∷ (77 ∷ 65 ∷ 78 ∷ [])
-    ∷ (80 ∷ 83 ∷ 50 ∷ [])
-    ∷ (79 ∷ 68 ∷ 65 ∷ [])
-    ∷ (80 ∷ 83 ∷ 83 ∷ [])
-    ∷ (69 ∷ 90 ∷ 65 ∷ [])
-    ∷ (53 ∷ 69 ∷ 90 ∷ [])
-    ∷ (54 ∷ 69 ∷ 90 ∷ [])
-    ∷ (68 ∷ 65 ∷ 71 ∷ [])
-    ∷ (80 ∷ 83 ∷ 51 ∷ [])
-    ∷ (50 ∷ 66 ∷ 65 ∷ [])
-    ∷ (76 ∷ 66 ∷ 65 ∷ [])
-    ∷ (74 ∷ 85 ∷ 66 ∷ [])
-    ∷ (69 ∷ 78 ∷ 79 ∷ [])
-    ∷ (49 ∷ 77 ∷ 81 ∷ [])
-    ∷ (50 ∷ 77 ∷ 81 ∷ [])
-    ∷ (51 ∷ 77 ∷ 81 ∷ [])
-    ∷ (82 ∷ 69 ∷ 80 ∷ [])
-    ∷ (52 ∷ 66 ∷ 65 ∷ [])
-    ∷ (76 ∷ 65 ∷ 79 ∷ [])
-    ∷ (70 ∷ 82 ∷ 84 ∷ [])
-    ∷ (66 ∷ 65 ∷ 75 ∷ [])
-    ∷ (79 ∷ 84 ∷ 72 ∷ [])
-    ∷ (73 ∷ 78 ∷ 84 ∷ [])
-    ∷ (67 ∷ 78 ∷ 67 ∷ [])
-    ∷ (71 ∷ 76 ∷ 79 ∷ [])
-    ∷ (84 ∷ 68 ∷ 88 ∷ [])
-    ∷ (78 ∷ 68 ∷ 88 ∷ [])
-    ∷ (88 ∷ 88 ∷ 65 ∷ [])
-    ∷ (88 ∷ 88 ∷ 66 ∷ [])
-    ∷ (88 ∷ 88 ∷ 67 ∷ [])
-    ∷ (88 ∷ 88 ∷ 68 ∷ [])
-    ∷ (88 ∷ 88 ∷ 69 ∷ [])
-    ∷ (88 ∷ 88 ∷ 70 ∷ [])
-    ∷ (88 ∷ 88 ∷ 71 ∷ [])
+    ascii "GEN"
+    ∷ ascii "EXO"
+    ∷ ascii "LEV"
+    ∷ ascii "NUM"
+    ∷ ascii "DEU"
+    ∷ ascii "JOS"
+    ∷ ascii "JDG"
+    ∷ ascii "RUT"
+    ∷ ascii "1SA"
+    ∷ ascii "2SA"
+    ∷ ascii "1KI"
+    ∷ ascii "2KI"
+    ∷ ascii "1CH"
+    ∷ ascii "2CH"
+    ∷ ascii "EZR"
+    ∷ ascii "NEH"
+    ∷ ascii "EST"
+    ∷ ascii "JOB"
+    ∷ ascii "PSA"
+    ∷ ascii "PRO"
+    ∷ ascii "ECC"
+    ∷ ascii "SNG"
+    ∷ ascii "ISA"
+    ∷ ascii "JER"
+    ∷ ascii "LAM"
+    ∷ ascii "EZK"
+    ∷ ascii "DAN"
+    ∷ ascii "HOS"
+    ∷ ascii "JOL"
+    ∷ ascii "AMO"
+    ∷ ascii "OBA"
+    ∷ ascii "JON"
+    ∷ ascii "MIC"
+    ∷ ascii "NAM"
+    ∷ ascii "HAB"
+    ∷ ascii "ZEP"
+    ∷ ascii "HAG"
+    ∷ ascii "ZEC"
+    ∷ ascii "MAL"
+    ∷ ascii "MAT"
+    ∷ ascii "MRK"
+    ∷ ascii "LUK"
+    ∷ ascii "JHN"
+    ∷ ascii "ACT"
+    ∷ ascii "ROM"
+    ∷ ascii "1CO"
+    ∷ ascii "2CO"
+    ∷ ascii "GAL"
+    ∷ ascii "EPH"
+    ∷ ascii "PHP"
+    ∷ ascii "COL"
+    ∷ ascii "1TH"
+    ∷ ascii "2TH"
+    ∷ ascii "1TI"
+    ∷ ascii "2TI"
+    ∷ ascii "TIT"
+    ∷ ascii "PHM"
+    ∷ ascii "HEB"
+    ∷ ascii "JAS"
+    ∷ ascii "1PE"
+    ∷ ascii "2PE"
+    ∷ ascii "1JN"
+    ∷ ascii "2JN"
+    ∷ ascii "3JN"
+    ∷ ascii "JUD"
+    ∷ ascii "REV"
+    ∷ ascii "TOB"
+    ∷ ascii "JDT"
+    ∷ ascii "ESG"
+    ∷ ascii "WIS"
+    ∷ ascii "SIR"
+    ∷ ascii "BAR"
+    ∷ ascii "LJE"
+    ∷ ascii "S3Y"
+    ∷ ascii "SUS"
+    ∷ ascii "BEL"
+    ∷ ascii "1MA"
+    ∷ ascii "2MA"
+    ∷ ascii "3MA"
+    ∷ ascii "4MA"
+    ∷ ascii "1ES"
+    ∷ ascii "2ES"
+    ∷ ascii "MAN"
+    ∷ ascii "PS2"
+    ∷ ascii "ODA"
+    ∷ ascii "PSS"
+    ∷ ascii "EZA"
+    ∷ ascii "5EZ"
+    ∷ ascii "6EZ"
+    ∷ ascii "DAG"
+    ∷ ascii "PS3"
+    ∷ ascii "2BA"
+    ∷ ascii "LBA"
+    ∷ ascii "JUB"
+    ∷ ascii "ENO"
+    ∷ ascii "1MQ"
+    ∷ ascii "2MQ"
+    ∷ ascii "3MQ"
+    ∷ ascii "REP"
+    ∷ ascii "4BA"
+    ∷ ascii "LAO"
+    ∷ ascii "FRT"
+    ∷ ascii "BAK"
+    ∷ ascii "OTH"
+    ∷ ascii "INT"
+    ∷ ascii "CNC"
+    ∷ ascii "GLO"
+    ∷ ascii "TDX"
+    ∷ ascii "NDX"
+    ∷ ascii "XXA"
+    ∷ ascii "XXB"
+    ∷ ascii "XXC"
+    ∷ ascii "XXD"
+    ∷ ascii "XXE"
+    ∷ ascii "XXF"
+    ∷ ascii "XXG"
     ∷ []
 
 -- the position of the first code that equals the list, counted from k

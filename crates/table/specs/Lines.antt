@@ -8,6 +8,7 @@ use lib.Dec.{eqb, ltb}
 use lib.ListN.{length}
 use Rattle.text.specs.Pick.{within, pick}
 use Rattle.table.specs.Bytes.{all, oneOf, starting, beyond}
+use Rattle.text.specs.Literal.{ascii}
 
 -- a line: the place of its first byte, what stands in it, and whether a byte 10 ends it
 pub record Line : Type 0 where
@@ -32,33 +33,33 @@ lines at (b ∷ s) = lineBy (eqb b 10) at b (lines (suc at) s)
 
 -- "name=", "category=", "role="
 abbrev pub nameKey : List ℕ
-nameKey = 110 ∷ 97 ∷ 109 ∷ 101 ∷ 61 ∷ []
+nameKey = ascii "name="
 
 abbrev pub categoryKey : List ℕ
-categoryKey = 99 ∷ 97 ∷ 116 ∷ 101 ∷ 103 ∷ 111 ∷ 114 ∷ 121 ∷ 61 ∷ []
+categoryKey = ascii "category="
 
 abbrev pub roleKey : List ℕ
-roleKey = 114 ∷ 111 ∷ 108 ∷ 101 ∷ 61 ∷ []
+roleKey = ascii "role="
 
 -- identification, chapter, verse, paragraph, character, note, milestone, other
 unfoldable pub categories : List (List ℕ)
 categories =
-    (105 ∷ 100 ∷ 101 ∷ 110 ∷ 116 ∷ 105 ∷ 102 ∷ 105 ∷ 99 ∷ 97 ∷ 116 ∷ 105 ∷ 111 ∷ 110 ∷ [])
-    ∷ (99 ∷ 104 ∷ 97 ∷ 112 ∷ 116 ∷ 101 ∷ 114 ∷ [])
-    ∷ (118 ∷ 101 ∷ 114 ∷ 115 ∷ 101 ∷ [])
-    ∷ (112 ∷ 97 ∷ 114 ∷ 97 ∷ 103 ∷ 114 ∷ 97 ∷ 112 ∷ 104 ∷ [])
-    ∷ (99 ∷ 104 ∷ 97 ∷ 114 ∷ 97 ∷ 99 ∷ 116 ∷ 101 ∷ 114 ∷ [])
-    ∷ (110 ∷ 111 ∷ 116 ∷ 101 ∷ [])
-    ∷ (109 ∷ 105 ∷ 108 ∷ 101 ∷ 115 ∷ 116 ∷ 111 ∷ 110 ∷ 101 ∷ [])
-    ∷ (111 ∷ 116 ∷ 104 ∷ 101 ∷ 114 ∷ [])
+    ascii "identification"
+    ∷ ascii "chapter"
+    ∷ ascii "verse"
+    ∷ ascii "paragraph"
+    ∷ ascii "character"
+    ∷ ascii "note"
+    ∷ ascii "milestone"
+    ∷ ascii "other"
     ∷ []
 
 -- content, excluded, boundary
 unfoldable pub roles : List (List ℕ)
 roles =
-    (99 ∷ 111 ∷ 110 ∷ 116 ∷ 101 ∷ 110 ∷ 116 ∷ [])
-    ∷ (101 ∷ 120 ∷ 99 ∷ 108 ∷ 117 ∷ 100 ∷ 101 ∷ 100 ∷ [])
-    ∷ (98 ∷ 111 ∷ 117 ∷ 110 ∷ 100 ∷ 97 ∷ 114 ∷ 121 ∷ [])
+    ascii "content"
+    ∷ ascii "excluded"
+    ∷ ascii "boundary"
     ∷ []
 
 -- an ASCII letter, a digit or a hyphen

@@ -14,6 +14,7 @@ use Rattle.table.specs.declared.Lookup.{Lookup}
 use Rattle.table.specs.declared.Lookup.the-variants as lookup
 use Rattle.table.specs.declared.DefaultAttribute.{DefaultAttribute}
 use Rattle.table.specs.declared.DefaultAttribute.the-variants.{Lemma, Gloss, Href, Loc, LinkHref, Id, Who, NoDefault}
+use Rattle.text.specs.Literal.{ascii}
 
 -- the number of the first entry that has the name, counted from k
 unfoldable pub namedFrom : List ℕ → ℕ → List Entry → List ℕ → Option ℕ
@@ -66,29 +67,29 @@ foundOf lookup.Unknown = none
 -- w, wa, wg, wh
 unfoldable pub lemmaNames : List (List ℕ)
 lemmaNames =
-    (119 ∷ [])
-    ∷ (119 ∷ 97 ∷ [])
-    ∷ (119 ∷ 103 ∷ [])
-    ∷ (119 ∷ 104 ∷ [])
+    ascii "w"
+    ∷ ascii "wa"
+    ∷ ascii "wg"
+    ∷ ascii "wh"
     ∷ []
 
 abbrev pub rb : List ℕ
-rb = 114 ∷ 98 ∷ []
+rb = ascii "rb"
 
 abbrev pub xt : List ℕ
-xt = 120 ∷ 116 ∷ []
+xt = ascii "xt"
 
 abbrev pub ref : List ℕ
-ref = 114 ∷ 101 ∷ 102 ∷ []
+ref = ascii "ref"
 
 abbrev pub jmp : List ℕ
-jmp = 106 ∷ 109 ∷ 112 ∷ []
+jmp = ascii "jmp"
 
 abbrev pub periph : List ℕ
-periph = 112 ∷ 101 ∷ 114 ∷ 105 ∷ 112 ∷ 104 ∷ []
+periph = ascii "periph"
 
 abbrev pub qt : List ℕ
-qt = 113 ∷ 116 ∷ []
+qt = ascii "qt"
 
 -- the Rust's `default_attribute`: the attribute that a marker's bare value sets
 unfoldable pub defaultOf : List ℕ → DefaultAttribute
@@ -104,31 +105,31 @@ defaultOf s =
 -- FRT, INT, BAK, OTH, CNC, GLO, TDX, NDX: the Rust's `is_front_matter_code`
 unfoldable pub frontMatter : List (List ℕ)
 frontMatter =
-    (70 ∷ 82 ∷ 84 ∷ [])
-    ∷ (73 ∷ 78 ∷ 84 ∷ [])
-    ∷ (66 ∷ 65 ∷ 75 ∷ [])
-    ∷ (79 ∷ 84 ∷ 72 ∷ [])
-    ∷ (67 ∷ 78 ∷ 67 ∷ [])
-    ∷ (71 ∷ 76 ∷ 79 ∷ [])
-    ∷ (84 ∷ 68 ∷ 88 ∷ [])
-    ∷ (78 ∷ 68 ∷ 88 ∷ [])
+    ascii "FRT"
+    ∷ ascii "INT"
+    ∷ ascii "BAK"
+    ∷ ascii "OTH"
+    ∷ ascii "CNC"
+    ∷ ascii "GLO"
+    ∷ ascii "TDX"
+    ∷ ascii "NDX"
     ∷ []
 
 -- fr, ft, fk, fq, fqa, fl, fw, fp, fv, fdc, xop, xot, xnt, xdc: the Rust's `is_note_only_marker`
 unfoldable pub noteOnly : List (List ℕ)
 noteOnly =
-    (102 ∷ 114 ∷ [])
-    ∷ (102 ∷ 116 ∷ [])
-    ∷ (102 ∷ 107 ∷ [])
-    ∷ (102 ∷ 113 ∷ [])
-    ∷ (102 ∷ 113 ∷ 97 ∷ [])
-    ∷ (102 ∷ 108 ∷ [])
-    ∷ (102 ∷ 119 ∷ [])
-    ∷ (102 ∷ 112 ∷ [])
-    ∷ (102 ∷ 118 ∷ [])
-    ∷ (102 ∷ 100 ∷ 99 ∷ [])
-    ∷ (120 ∷ 111 ∷ 112 ∷ [])
-    ∷ (120 ∷ 111 ∷ 116 ∷ [])
-    ∷ (120 ∷ 110 ∷ 116 ∷ [])
-    ∷ (120 ∷ 100 ∷ 99 ∷ [])
+    ascii "fr"
+    ∷ ascii "ft"
+    ∷ ascii "fk"
+    ∷ ascii "fq"
+    ∷ ascii "fqa"
+    ∷ ascii "fl"
+    ∷ ascii "fw"
+    ∷ ascii "fp"
+    ∷ ascii "fv"
+    ∷ ascii "fdc"
+    ∷ ascii "xop"
+    ∷ ascii "xot"
+    ∷ ascii "xnt"
+    ∷ ascii "xdc"
     ∷ []

@@ -6,6 +6,7 @@ use mathlib.Core.Bool.{not}
 use Rattle.marker_checks.proofs.Flags.{both-holds, both-fails}
 use Rattle.marker_checks.proofs.empty_word.Statement.{statement}
 use Rattle.marker_checks.proofs.empty_word.Tie as tie
+use Rattle.text.specs.Literal.{ascii}
 
 slice-aggregate-same : tie.Need-slice-aggregate-same
 slice-aggregate-same c = search needs
@@ -17,9 +18,11 @@ has-content-requires : tie.Need-has-content-requires
 has-content-requires c κs = search needs
 
 returns : tie.Need-returns
+unfolding ascii
 returns c = both-holds _ _ (c .before .before .same .ensures) _ _ (c .before .if1 .taken) (ap not (c .has-content .ensures))
 
 returns-2 : tie.Need-returns-2
+unfolding ascii
 returns-2 c = both-fails _ _ (c .before .same .ensures) _ (c .if1 .left)
 
 pub empty-word-spec : {M : Type 1} → statement M

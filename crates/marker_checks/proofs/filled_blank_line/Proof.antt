@@ -4,6 +4,7 @@ use borrow.Author.Needs.{needs}
 use Rattle.marker_checks.proofs.Flags.{both-holds, both-fails}
 use Rattle.marker_checks.proofs.filled_blank_line.Statement.{statement}
 use Rattle.marker_checks.proofs.filled_blank_line.Tie as tie
+use Rattle.text.specs.Literal.{ascii}
 
 slice-aggregate-same : tie.Need-slice-aggregate-same
 slice-aggregate-same c = search needs
@@ -15,9 +16,11 @@ blank-line-has-inline-content-requires : tie.Need-blank-line-has-inline-content-
 blank-line-has-inline-content-requires c κs = search needs
 
 returns : tie.Need-returns
+unfolding ascii
 returns c = both-holds _ _ (c .before .before .same .ensures) _ _ (c .before .if1 .taken) (c .blank-line-has-inline-content .ensures)
 
 returns-2 : tie.Need-returns-2
+unfolding ascii
 returns-2 c = both-fails _ _ (c .before .same .ensures) _ (c .if1 .left)
 
 pub filled-blank-line-spec : {M : Type 1} → statement M

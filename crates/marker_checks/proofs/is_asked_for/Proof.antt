@@ -4,6 +4,7 @@ use borrow.Author.Needs.{needs}
 use Rattle.marker_checks.proofs.Flags.{either-holds, either-fails}
 use Rattle.marker_checks.proofs.is_asked_for.Statement.{statement}
 use Rattle.marker_checks.proofs.is_asked_for.Tie as tie
+use Rattle.text.specs.Literal.{ascii}
 
 slice-aggregate-is-either : tie.Need-slice-aggregate-is-either
 slice-aggregate-is-either c = search needs
@@ -15,6 +16,7 @@ is-either-requires : tie.Need-is-either-requires
 is-either-requires c κs = search needs
 
 returns : tie.Need-returns
+unfolding ascii
 returns c = either-holds _ _ (c .before .is-either .ensures) _ (c .if1 .taken)
 
 slice-aggregate-is-either-3 : tie.Need-slice-aggregate-is-either-3
@@ -27,6 +29,7 @@ is-either-requires-2 : tie.Need-is-either-requires-2
 is-either-requires-2 c κs = search needs
 
 returns-2 : tie.Need-returns-2
+unfolding ascii
 returns-2 c = either-fails _ _ (c .before .before .before .before .before .is-either .ensures) _ _ (c .before .before .before .before .if1 .left) (either-holds _ _ (c .before .is-either2 .ensures) _ (c .if2 .taken))
 
 slice-aggregate-is-either-5 : tie.Need-slice-aggregate-is-either-5
@@ -39,12 +42,14 @@ is-either-requires-3 : tie.Need-is-either-requires-3
 is-either-requires-3 c κs = search needs
 
 returns-3 : tie.Need-returns-3
+unfolding ascii
 returns-3 c = either-fails _ _ (c .before .before .before .before .before .before .before .before .before .is-either .ensures) _ _ (c .before .before .before .before .before .before .before .before .if1 .left) (either-fails _ _ (c .before .before .before .before .before .is-either2 .ensures) _ _ (c .before .before .before .before .if2 .left) (either-holds _ _ (c .before .is-either3 .ensures) _ (c .if3 .taken)))
 
 is-number-marker-requires : tie.Need-is-number-marker-requires
 is-number-marker-requires c κs = search needs
 
 returns-4 : tie.Need-returns-4
+unfolding ascii
 returns-4 c = either-fails _ _ (c .before .before .before .before .before .before .before .before .before .before .is-either .ensures) _ _ (c .before .before .before .before .before .before .before .before .before .if1 .left) (either-fails _ _ (c .before .before .before .before .before .before .is-either2 .ensures) _ _ (c .before .before .before .before .before .if2 .left) (either-fails _ _ (c .before .before .is-either3 .ensures) _ _ (c .before .if3 .left) (c .is-number-marker .ensures)))
 
 pub is-asked-for-spec : {M : Type 1} → statement M

@@ -17,6 +17,7 @@ use Rattle.marker_checks.proofs.Children.{children}
 use Rattle.marker_checks.proofs.Whole.{idPart, placePart, contentPart, rowPart, attributePart, room-id, room-place, room-content, room-row, room-attributes, wrote-all, own-room, marked}
 use Rattle.marker_checks.proofs.visit_marker.Statement.{statement}
 use Rattle.marker_checks.proofs.visit_marker.Tie as tie
+use Rattle.text.specs.Literal.{ascii}
 
 abbrev ids : tie.After-counts → List Check
 ids c = let a = c .before .before .before .before .before .before .before .before .before .before .args in idPart (now (a .source)) (now (a .tape)) (a .i) (a .rec) (c .before .before .before .before .link-at .result) (c .before .before .same .result)
@@ -34,6 +35,7 @@ abbrev attributes : tie.After-counts → List Finding
 attributes c = let a = c .before .before .before .before .before .before .before .before .before .before .args in attributePart (now (a .source)) (now (a .tape)) (a .i) (c .before .before .before .before .link-at .result)
 
 room : (c : tie.After-counts) → Room (c .counts .result) (given (ids c ++ placed c ++ content c) ++ row c ++ attributes c)
+unfolding ascii
 room c =
     let a = c .before .before .before .before .before .before .before .before .before .before .args in
     let n = c .before .before .before .before .before .name in
@@ -129,6 +131,7 @@ same-length : tie.Need-same-length
 same-length c = c .before .before .before .validate-attributes .kept .1 .1 .1 .1 .1 .0 ∙ c .before .before .before .before .before .before .before .row-findings .kept .1 .1 .1 .1 .1 .0 ∙ c .before .before .before .before .before .before .before .before .before .before .before .content-findings .kept .1 .1 .1 .1 .1 .0 ∙ c .before .before .before .before .before .before .before .before .before .before .before .before .before .before .before .place-findings .kept .1 .1 .1 .1 .1 .1 .1 .1 .1 .0 ∙ c .before .before .before .before .before .before .before .before .before .before .before .before .before .before .before .before .before .before .before .id-findings .kept .1 .1 .1 .1 .1 .1 .0
 
 returns : tie.Need-returns
+unfolding ascii
 returns c =
     let a = c .before .before .before .before .before .before .before .before .before .before .before .before .before .before .before .before .before .before .before .before .before .before .before .before .before .before .before .before .before .before .before .args in
     let n = c .before .before .before .before .before .before .before .before .before .before .before .before .before .before .before .before .before .before .before .before .before .before .before .before .before .before .name in

@@ -12,6 +12,7 @@ use Rattle.table.proofs.Heads.{key-step}
 use Rattle.table.proofs.Steps.{Read, line-read}
 use Rattle.table.proofs.category_line.Statement.{statement}
 use Rattle.table.proofs.category_line.Tie as tie
+use Rattle.text.specs.Literal.{ascii}
 
 sub-behind : tie.Need-sub-behind
 sub-behind c = search needs
@@ -32,7 +33,7 @@ category-step-requires : tie.Need-category-step-requires
 category-step-requires c κs = search needs
 
 read : (c : tie.After-category-step) → let a = c .before .before .before .before .before .args in Read (now (a .table)) (a .at) 1 (c .category-step .result)
-unfolding all stepOf
+unfolding ascii all stepOf
 read c = line-read _ _ 1 _ (c .before .before .before .before .before .pre) (c .category-step .ensures ∙ key-step categoryKey (codeFrom 0 categories) _ _ refl (c .before .behind .ensures))
 
 moved-requires : tie.Need-moved-requires

@@ -15,6 +15,7 @@ use Rattle.table.proofs.Blocks.{Told, head-tells}
 use Rattle.table.proofs.Heads.{front, front-there, line-there, words-absent}
 use Rattle.table.proofs.category_step.Statement.{statement}
 use Rattle.table.proofs.category_step.Tie as tie
+use Rattle.text.specs.Literal.{ascii}
 
 head-requires : tie.Need-head-requires
 head-requires c κs = search needs
@@ -29,7 +30,7 @@ tail-step-requires : tie.Need-tail-step-requires
 tail-step-requires c κs = told (c .before .before) .long (omega arith)
 
 returns : tie.Need-returns
-unfolding categories codeFrom equal all every
+unfolding ascii categories codeFrom equal all every
 returns c =
     let d = c .before .before in
     c .tail-step .ensures ∙ front-there 9 categories _ _ 4 refl refl refl refl (λ m e. rw e) (told (d .before)) (d .if1 .taken)
@@ -41,7 +42,7 @@ tail-step-requires-2 : tie.Need-tail-step-requires-2
 tail-step-requires-2 c κs = told (c .before .before .before) .long (omega arith)
 
 returns-2 : tie.Need-returns-2
-unfolding categories codeFrom equal all every
+unfolding ascii categories codeFrom equal all every
 returns-2 c =
     let d = c .before .before in
     c .tail-step2 .ensures ∙ front-there 9 categories _ _ 3 refl refl refl refl (λ m e. rw e) (told (d .before .before)) (d .if2 .taken)
@@ -53,7 +54,7 @@ tail-step-requires-3 : tie.Need-tail-step-requires-3
 tail-step-requires-3 c κs = told (c .before .before .before .before) .long (omega arith)
 
 returns-3 : tie.Need-returns-3
-unfolding categories codeFrom equal all every
+unfolding ascii categories codeFrom equal all every
 returns-3 c =
     let d = c .before .before in
     c .tail-step3 .ensures ∙ front-there 9 categories _ _ 6 refl refl refl refl (λ m e. rw e) (told (d .before .before .before)) (d .if3 .taken)
@@ -65,13 +66,13 @@ tail-step-requires-4 : tie.Need-tail-step-requires-4
 tail-step-requires-4 c κs = told (c .before .before .before .before .before) .long (omega arith)
 
 returns-4 : tie.Need-returns-4
-unfolding categories codeFrom equal all every
+unfolding ascii categories codeFrom equal all every
 returns-4 c =
     let d = c .before .before in
     c .tail-step4 .ensures ∙ front-there 9 categories _ _ 0 refl refl refl refl (λ m e. rw e) (told (d .before .before .before .before)) (d .if4 .taken)
 
 returns-5 : tie.Need-returns-5
-unfolding categories codeFrom equal all every
+unfolding ascii categories codeFrom equal all every
 returns-5 c = front-there 9 categories _ _ 1 refl refl refl refl (λ m e. absurd (false≢true (sym e))) (told (c .before .before .before .before .before)) (c .if5 .taken)
 
 slice-aggregate-starts-with : tie.Need-slice-aggregate-starts-with
@@ -81,7 +82,7 @@ starts-with-requires : tie.Need-starts-with-requires
 starts-with-requires c κs = search needs
 
 returns-6 : tie.Need-returns-6
-unfolding categories codeFrom equal all
+unfolding ascii categories codeFrom equal all
 returns-6 c = line-there 9 _ (codeFrom 0 categories) (getD categories 2 []) refl (sym (c .before .starts-with .ensures) ∙ c .if6 .taken)
 
 slice-aggregate-starts-with-2 : tie.Need-slice-aggregate-starts-with-2
@@ -91,7 +92,7 @@ starts-with-requires-2 : tie.Need-starts-with-requires-2
 starts-with-requires-2 c κs = search needs
 
 returns-7 : tie.Need-returns-7
-unfolding categories codeFrom equal all
+unfolding ascii categories codeFrom equal all
 returns-7 c = line-there 9 _ (codeFrom 0 categories) (getD categories 5 []) refl (sym (c .before .starts-with2 .ensures) ∙ c .if7 .taken)
 
 slice-aggregate-starts-with-3 : tie.Need-slice-aggregate-starts-with-3
@@ -101,11 +102,11 @@ starts-with-requires-3 : tie.Need-starts-with-requires-3
 starts-with-requires-3 c κs = search needs
 
 returns-8 : tie.Need-returns-8
-unfolding categories codeFrom equal all
+unfolding ascii categories codeFrom equal all
 returns-8 c = line-there 9 _ (codeFrom 0 categories) (getD categories 7 []) refl (sym (c .before .starts-with3 .ensures) ∙ c .if8 .taken)
 
 returns-9 : tie.Need-returns-9
-unfolding categories codeFrom equal all every
+unfolding ascii categories codeFrom equal all every
 returns-9 c =
     let d = c .before .before .before in
     let e = d .before .before .before in

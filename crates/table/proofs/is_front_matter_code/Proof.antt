@@ -6,6 +6,7 @@ use Rattle.table.specs.Inner.{triples, known}
 use Rattle.table.proofs.Words.{one-of}
 use Rattle.table.proofs.is_front_matter_code.Statement.{statement}
 use Rattle.table.proofs.is_front_matter_code.Tie as tie
+use Rattle.text.specs.Literal.{ascii}
 
 slice-aggregate-code-in : tie.Need-slice-aggregate-code-in
 slice-aggregate-code-in c = search needs
@@ -17,7 +18,7 @@ is-known-requires : tie.Need-is-known-requires
 is-known-requires c κs = search needs
 
 returns : tie.Need-returns
-unfolding triples frontMatter
+unfolding ascii triples frontMatter
 returns c = c .is-known .ensures ∙ ap known (c .before .code-in .ensures) ∙ sym (one-of frontMatter _ 0)
 
 pub is-front-matter-code-spec : {M : Type 1} → statement M

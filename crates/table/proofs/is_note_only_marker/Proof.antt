@@ -10,6 +10,7 @@ use Rattle.table.specs.Inner.{wordsOf, known}
 use Rattle.table.proofs.Words.{one-of, not-noted}
 use Rattle.table.proofs.is_note_only_marker.Statement.{statement}
 use Rattle.table.proofs.is_note_only_marker.Tie as tie
+use Rattle.text.specs.Literal.{ascii}
 
 returns : tie.Need-returns
 returns c =
@@ -34,7 +35,7 @@ is-known-requires : tie.Need-is-known-requires
 is-known-requires c κs = search needs
 
 returns-3 : tie.Need-returns-3
-unfolding wordsOf noteOnly
+unfolding ascii wordsOf noteOnly
 returns-3 c = c .is-known .ensures ∙ ap known (c .before .word-in .ensures) ∙ sym (one-of noteOnly _ 0)
 
 pub is-note-only-marker-spec : {M : Type 1} → statement M

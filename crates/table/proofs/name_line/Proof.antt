@@ -11,6 +11,7 @@ use Rattle.table.proofs.Heads.{key-step}
 use Rattle.table.proofs.Steps.{Read, line-read}
 use Rattle.table.proofs.name_line.Statement.{statement}
 use Rattle.table.proofs.name_line.Tie as tie
+use Rattle.text.specs.Literal.{ascii}
 
 sub-behind : tie.Need-sub-behind
 sub-behind c = search needs
@@ -31,7 +32,7 @@ name-step-requires : tie.Need-name-step-requires
 name-step-requires c κs = search needs
 
 read : (c : tie.After-name-step) → let a = c .before .before .before .before .before .args in Read (now (a .table)) (a .at) 0 (c .name-step .result)
-unfolding all stepOf
+unfolding ascii all stepOf
 read c = line-read _ _ 0 _ (c .before .before .before .before .before .pre) (c .name-step .ensures ∙ key-step nameKey nameOf _ _ refl (c .before .behind .ensures))
 
 moved-requires : tie.Need-moved-requires

@@ -12,6 +12,7 @@ use Rattle.table.proofs.Heads.{key-step}
 use Rattle.table.proofs.Steps.{Read, line-read}
 use Rattle.table.proofs.role_line.Statement.{statement}
 use Rattle.table.proofs.role_line.Tie as tie
+use Rattle.text.specs.Literal.{ascii}
 
 sub-behind : tie.Need-sub-behind
 sub-behind c = search needs
@@ -32,7 +33,7 @@ role-step-requires : tie.Need-role-step-requires
 role-step-requires c κs = search needs
 
 read : (c : tie.After-role-step) → let a = c .before .before .before .before .before .args in Read (now (a .table)) (a .at) 2 (c .role-step .result)
-unfolding all stepOf
+unfolding ascii all stepOf
 read c = line-read _ _ 2 _ (c .before .before .before .before .before .pre) (c .role-step .ensures ∙ key-step roleKey (codeFrom 0 roles) _ _ refl (c .before .behind .ensures))
 
 moved-requires : tie.Need-moved-requires

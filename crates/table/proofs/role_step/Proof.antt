@@ -15,6 +15,7 @@ use Rattle.table.proofs.Blocks.{Told, head-tells}
 use Rattle.table.proofs.Heads.{front, front-there, words-absent}
 use Rattle.table.proofs.role_step.Statement.{statement}
 use Rattle.table.proofs.role_step.Tie as tie
+use Rattle.text.specs.Literal.{ascii}
 
 head-requires : tie.Need-head-requires
 head-requires c κs = search needs
@@ -23,7 +24,7 @@ told : (c : tie.After-head) → Told (now (c .before .before .args .s)) (c .head
 told c = head-tells _ _ (c .before .shared-slice-known .given) (c .head .ensures)
 
 returns : tie.Need-returns
-unfolding roles codeFrom equal all every
+unfolding ascii roles codeFrom equal all every
 returns c = front-there 5 roles _ _ 0 refl refl refl refl (λ m e. absurd (false≢true (sym e))) (told (c .before)) (c .if1 .taken)
 
 slice-aggregate-tail-step : tie.Need-slice-aggregate-tail-step
@@ -33,7 +34,7 @@ tail-step-requires : tie.Need-tail-step-requires
 tail-step-requires c κs = told (c .before .before .before) .long (omega arith)
 
 returns-2 : tie.Need-returns-2
-unfolding roles codeFrom equal all every
+unfolding ascii roles codeFrom equal all every
 returns-2 c =
     let d = c .before .before in
     c .tail-step .ensures ∙ front-there 5 roles _ _ 1 refl refl refl refl (λ m e. rw e) (told (d .before .before)) (d .if2 .taken)
@@ -45,13 +46,13 @@ tail-step-requires-2 : tie.Need-tail-step-requires-2
 tail-step-requires-2 c κs = told (c .before .before .before .before) .long (omega arith)
 
 returns-3 : tie.Need-returns-3
-unfolding roles codeFrom equal all every
+unfolding ascii roles codeFrom equal all every
 returns-3 c =
     let d = c .before .before in
     c .tail-step2 .ensures ∙ front-there 5 roles _ _ 2 refl refl refl refl (λ m e. rw e) (told (d .before .before .before)) (d .if3 .taken)
 
 returns-4 : tie.Need-returns-4
-unfolding roles codeFrom equal all every
+unfolding ascii roles codeFrom equal all every
 returns-4 c =
     let t = told (c .before .before .before) in
     words-absent 5 _ 0 roles refl (rw (t .differs (front (getD roles 0 [])) refl (c .before .before .if1 .left), t .differs (front (getD roles 1 [])) refl (c .before .if2 .left), t .differs (front (getD roles 2 [])) refl (c .if3 .left)))

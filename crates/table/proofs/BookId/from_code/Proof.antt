@@ -7,6 +7,7 @@ use Rattle.table.specs.Inner.{triples, valueOf}
 use Rattle.table.proofs.Words.{found}
 use Rattle.table.proofs.BookId.from_code.Statement.{statement}
 use Rattle.table.proofs.BookId.from_code.Tie as tie
+use Rattle.text.specs.Literal.{ascii}
 
 slice-aggregate-code-in : tie.Need-slice-aggregate-code-in
 slice-aggregate-code-in c = search needs
@@ -25,11 +26,11 @@ enum-told : tie.Need-enum-told
 enum-told c = search needs
 
 returns : tie.Need-returns
-unfolding triples codes bookOf
+unfolding ascii triples codes bookOf
 returns c = sym (ap valueOf (c .before .k .given .1)) ∙ c .before .before .before .code-in .ensures
 
 returns-2 : tie.Need-returns-2
-unfolding triples codes bookOf
+unfolding ascii triples codes bookOf
 returns-2 c = sym (ap valueOf (c .enum-told .given .1)) ∙ c .before .before .code-in .ensures
 
 pub from-code-spec : {M : Type 1} → statement M
