@@ -9,7 +9,7 @@ use lib.ListN.{length}
 use Rattle.tape.specs.Forest.{Accepted}
 use Rattle.table.specs.Entries.{Indexed}
 use Rattle.buffer.specs.Over.{over}
-use Rattle.telling.specs.Telling.{textsOf, joined, endsFrom}
+use Rattle.messages.specs.Messages.{textsOf, joined, endsFrom}
 use Rattle.harkoxin.specs.Words.{answerWords, textsWords}
 use Rattle.harkoxin.specs.Report.{heldOf, heldIn, toldHeld}
 use Rattle.validate.proofs.Answer as Answer-T

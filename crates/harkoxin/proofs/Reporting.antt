@@ -23,7 +23,7 @@ use Rattle.validate.specs.declared.InputCheck.the-variants as input
 use Rattle.validate.proofs.Whole.{refusal-is}
 use Rattle.messages.specs.Told.{firstNine}
 use Rattle.messages.proofs.Nine.{nine-none, is-accepted, is-short}
-use Rattle.telling.specs.Telling.{textsOf, joined, endsFrom}
+use Rattle.messages.specs.Messages.{textsOf, joined, endsFrom}
 use Rattle.harkoxin.specs.Words.{answerWords, textsWords}
 use Rattle.harkoxin.specs.Report.{heldOf, heldIn, toldHeld, turnedWords, reportTold, reportText, reportEnds}
 use Rattle.text.specs.Pick.{pick}

@@ -3,8 +3,8 @@ use Prim.Native.Nat.{ℕ, _*_}
 use mathlib.Core.List.{List, _++_}
 use lib.ListN.{take}
 use Rattle.definition.specs.Outcome.{Lent, Answer, refused, checked, refusal, answer, listAfter, wordsBy}
-use Rattle.telling.specs.Telling as Telling
-use Rattle.telling.specs.Telling.{Told, answerBy, told, toldBy, textAt, whole, textsOf, bytesAfter, endsAfter}
+use Rattle.messages.specs.Messages as texts
+use Rattle.messages.specs.Messages.{Told, answerBy, told, toldBy, textAt, whole, textsOf, bytesAfter, endsAfter}
 use Rattle.harkoxin.specs.Words.{refusalWords, textsWords}
 
 -- how many findings the list of a checked document holds
@@ -22,7 +22,7 @@ toldHeld table s t l room = toldBy (textAt table s t l) (whole l) (textsOf table
 
 -- both answers of a document that is turned back
 abbrev pub turnedWords : ℕ → ℕ → List ℕ
-turnedWords number place = refusalWords number place ++ textsWords (Telling.refused (record { number = number; place = place }))
+turnedWords number place = refusalWords number place ++ textsWords (texts.refused (record { number = number; place = place }))
 
 -- the findings that a check wrote
 abbrev pub written : Lent → List ℕ

@@ -6,7 +6,7 @@ use mathlib.Core.Option.{Option, some, none}
 use Rattle.refusals.specs.Refusal.{Refusal}
 use Rattle.definition.specs.Outcome.{Answer, Checked, refused, checked}
 use Rattle.messages.specs.Told as message
-use Rattle.telling.specs.Telling as texts
+use Rattle.messages.specs.Messages as texts
 
 abbrev pub reportWords : ℕ → ℕ → ℕ → ℕ → ℕ → ℕ → ℕ → List ℕ
 reportWords verdict total written verses errors warnings infos =

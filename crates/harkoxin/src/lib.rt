@@ -1,9 +1,9 @@
 // The library under C names. Nothing is asked of a caller but valid slices that don't overlap.
 use definition::OpenStart;
 use messages::Asked;
+use messages::Texts;
 use messages::Told;
 use tally::Tallied;
-use telling::Texts;
 use validate::Answer;
 use validate::InputCheck;
 use validate::Report;
@@ -20,8 +20,8 @@ ghost use Rattle.messages.specs.Told.{told, bytesAfter};
 ghost use Rattle.messages.specs.Inner.{toldOf};
 ghost use Rattle.tally.specs.Tally as tally;
 ghost use Rattle.tally.specs.Tally.{tallyRefusal, countsAfter};
-ghost use Rattle.telling.specs.Telling as texts;
-ghost use Rattle.telling.specs.Telling.{textsOf, joined, endsFrom};
+ghost use Rattle.messages.specs.Messages as texts;
+ghost use Rattle.messages.specs.Messages.{textsOf, joined, endsFrom};
 ghost use Rattle.harkoxin.specs.Words.{answerWords, reportWords, refusalWords, messageWords, textsWords, tallyWords};
 ghost use Rattle.harkoxin.specs.Report.{heldOf, heldIn, toldHeld, turnedWords, reportTold, reportText, reportEnds};
 
@@ -158,7 +158,11 @@ pub extern "C" fn harkoxin_messages<'a>(
     ensures text { λ r. ⌜ now (text .exit) ≡ texts.bytesAfter (now (table .entry)) (now (source .entry)) (now (tape .entry)) (now (list .entry)) (now (text .entry)) ⌝ }
     ensures ends { λ r. ⌜ now (ends .exit) ≡ texts.endsAfter (now (table .entry)) (now (source .entry)) (now (tape .entry)) (now (list .entry)) (length (now (text .entry))) (now (ends .entry)) ⌝ }
 {
-    lay_texts(telling::tell(table, source, tape, list, ends, text), 0, out)
+    lay_texts(
+        messages::tell(table, source, tape, list, ends, text),
+        0,
+        out,
+    )
 }
 
 // How many findings the list of a checked document holds.
@@ -192,7 +196,7 @@ fn tell_held<'a>(
     ensures list { λ r. ⌜ now (list .exit) ≡ now (list .entry) ⌝ }
 {
     let k = 8 * held(a) as usize;
-    let t = telling::tell_in(table, words, entries, source, tape, &list[..k], ends, text);
+    let t = messages::tell_in(table, words, entries, source, tape, &list[..k], ends, text);
     lay_answer(a, out);
     lay_texts(t, 9, out);
 }

@@ -1,3 +1,4 @@
 pub mod Message
 pub mod Told
+pub mod Messages
 pub mod Inner

@@ -1,4 +1,5 @@
-// The text of a finding: numbers 1 to 9, 12 and 13, or the Rust's text laid over a lent list from its start.
+// The text of a finding: numbers 1 to 9, 12 and 13, or the Rust's text laid over a lent list from its start; and the texts of a
+// list's findings, one behind another, by one reading of the document.
 use table::Info;
 use validate::InputCheck;
 ghost use mathlib.Core.Bool.{_||_};
@@ -18,10 +19,13 @@ ghost use Rattle.cursor.specs.Info.{infoAt};
 ghost use Rattle.cursor.specs.Inner.{Spanned};
 ghost use Rattle.numbers.specs.Label.{labelOf, numbered};
 ghost use Rattle.definition.specs.Milestones.{endsIn};
+ghost use Rattle.buffer.specs.Over.{over};
 ghost use Rattle.buffer.specs.Decimal.{decimal};
 ghost use Rattle.messages.specs.Message.{letter, unitOf, messageText};
 ghost use Rattle.messages.specs.Told as answers;
 ghost use Rattle.messages.specs.Told.{byRoom, bytesBy, bytesAfter};
+ghost use Rattle.messages.specs.Messages as texts;
+ghost use Rattle.messages.specs.Messages.{askedAt, whole, textAt, textsOf, joined, endsFrom};
 ghost use Rattle.messages.specs.Inner.{askedBy, toldOf, Readable, LaidBy, nameOr, isTables};
 ghost use Rattle.message_texts.specs.Filled.{allTexts};
 ghost use Rattle.message_texts.specs.Inner.{LaidFrom};
@@ -38,6 +42,13 @@ pub struct Asked {
 // How long the text is that was laid, or the number that turns it back with its place.
 pub enum Told {
     Laid(usize),
+    Refused(u64, u64),
+}
+
+// How many texts are laid and how many bytes they take; where not all are, what turns the next one back.
+pub enum Texts {
+    All(usize, usize),
+    Stopped(usize, usize, u64, u64),
     Refused(u64, u64),
 }
 
@@ -403,5 +414,84 @@ pub fn message<'a>(table: &'a [u8], source: &'a [u8], tape: &[u8], q: Asked, out
     match validate::check_input(table, &mut words, source, tape, 65535, 65535) {
         InputCheck::Refused(number, place) => Told::Refused(number, place),
         InputCheck::Accepted(entries) => message_in(table, &words, entries, source, tape, q, out),
+    }
+}
+
+// What a record of a list asks for.
+fn asked_at(list: &[u64], k: usize) -> Asked
+    requires { ⌜ k < whole (now list) ⌝ }
+    ensures { λ r. ⌜ askedBy r ≡ askedAt (now (list .entry)) k ⌝ }
+{
+    let at = 8 * k;
+    Asked {
+        code: list[at + 1],
+        form: list[at + 5],
+        node: list[at + 4],
+        first: list[at + 6],
+        second: list[at + 7],
+    }
+}
+
+// The texts of a document that is passed already.
+pub fn tell_in<'a>(
+    table: &'a [u8],
+    words: &[u64],
+    entries: usize,
+    source: &'a [u8],
+    tape: &[u8],
+    list: &[u64],
+    ends: &mut [u64],
+    out: &mut [u8],
+) -> Texts
+    requires { ⌜ (Indexed (now table) (now words) entries) × (Accepted (now source) (now tape)) × (length (now source) ≤ 1048576) ⌝ }
+    ensures answer { λ r. ⌜ texts.toldOf r ≡ texts.toldBy (textAt (now (table .entry)) (now (source .entry)) (now (tape .entry)) (now (list .entry))) (whole (now (list .entry))) (textsOf (now (table .entry)) (now (source .entry)) (now (tape .entry)) (now (list .entry)) (length (now (out .entry)))) ⌝ }
+    ensures bytes { λ r. ⌜ now (out .exit) ≡ over (now (out .entry)) 0 (joined (textsOf (now (table .entry)) (now (source .entry)) (now (tape .entry)) (now (list .entry)) (length (now (out .entry))))) ⌝ }
+    ensures ends { λ r. ⌜ now (ends .exit) ≡ over (now (ends .entry)) 0 (endsFrom 0 (textsOf (now (table .entry)) (now (source .entry)) (now (tape .entry)) (now (list .entry)) (length (now (out .entry))))) ⌝ }
+{
+    let n = list.len() / 8;
+    let mut k: usize = 0;
+    let mut at: usize = 0;
+    while k < n {
+        let q = asked_at(list, k);
+        match message_in(table, words, entries, source, tape, q, &mut out[at..]) {
+            Told::Refused(number, place) => return Texts::Stopped(k, at, number, place),
+            Told::Laid(len) => {
+                at += len;
+                if k < ends.len() {
+                    ends[k] = at as u64;
+                }
+                k += 1;
+            }
+        }
+    }
+    Texts::All(k, at)
+}
+
+// The texts of a list's records, laid one behind another, up to the first that has none or no room, and where each ends.
+pub fn tell<'a>(
+    table: &'a [u8],
+    source: &'a [u8],
+    tape: &[u8],
+    list: &[u64],
+    ends: &mut [u64],
+    out: &mut [u8],
+) -> Texts
+    ensures answer { λ r. ⌜ texts.toldOf r ≡ texts.told (now (table .entry)) (now (source .entry)) (now (tape .entry)) (now (list .entry)) (length (now (out .entry))) ⌝ }
+    ensures bytes { λ r. ⌜ now (out .exit) ≡ texts.bytesAfter (now (table .entry)) (now (source .entry)) (now (tape .entry)) (now (list .entry)) (now (out .entry)) ⌝ }
+    ensures ends { λ r. ⌜ now (ends .exit) ≡ texts.endsAfter (now (table .entry)) (now (source .entry)) (now (tape .entry)) (now (list .entry)) (length (now (out .entry))) (now (ends .entry)) ⌝ }
+{
+    let mut words = [0u64; 512];
+    match validate::check_input(table, &mut words, source, tape, 65535, 65535) {
+        InputCheck::Refused(number, place) => Texts::Refused(number, place),
+        InputCheck::Accepted(entries) => tell_in(
+            table,
+            &words,
+            entries,
+            source,
+            tape,
+            list,
+            ends,
+            out,
+        ),
     }
 }

@@ -2,7 +2,7 @@
 -- Assumes nothing.
 use mathlib.Core.Path.{ap, _∙_}
 use Rattle.buffer.specs.Over.{over}
-use Rattle.telling.specs.Telling.{Told}
+use Rattle.messages.specs.Messages.{Told}
 use Rattle.harkoxin.specs.Words.{textsWords}
 use borrow.Author.Needs.{needs}
 use Rattle.harkoxin.proofs.harkoxin_messages.Statement.{statement}

@@ -7,10 +7,10 @@ use lib.Dec.{eqb, ltb}
 use lib.ListN.{length, getD}
 use Rattle.refusals.specs.Refusal.{Refusal, noMessage, messageListTooShort}
 use Rattle.buffer.specs.Over.{over}
 use Rattle.messages.specs.Message.{Asked, messageText}
 use Rattle.messages.specs.Told.{firstNine}
-use Rattle.telling.specs.declared.Texts as declared
-use Rattle.telling.specs.declared.Texts.the-variants as answer
+use Rattle.messages.specs.declared.Texts as declared
+use Rattle.messages.specs.declared.Texts.the-variants as answer
 use Rattle.text.specs.Pick.{pick}
 
 -- what record k of a list asks for

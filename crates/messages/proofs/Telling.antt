@@ -15,12 +15,12 @@ use borrow.Author.Tests.{le-ltb, eq-eqb, ne-eqb, ltb-false}
 use borrow.Rule.Slice.PartMut.{midOf, putMid, put-same, mid-len}
 use Rattle.buffer.specs.Over.{over}
 use Rattle.buffer.proofs.Over.{over-over, over-none, over-past, length-over}
 use Rattle.messages.specs.Inner.{toldOf}
 use Rattle.messages.specs.declared.Told as declared
 use Rattle.messages.specs.declared.Told.the-variants as answer
 use Rattle.messages.specs.Told.{refused, laid, byRoom, bytesBy}
-use Rattle.telling.specs.Telling as answers
-use Rattle.telling.specs.Telling.{fitting, textsFrom, joined, endsFrom, turnedBack, toldBy}
+use Rattle.messages.specs.Messages as answers
+use Rattle.messages.specs.Messages.{fitting, textsFrom, joined, endsFrom, turnedBack, toldBy}
 use Rattle.text.specs.Pick.{pick}
 use Rattle.refusals.specs.Refusal.{messageListTooShort}
 

@@ -1,10 +1,10 @@
--- `telling::tell` meets its contract.
+-- `messages::tell` meets its contract.
 -- Assumes nothing.
 use denote.Ref.{now}
 use Rattle.messages.proofs.Nine.{shut, passed, is-accepted, is-short}
 use borrow.Author.Needs.{needs}
-use Rattle.telling.proofs.tell.Statement.{statement}
-use Rattle.telling.proofs.tell.Tie as tie
+use Rattle.messages.proofs.tell.Statement.{statement}
+use Rattle.messages.proofs.tell.Tie as tie
 
 slice-aggregate-check-input : tie.Need-slice-aggregate-check-input
 slice-aggregate-check-input c = search needs

@@ -1,14 +1,14 @@
--- `telling::tell_in` meets its contract.
+-- `messages::tell_in` meets its contract.
 -- Assumes nothing.
 use Prim.Native.Nat.{_-_}
 use native.Mathlib.Omega.{arith}
 use mathlib.Core.Logic.{⊎-elim}
 use Rattle.buffer.proofs.Over.{over-set}
-use Rattle.telling.specs.Telling.{textAt}
-use Rattle.telling.proofs.Telling.{Telling, telling-start, telling-more, telling-all, telling-stopped, within, end-past}
+use Rattle.messages.specs.Messages.{textAt}
+use Rattle.messages.proofs.Telling.{Telling, telling-start, telling-more, telling-all, telling-stopped, within, end-past}
 use borrow.Author.Needs.{needs}
-use Rattle.telling.proofs.tell_in.Statement.{statement}
-use Rattle.telling.proofs.tell_in.Tie as tie
+use Rattle.messages.proofs.tell_in.Statement.{statement}
+use Rattle.messages.proofs.tell_in.Tie as tie
 
 abbrev Inv-loop : tie.InvT-loop
 Inv-loop table words entries source tape list ends₀ out₀ n k₀ at₀ ends out k at = Telling (textAt table source tape list) n ends₀ out₀ ends out k at
