@@ -1,3 +1,3 @@
 pub mod Over
-pub mod Laying
+pub mod Writing
 pub mod Decimal

@@ -1,4 +1,4 @@
--- Laws of bytes laid over a list.
+-- Laws of bytes written over a list.
 -- Assumes nothing.
 use Prim.Native.Nat.{ℕ, zero, suc, _+_, _<_, _≤_}
 use native.Mathlib.Omega.{arith}
@@ -9,7 +9,7 @@ use lib.ListN.{length, take, drop, set, getD, length-append}
 use lib.Seq.{take-all, drop-nil}
 use Rattle.buffer.specs.Over.{over, Put}
 
--- bytes laid behind others are laid with them
+-- to write bytes behind others is to write both at once
 pub over-over : (l : List ℕ) (at : ℕ) (s u : List ℕ) → over (over l at s) (at + length s) u ≡ over l at (s ++ u)
 unfolding over
 over-over [] at s u = refl
@@ -52,7 +52,7 @@ over-set [] at b s h = absurd (omega arith)
 over-set (x ∷ l) zero b s h = refl
 over-set (x ∷ l) (suc at) b s h = rw suc-add (ap (x ∷_) (over-set l at b s (omega arith)))
 
--- what is laid over others, from the start and no shorter, leaves nothing of them
+-- bytes written over others, from the start and no fewer, leave nothing of them
 pub over-again : (l s u : List ℕ) → length s ≤ length u → over (over l 0 s) 0 u ≡ over l 0 u
 unfolding over
 over-again [] s u h = refl
@@ -60,7 +60,7 @@ over-again (x ∷ l) [] u h = refl
 over-again (x ∷ l) (b ∷ s) [] h = absurd (omega arith)
 over-again (x ∷ l) (b ∷ s) (d ∷ u) h = ap (d ∷_) (over-again l s u (omega arith))
 
--- a store into what was laid, and a load from it
+-- a store into what was written, and a load from it
 pub set-over : (l s : List ℕ) (d b : ℕ) → d < length s → set (over l 0 s) d b ≡ over l 0 (set s d b)
 unfolding over
 set-over [] s d b h = refl

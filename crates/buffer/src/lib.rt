@@ -1,4 +1,4 @@
-// Bytes laid over a lent list from a place on, as far as there is room.
+// Writes bytes over a lent list from a place on, as far as there is room.
 ghost use mathlib.Core.Path.{_≡_};
 ghost use Prim.Native.Nat.{_-_, _≤_, min};
 ghost use lib.ListN.{length};
@@ -18,7 +18,7 @@ pub fn fitting(bytes: usize, list: usize, at: usize) -> usize
     list - at
 }
 
-// Lays the bytes, and gives the place behind them, whether or not they had room. How many have room is known before the loop, so that it has one test and many bytes are laid in one step.
+// Writes the bytes, and gives the place behind them, whether or not they had room. How many have room is known before the loop, so that it has one test and writes many bytes in one step.
 pub fn put(out: &mut [u8], at: usize, s: &[u8]) -> usize
     requires { ⌜ (at ≤ limit) × (length (now s) ≤ limit) ⌝ }
     ensures { λ r. ⌜ Put (now (s .entry)) (now (out .entry)) at (now (out .exit)) r ⌝ }
@@ -32,7 +32,7 @@ pub fn put(out: &mut [u8], at: usize, s: &[u8]) -> usize
     at + s.len()
 }
 
-// Lays a number in decimal digits.
+// Writes a number in decimal digits.
 pub fn put_decimal(out: &mut [u8], at: usize, n: u64) -> usize
     requires { ⌜ at ≤ limit ⌝ }
     ensures { λ r. ⌜ Put (decimal n) (now (out .entry)) at (now (out .exit)) r ⌝ }

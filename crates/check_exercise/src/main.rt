@@ -1,7 +1,7 @@
 // Reads table.txt, source.usfm and nodes.bin of the current folder, checks them and writes the listing.
 use libc::STDOUT_FILENO;
-use messages::Asked;
-use messages::Told;
+use messages::MessageAnswer;
+use messages::MessageRequest;
 use validate::Answer;
 use validate::InputCheck;
 use validate::Report;
@@ -59,26 +59,26 @@ fn read(path: &[u8], file: &mut [u8]) -> usize
     n
 }
 
-// What was laid at the list's start, up to a place.
+// Writes a list up to a place, where its text ends, to standard output.
 fn write(out: &[u8], end: usize) {
     if end <= out.len() {
         io::write_all(STDOUT_FILENO, &out[..end]);
     }
 }
 
-fn tell_too_large() {
+fn write_too_large() {
     let mut out = [0u8; 64];
     let end = listing::put_too_large(&mut out, 0);
     write(&out, end);
 }
 
-fn tell_refused(number: u64, place: u64) {
+fn write_refused(number: u64, place: u64) {
     let mut out = [0u8; 128];
     let end = listing::put_refused(&mut out, 0, number, place);
     write(&out, end);
 }
 
-fn tell_counts(r: Report) {
+fn write_counts(r: Report) {
     let mut out = [0u8; 256];
     let end = listing::put_checked(&mut out, 0, r.errors, r.warnings, r.infos, r.total);
     write(&out, end);
@@ -89,13 +89,13 @@ fn at(list: &[u32], i: usize) -> u64 {
     if i < list.len() { list[i] as u64 } else { 0 }
 }
 
-// The text that was laid; one that doesn't fit is shown as empty.
-fn shown(told: Told, text: &[u8]) -> &[u8]
+// The text that was written; one that doesn't fit is shown as empty.
+fn shown(answer: MessageAnswer, text: &[u8]) -> &[u8]
     ensures { λ r. ⌜ length (now r) ≤ length (now (text .entry)) ⌝ }
 {
-    match told {
-        Told::Laid(n) => first(text, n),
-        Told::Refused(_, _) => first(text, 0),
+    match answer {
+        MessageAnswer::Written(n) => first(text, n),
+        MessageAnswer::Refused(_, _) => first(text, 0),
     }
 }
 
@@ -109,8 +109,8 @@ fn first(text: &[u8], n: usize) -> &[u8]
     &text[..n]
 }
 
-// The lines of one finding, its eight words.
-fn tell_finding<'a>(
+// Writes the lines of one finding, given by its eight words.
+fn write_finding<'a>(
     table: &'a [u8],
     index: &[u64],
     entries: usize,
@@ -124,18 +124,18 @@ fn tell_finding<'a>(
 )
     requires { ⌜ (Indexed (now table) (now index) entries) × (Accepted (now source) (now tape)) × (length (now source) ≤ 1048576) × (8 ≤ length (now f)) × (length (now text) ≤ 1048576) ⌝ }
 {
-    let q = Asked {
+    let q = MessageRequest {
         code: f[1],
         form: f[5],
         node: f[4],
         first: f[6],
         second: f[7],
     };
-    let told = messages::message_in(table, index, entries, source, tape, q, text);
+    let answer = messages::message_in(table, index, entries, source, tape, q, text);
     let start = f[2] as usize;
     let line = at(lines, start);
     let column = at(columns, start);
-    let end = listing::put_finding(out, 0, f[0], f[1], line, column, shown(told, text));
+    let end = listing::put_finding(out, 0, f[0], f[1], line, column, shown(answer, text));
     write(out, end);
 }
 
@@ -150,8 +150,8 @@ fn held(list: &[u64], written: usize) -> usize
     }
 }
 
-// The held findings, one after the other.
-fn tell_findings<'a>(
+// Writes the lines of the held findings.
+fn write_findings<'a>(
     table: &'a [u8],
     index: &[u64],
     entries: usize,
@@ -171,7 +171,7 @@ fn tell_findings<'a>(
     let mut k: usize = 0;
     while k < n {
         let from = 8 * k;
-        tell_finding(
+        write_finding(
             table,
             index,
             entries,
@@ -187,11 +187,11 @@ fn tell_findings<'a>(
     }
 }
 
-// The counts, and the held findings.
-fn tell_checked<'a>(table: &'a [u8], source: &'a [u8], tape: &[u8], r: Report, list: &[u64])
+// Writes the counts and the lines of the held findings.
+fn write_checked<'a>(table: &'a [u8], source: &'a [u8], tape: &[u8], r: Report, list: &[u64])
     requires { ⌜ length (now source) ≤ 65536 ⌝ }
 {
-    tell_counts(r);
+    write_counts(r);
     let mut index = [0u64; 512];
     let InputCheck::Accepted(entries) = validate::check_input(
         table,
@@ -203,7 +203,7 @@ fn tell_checked<'a>(table: &'a [u8], source: &'a [u8], tape: &[u8], r: Report, l
     ) else {
         return;
     };
-    tell_findings(
+    write_findings(
         table,
         &index,
         entries,
@@ -221,9 +221,9 @@ fn exercise<'a>(table: &'a [u8], source: &'a [u8], tape: &[u8])
     let mut opens = words();
     let mut list = words();
     match by_words::check_words(table, source, tape, &mut seen, &mut opens, &mut list) {
-        Answer::Refused(number, place) => tell_refused(number, place),
-        Answer::Checked(r) => tell_checked(table, source, tape, r, &list),
-        Answer::Cut(r) => tell_checked(table, source, tape, r, &list),
+        Answer::Refused(number, place) => write_refused(number, place),
+        Answer::Checked(r) => write_checked(table, source, tape, r, &list),
+        Answer::Cut(r) => write_checked(table, source, tape, r, &list),
     }
 }
 
@@ -235,15 +235,15 @@ fn main() {
     let b = read(b"source.usfm", &mut source);
     let c = read(b"nodes.bin", &mut nodes);
     if 65536 < a {
-        tell_too_large();
+        write_too_large();
         return;
     }
     if 65536 < b {
-        tell_too_large();
+        write_too_large();
         return;
     }
     if 65536 < c {
-        tell_too_large();
+        write_too_large();
         return;
     }
     exercise(&table[..a], &source[..b], &nodes[..c]);

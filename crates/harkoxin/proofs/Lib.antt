@@ -1,6 +1,6 @@
 pub mod Reporting
-pub mod CallLayAnswer
-pub mod CallTellHeld
-pub mod CallLayTurned
+pub mod CallWriteAnswer
+pub mod CallWriteHeld
+pub mod CallWriteTurnedBack
 pub mod CallHarkoxinCheck
 pub mod CallHarkoxinReport

@@ -1,4 +1,4 @@
--- Both answers of a report, one behind the other, and what is told of the findings that a check wrote.
+-- Both answers of a report, one behind the other, and the texts of the findings that a check wrote.
 -- Assumes nothing.
 use Prim.Native.Nat.{ℕ, _+_, _*_, _/_, _≤_}
 use mathlib.Core.Path.{_≡_, refl, sym, ap, _∙_}
@@ -21,19 +21,19 @@ use Rattle.validate.specs.Entry.{checkRefusal, fromTable, lent}
 use Rattle.validate.specs.declared.InputCheck.{InputCheck}
 use Rattle.validate.specs.declared.InputCheck.the-variants as input
 use Rattle.validate.proofs.Whole.{refusal-is}
-use Rattle.messages.specs.Told.{firstNine}
+use Rattle.messages.specs.Answer.{firstNine}
 use Rattle.messages.proofs.Nine.{nine-none, is-accepted, is-short}
 use Rattle.messages.specs.Messages.{textsOf, joined, endsFrom}
-use Rattle.harkoxin.specs.Words.{answerWords, textsWords}
-use Rattle.harkoxin.specs.Report.{heldOf, heldIn, toldHeld, turnedWords, reportTold, reportText, reportEnds}
+use Rattle.harkoxin.specs.Words.{answerWords, messagesWords}
+use Rattle.harkoxin.specs.Report.{heldOf, heldIn, heldAnswer, turnedWords, reportAnswer, reportText, reportEnds}
 use Rattle.text.specs.Pick.{pick}
 
 pub nine-words : (a : Answer) → length (answerWords a) ≡ 9
 nine-words (refused r) = refl
 nine-words (checked c) = refl
 
-pub both-laid : (out out₁ out₂ xs ys : List ℕ) → length xs ≡ 9 → out₁ ≡ over out 0 xs → out₂ ≡ over out₁ 9 ys → out₂ ≡ over out 0 (xs ++ ys)
-both-laid out out₁ out₂ xs ys n e f =
+pub both-written : (out out₁ out₂ xs ys : List ℕ) → length xs ≡ 9 → out₁ ≡ over out 0 xs → out₂ ≡ over out₁ 9 ys → out₂ ≡ over out 0 (xs ++ ys)
+both-written out out₁ out₂ xs ys n e f =
     let k : 0 + length xs ≡ 9 = zero-add (length xs) ∙ n in
     f ∙ rw (e, ← k) (over-over out 0 xs ys)
 
@@ -46,7 +46,7 @@ module _ (table s t seen : List ℕ) (opens : List OpenStart) (l : List ℕ) whe
     turned : refusal it ≡ refuse x y
     turned = sym (refusal-is table s t seen opens l) ∙ sym (says ∙ rw (a-is, b-is)) ∙ ap checkRefusal e
 
-    pub turned-words : (out out₁ : List ℕ) (n : ℕ) → out₁ ≡ over out 0 (turnedWords x y) → out₁ ≡ over out 0 (answerWords (answer it) ++ textsWords (reportTold it n))
+    pub turned-words : (out out₁ : List ℕ) (n : ℕ) → out₁ ≡ over out 0 (turnedWords x y) → out₁ ≡ over out 0 (answerWords (answer it) ++ messagesWords (reportAnswer it n))
     turned-words out out₁ n h = h ∙ rw turned
 
     pub turned-text : (text : List ℕ) → text ≡ reportText it text
@@ -64,19 +64,19 @@ module _ (table s t seen : List ℕ) (opens : List OpenStart) (l : List ℕ) whe
     nine = nine-none it nothing
 
     module _ (a : Answer) (a-is : a ≡ answer it) (l₁ : List ℕ) (l-is : l₁ ≡ listAfter it) where
-      pub held-asks : (words : List ℕ) (entries : ℕ) → Indexed table words entries → length l₁ ≡ length l → (Indexed table words entries) × (Accepted s t) × (length s ≤ 1048576) × (8 * heldOf a ≤ length l₁)
+      pub held-requires : (words : List ℕ) (entries : ℕ) → Indexed table words entries → length l₁ ≡ length l → (Indexed table words entries) × (Accepted s t) × (length s ≤ 1048576) × (8 * heldOf a ≤ length l₁)
       unfolding checkedOf
-      held-asks words entries i e = (i, is-accepted table s t nine, is-short table s t nine, rw (a-is, nothing, e) (go (length (listOf it)) (ltb (length (listOf it)) (length l / 8)) refl))
+      held-requires words entries i e = (i, is-accepted table s t nine, is-short table s t nine, rw (a-is, nothing, e) (go (length (listOf it)) (ltb (length (listOf it)) (length l / 8)) refl))
         where
           go : (n : ℕ) (b : Bool) → ltb n (length l / 8) ≡ b → 8 * pick b n (length l / 8) ≤ length l
           go n true h = omega (arith, ltb-true n (length l / 8) h)
           go n false h = omega arith
 
-      pub told-words : (out out₁ : List ℕ) (n : ℕ) → out₁ ≡ over out 0 (answerWords a ++ textsWords (toldHeld table s t (heldIn a l₁) n)) → out₁ ≡ over out 0 (answerWords (answer it) ++ textsWords (reportTold it n))
-      told-words out out₁ n h = h ∙ rw (a-is, l-is, nothing, nine)
+      pub held-words : (out out₁ : List ℕ) (n : ℕ) → out₁ ≡ over out 0 (answerWords a ++ messagesWords (heldAnswer table s t (heldIn a l₁) n)) → out₁ ≡ over out 0 (answerWords (answer it) ++ messagesWords (reportAnswer it n))
+      held-words out out₁ n h = h ∙ rw (a-is, l-is, nothing, nine)
 
-      pub told-text : (text text₁ : List ℕ) → text₁ ≡ over text 0 (joined (textsOf table s t (heldIn a l₁) (length text))) → text₁ ≡ reportText it text
-      told-text text text₁ h = h ∙ rw (a-is, l-is, nothing, nine)
+      pub held-text : (text text₁ : List ℕ) → text₁ ≡ over text 0 (joined (textsOf table s t (heldIn a l₁) (length text))) → text₁ ≡ reportText it text
+      held-text text text₁ h = h ∙ rw (a-is, l-is, nothing, nine)
 
-      pub told-ends : (n : ℕ) (ends ends₁ : List ℕ) → ends₁ ≡ over ends 0 (endsFrom 0 (textsOf table s t (heldIn a l₁) n)) → ends₁ ≡ reportEnds it n ends
-      told-ends n ends ends₁ h = h ∙ rw (a-is, l-is, nothing, nine)
+      pub held-ends : (n : ℕ) (ends ends₁ : List ℕ) → ends₁ ≡ over ends 0 (endsFrom 0 (textsOf table s t (heldIn a l₁) n)) → ends₁ ≡ reportEnds it n ends
+      held-ends n ends ends₁ h = h ∙ rw (a-is, l-is, nothing, nine)

@@ -5,8 +5,8 @@ use mathlib.Core.List.{List, [], _∷_}
 use mathlib.Core.Option.{Option, some, none}
 use Rattle.refusals.specs.Refusal.{Refusal}
 use Rattle.definition.specs.Outcome.{Answer, Checked, refused, checked}
-use Rattle.messages.specs.Told as message
-use Rattle.messages.specs.Messages as texts
+use Rattle.messages.specs.Answer as message
+use Rattle.messages.specs.Messages as messages
 
 abbrev pub reportWords : ℕ → ℕ → ℕ → ℕ → ℕ → ℕ → ℕ → List ℕ
 reportWords verdict total written verses errors warnings infos =
@@ -25,17 +25,17 @@ answerWords (refused r) = refusalWords (r .number) (r .place)
 answerWords (checked c) =
     reportWords (verdictOf (c .cut)) (c .total) (c .written) (c .verses) (c .errors) (c .warnings) (c .infos)
 
--- the verdict (0 told, 2 refused), a refusal's number and place, and the text's length
-abbrev pub messageWords : message.Told → List ℕ
+-- the verdict (0 written, 2 refused), a refusal's number and place, and the text's length
+abbrev pub messageWords : message.Answer → List ℕ
 messageWords (message.refused r) = 2 ∷ r .number ∷ r .place ∷ 0 ∷ []
-messageWords (message.laid n) = 0 ∷ 0 ∷ 0 ∷ n ∷ []
+messageWords (message.written n) = 0 ∷ 0 ∷ 0 ∷ n ∷ []
 
--- the verdict (0 all told, 1 stopped, 2 refused), number and place of a refusal or of what turns the next text back, the records
--- whose texts are laid and the bytes that they take
-abbrev pub textsWords : texts.Told → List ℕ
-textsWords (texts.refused r) = 2 ∷ r .number ∷ r .place ∷ 0 ∷ 0 ∷ []
-textsWords (texts.all records bytes) = 0 ∷ 0 ∷ 0 ∷ records ∷ bytes ∷ []
-textsWords (texts.stopped records bytes r) = 1 ∷ r .number ∷ r .place ∷ records ∷ bytes ∷ []
+-- the verdict (0 all written, 1 stopped, 2 refused), number and place of a refusal or of what turns the next text back, the records
+-- whose texts are written and the bytes that they take
+abbrev pub messagesWords : messages.MessagesAnswer → List ℕ
+messagesWords (messages.refused r) = 2 ∷ r .number ∷ r .place ∷ 0 ∷ 0 ∷ []
+messagesWords (messages.all records bytes) = 0 ∷ 0 ∷ 0 ∷ records ∷ bytes ∷ []
+messagesWords (messages.stopped records bytes r) = 1 ∷ r .number ∷ r .place ∷ records ∷ bytes ∷ []
 
 -- the verdict (0 counted, 2 refused), a refusal's number and place
 abbrev pub tallyWords : Option Refusal → List ℕ

@@ -1,4 +1,4 @@
--- Line and column of every place, told in two lists.
+-- Line and column of every place, written to two lists.
 -- Assumes nothing.
 use Prim.Native.Nat.{ℕ, zero, suc, _+_, _-_, _<_, _≤_}
 use native.Mathlib.Omega.{arith}
@@ -20,19 +20,19 @@ place-on p [] i h = absurd (omega arith)
 place-on p (b ∷ s) zero h = refl
 place-on p (b ∷ s) (suc i) h = place-on (afterByte b p) s i (omega arith)
 
--- what is left to tell of the first n places gives what the whole gives
-pub record Told (f : ℕ → ℕ) (n : ℕ) (l₀ l : List ℕ) (i : ℕ) : Type 0 where
+-- what is left to write of the first n places gives what the whole gives
+pub record WritingEach (f : ℕ → ℕ) (n : ℕ) (l₀ l : List ℕ) (i : ℕ) : Type 0 where
   pub whole : over l i (eachFrom f i (n - i)) ≡ over l₀ 0 (eachFrom f 0 n)
   pub same : length l ≡ length l₀
 
 module _ (f : ℕ → ℕ) (n : ℕ) (l₀ : List ℕ) where
-  told-start : Told f n l₀ l₀ 0
-  told-start = let e : n - 0 ≡ n = omega arith in record { whole = rw e; same = refl }
+  writing-start : WritingEach f n l₀ l₀ 0
+  writing-start = let e : n - 0 ≡ n = omega arith in record { whole = rw e; same = refl }
 
-  module _ (l : List ℕ) (i : ℕ) (t : Told f n l₀ l i) where
-    told-on : i < n → n ≤ length l₀ → Told f n l₀ (set l i (f i)) (i + 1)
+  module _ (l : List ℕ) (i : ℕ) (t : WritingEach f n l₀ l i) where
+    writing-on : i < n → n ≤ length l₀ → WritingEach f n l₀ (set l i (f i)) (i + 1)
     unfolding eachFrom
-    told-on h k =
+    writing-on h k =
         let e : n - i ≡ suc (n - (i + 1)) = omega arith in
         let room : i < length l = rw (t .same) (omega arith) in
         record {
@@ -40,37 +40,37 @@ module _ (f : ℕ → ℕ) (n : ℕ) (l₀ : List ℕ) where
           same = length-set l i (f i) ∙ t .same;
         }
 
-    told-all : n ≤ i → l ≡ over l₀ 0 (eachFrom f 0 n)
+    writing-all : n ≤ i → l ≡ over l₀ 0 (eachFrom f 0 n)
     unfolding eachFrom
-    told-all h =
+    writing-all h =
         let e : n - i ≡ 0 = omega arith in
         sym (over-none l i) ∙ rw e at (t .whole)
 
--- the places before one are told, and line and column are those of that place
+-- the places before one are written, and line and column are those of that place
 pub record Marking (s l₀ m₀ l m : List ℕ) (line column i : ℕ) : Type 0 where
   pub left : i ≤ length s
   pub is : placeOf s i ≡ record { line = line; column = column }
   pub low : line ≤ i + 1
   pub near : column ≤ i + 1
-  pub lines : Told (λ k. placeOf s k .line) (length s + 1) l₀ l i
-  pub columns : Told (λ k. placeOf s k .column) (length s + 1) m₀ m i
+  pub lines : WritingEach (λ k. placeOf s k .line) (length s + 1) l₀ l i
+  pub columns : WritingEach (λ k. placeOf s k .column) (length s + 1) m₀ m i
 
 pub marking-start : (s l m : List ℕ) → Marking s l m l m 1 1 0
 unfolding placeFrom
-marking-start s l m = record { left = omega arith; is = refl; low = omega arith; near = omega arith; lines = told-start _ _ _; columns = told-start _ _ _ }
+marking-start s l m = record { left = omega arith; is = refl; low = omega arith; near = omega arith; lines = writing-start _ _ _; columns = writing-start _ _ _ }
 
 module _ (s l₀ m₀ l m : List ℕ) (line column i : ℕ) (y : Marking s l₀ m₀ l m line column i) (h : length s < length l₀) (k : length s < length m₀) where
-  told-line : Told (λ k. placeOf s k .line) (length s + 1) l₀ (set l i line) (i + 1)
-  told-line =
+  writing-line : WritingEach (λ k. placeOf s k .line) (length s + 1) l₀ (set l i line) (i + 1)
+  writing-line =
       let v = y .left in
       let e : placeOf s i .line ≡ line = ap (λ (p : Place). p .line) (y .is) in
-      rw e at (told-on _ _ _ l i (y .lines) (omega arith) (omega arith))
+      rw e at (writing-on _ _ _ l i (y .lines) (omega arith) (omega arith))
 
-  told-column : Told (λ k. placeOf s k .column) (length s + 1) m₀ (set m i column) (i + 1)
-  told-column =
+  writing-column : WritingEach (λ k. placeOf s k .column) (length s + 1) m₀ (set m i column) (i + 1)
+  writing-column =
       let v = y .left in
       let e : placeOf s i .column ≡ column = ap (λ (p : Place). p .column) (y .is) in
-      rw e at (told-on _ _ _ m i (y .columns) (omega arith) (omega arith))
+      rw e at (writing-on _ _ _ m i (y .columns) (omega arith) (omega arith))
 
   next : i < length s → placeOf s (i + 1) ≡ afterByte (getD s i 0) (record { line = line; column = column })
   next g = rw (add-one i, place-on (record { line = 1; column = 1 }) s i g, y .is)
@@ -78,20 +78,20 @@ module _ (s l₀ m₀ l m : List ℕ) (line column i : ℕ) (y : Marking s l₀ 
   pub marking-break : i < length s → getD s i 0 ≡ 10 → Marking s l₀ m₀ (set l i line) (set m i column) (line + 1) 1 (i + 1)
   marking-break g e =
       let v = y .low in
-      record { left = omega arith; is = next g ∙ rw (eq-eqb (getD s i 0) 10 e); low = omega arith; near = omega arith; lines = told-line; columns = told-column }
+      record { left = omega arith; is = next g ∙ rw (eq-eqb (getD s i 0) 10 e); low = omega arith; near = omega arith; lines = writing-line; columns = writing-column }
 
   pub marking-byte : i < length s → (getD s i 0 ≡ 10 → ⊥) → Marking s l₀ m₀ (set l i line) (set m i column) line (column + 1) (i + 1)
   marking-byte g e =
       let v = y .low in
       let w = y .near in
-      record { left = omega arith; is = next g ∙ rw (ne-eqb (getD s i 0) 10 e); low = omega arith; near = omega arith; lines = told-line; columns = told-column }
+      record { left = omega arith; is = next g ∙ rw (ne-eqb (getD s i 0) 10 e); low = omega arith; near = omega arith; lines = writing-line; columns = writing-column }
 
   module _ (g : length s ≤ i) where
     pub lines-marked : set l i line ≡ over l₀ 0 (linesFrom s 0 (length s + 1))
-    lines-marked = told-all _ _ _ _ (i + 1) told-line (omega arith)
+    lines-marked = writing-all _ _ _ _ (i + 1) writing-line (omega arith)
 
     pub columns-marked : set m i column ≡ over m₀ 0 (columnsFrom s 0 (length s + 1))
-    columns-marked = told-all _ _ _ _ (i + 1) told-column (omega arith)
+    columns-marked = writing-all _ _ _ _ (i + 1) writing-column (omega arith)
 
 -- an element of a list from its start on, and the i-th of the places from one on
 getD-over : (l w : List ℕ) (i : ℕ) → i < length l → i < length w → getD (over l 0 w) i 0 ≡ getD w i 0

@@ -1,4 +1,4 @@
-// The lines of a listing, each laid over a lent list from a place on, and line and column of every place of a source.
+// Writes the lines of a listing, each over a lent list from a place on, and line and column of every place of a source.
 ghost use Prim.Native.Nat.{_+_, _*_, _≤_, _<_};
 ghost use mathlib.Core.Path.{_≡_};
 ghost use lib.ListN.{length, drop};
@@ -25,7 +25,7 @@ const CODE_NAMES: [u8; 667] =
     ImplicitClose\nUnclosedNote\nUnclosedAtEof\nDefaultAttributeNotDefined\n\
     MisplacedNumberMarker\nMissingSpaceBeforeNumber\n";
 
-// Lays a key, `=`, a value and byte 10.
+// Writes a key, `=`, a value and byte 10.
 fn put_line(out: &mut [u8], at: usize, key: &[u8], value: &[u8]) -> usize
     requires { ⌜ (at ≤ 2 * farthest) × (length (now key) ≤ 8) × (length (now value) ≤ farthest) ⌝ }
     ensures { λ r. ⌜ Put (lineOf (now (key .entry)) (now (value .entry))) (now (out .entry)) at (now (out .exit)) r ⌝ }
@@ -36,7 +36,7 @@ fn put_line(out: &mut [u8], at: usize, key: &[u8], value: &[u8]) -> usize
     put(out, to, b"\n")
 }
 
-// Lays a line whose value is a number in decimal digits.
+// Writes a line whose value is a number in decimal digits.
 fn put_count(out: &mut [u8], at: usize, key: &[u8], n: u64) -> usize
     requires { ⌜ (at ≤ 2 * farthest) × (length (now key) ≤ 8) ⌝ }
     ensures { λ r. ⌜ Near (lineOf (now (key .entry)) (decimal n)) (now (out .entry)) at (now (out .exit)) r ⌝ }
@@ -72,7 +72,7 @@ fn word<'a>(words: &'a [u8], k: u64) -> &'a [u8]
     &rest[..n]
 }
 
-// Lays a line whose value is the k-th of some names; its value is empty past the last.
+// Writes a line whose value is the k-th of some names; its value is empty past the last.
 fn put_named(out: &mut [u8], at: usize, key: &[u8], names: &[u8], k: u64) -> usize
     requires { ⌜ (at ≤ 2 * farthest) × (length (now key) ≤ 8) × (length (now names) ≤ 1000) ⌝ }
     ensures { λ r. ⌜ Near (lineOf (now (key .entry)) (nameAt (wordsOf (now (names .entry))) k)) (now (out .entry)) at (now (out .exit)) r ⌝ }

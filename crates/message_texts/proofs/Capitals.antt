@@ -6,7 +6,7 @@ use mathlib.Core.List.{List, [], _∷_}
 use lib.ListN.{length, set, getD}
 use Rattle.text.specs.Pick.{within, pick}
 use Rattle.definition.specs.Checks.{upper}
-use Rattle.buffer.proofs.Laying.{Laying, laying-on}
+use Rattle.buffer.proofs.Writing.{Writing, writing-on}
 
 abbrev pub capitalOf : ℕ → ℕ
 capitalOf b = pick (within 0x61 0x7A b) (b - 32) b
@@ -22,5 +22,5 @@ upper-at [] i = refl
 upper-at (b ∷ s) zero = refl
 upper-at (b ∷ s) (suc i) = upper-at s i
 
-pub capitals-on : (s l₀ : List ℕ) (at : ℕ) (l : List ℕ) (i b : ℕ) → Laying (upper s) l₀ at l i → i < length s → at + i < length l → b ≡ capitalOf (getD s i 0) → Laying (upper s) l₀ at (set l (at + i) b) (i + 1)
-capitals-on s l₀ at l i b y h k e = rw (e, ← upper-at s i) (laying-on (upper s) l₀ at l i y (rw (length-upper s) h) k)
+pub capitals-on : (s l₀ : List ℕ) (at : ℕ) (l : List ℕ) (i b : ℕ) → Writing (upper s) l₀ at l i → i < length s → at + i < length l → b ≡ capitalOf (getD s i 0) → Writing (upper s) l₀ at (set l (at + i) b) (i + 1)
+capitals-on s l₀ at l i b y h k e = rw (e, ← upper-at s i) (writing-on (upper s) l₀ at l i y (rw (length-upper s) h) k)

@@ -9,7 +9,7 @@ use borrow.Author.Tests.{ne-eqb}
 use lib.ListN.{length}
 use Rattle.message_texts.specs.Texts.{Code}
 use Rattle.message_texts.specs.Filled.{Values, filled, filledBy, joined, codeOf, formOf, formIn, textIn}
-use Rattle.message_texts.specs.Inner.{values, LaidAs, LaidFrom, textOf, LaidOf}
+use Rattle.message_texts.specs.Inner.{values, WrittenAs, WrittenFrom, textOf, WrittenOf}
 
 text-before : (ts us : List (List ℕ)) (k : ℕ) → k < length ts → textOf (ts ++ us) k ≡ textOf ts k
 unfolding textOf
@@ -29,20 +29,20 @@ text-lacks [] k h = refl
 text-lacks (t ∷ ts) zero h = absurd (omega arith)
 text-lacks (t ∷ ts) (suc k) h = text-lacks ts k (omega arith)
 
--- what is laid of the first texts, or of the others, is laid of all
+-- a text that is written of the first ones, or of the others, is written of all
 module _ {form : ℕ} {a b c l l′ : List ℕ} {r : ℕ} where
-  pub laid-before : (ts us : List (List ℕ)) → form < length ts → LaidOf ts form a b c l l′ r → LaidOf (ts ++ us) form a b c l l′ r
-  laid-before ts us h y = record { laid-as = rw (text-before ts us form h) (y .laid-as) }
+  pub written-before : (ts us : List (List ℕ)) → form < length ts → WrittenOf ts form a b c l l′ r → WrittenOf (ts ++ us) form a b c l l′ r
+  written-before ts us h y = record { written-as = rw (text-before ts us form h) (y .written-as) }
 
-  pub laid-behind : (ts us : List (List ℕ)) → length ts ≤ form → LaidOf us (form - length ts) a b c l l′ r → LaidOf (ts ++ us) form a b c l l′ r
-  laid-behind ts us h y = record { laid-as = rw (text-behind ts us form h) (y .laid-as) }
+  pub written-behind : (ts us : List (List ℕ)) → length ts ≤ form → WrittenOf us (form - length ts) a b c l l′ r → WrittenOf (ts ++ us) form a b c l l′ r
+  written-behind ts us h y = record { written-as = rw (text-behind ts us form h) (y .written-as) }
 
-pub laid-first : {form : ℕ} {a b c l l′ : List ℕ} {r : ℕ} (t : List ℕ) → form ≡ 0 → LaidAs (some (filled t (values a b c))) l l′ r → LaidOf (t ∷ []) form a b c l l′ r
+pub written-first : {form : ℕ} {a b c l l′ : List ℕ} {r : ℕ} (t : List ℕ) → form ≡ 0 → WrittenAs (some (filled t (values a b c))) l l′ r → WrittenOf (t ∷ []) form a b c l l′ r
 unfolding textOf
-laid-first t e y = rw e (record { laid-as = y })
+written-first t e y = rw e (record { written-as = y })
 
-pub laid-none : {form : ℕ} {a b c l : List ℕ} (ts : List (List ℕ)) → length ts ≤ form → LaidOf ts form a b c l l 0
-laid-none {form} ts h = record { laid-as = rw (text-lacks ts form h) (record { answer-is = refl; list-is = refl }) }
+pub written-none : {form : ℕ} {a b c l : List ℕ} (ts : List (List ℕ)) → length ts ≤ form → WrittenOf ts form a b c l l 0
+written-none {form} ts h = record { written-as = rw (text-lacks ts form h) (record { answer-is = refl; list-is = refl }) }
 
 -- a code's texts, each in one piece
 unfoldable pub pieces : List (List (List ℕ)) → List (List ℕ)
@@ -64,28 +64,28 @@ unfolding textOf
 text-is none form = refl
 text-is (some x) form = form-is (x .forms) form
 
--- the code is n, whose texts are laid
-pub laid-at : {form code n : ℕ} {a b c l l′ : List ℕ} {r : ℕ} (cs : List Code) → code ≡ n → LaidOf (textsOf (codeOf cs n)) form a b c l l′ r → LaidFrom cs code form a b c l l′ r
-laid-at {form} {n = n} cs e y = rw (e, text-is (codeOf cs n) form) (y .laid-as)
+-- the code is n: one of its texts is written
+pub written-at : {form code n : ℕ} {a b c l l′ : List ℕ} {r : ℕ} (cs : List Code) → code ≡ n → WrittenOf (textsOf (codeOf cs n)) form a b c l l′ r → WrittenFrom cs code form a b c l l′ r
+written-at {form} {n = n} cs e y = rw (e, text-is (codeOf cs n) form) (y .written-as)
 
--- the code is none of these, as an arm for any other code is told
+-- the code is none of these: what the arm for any other code knows, behind what is known before
 abbrev pub Other : Type 0 → List Code → ℕ → Type 0
 Other N [] n = N
 Other N (x ∷ cs) n = Other (N × (n ≡ x .code → ⊥)) cs n
 
-told : (N : Type 0) (cs : List Code) (n : ℕ) → Other N cs n → N
-told N [] n o = o
-told N (x ∷ cs) n o = told (N × (n ≡ x .code → ⊥)) cs n o .0
+known : (N : Type 0) (cs : List Code) (n : ℕ) → Other N cs n → N
+known N [] n o = o
+known N (x ∷ cs) n o = known (N × (n ≡ x .code → ⊥)) cs n o .0
 
 code-past : (N : Type 0) (cs rest : List Code) (n : ℕ) → Other N cs n → codeOf (cs ++ rest) n ≡ codeOf rest n
 unfolding codeOf
 code-past N [] rest n o = refl
-code-past N (x ∷ cs) rest n o = rw (ne-eqb (x .code) n (λ e. told (N × (n ≡ x .code → ⊥)) cs n o .1 (sym e))) (code-past (N × (n ≡ x .code → ⊥)) cs rest n o)
+code-past N (x ∷ cs) rest n o = rw (ne-eqb (x .code) n (λ e. known (N × (n ≡ x .code → ⊥)) cs n o .1 (sym e))) (code-past (N × (n ≡ x .code → ⊥)) cs rest n o)
 
 module _ (N : Type 0) (cs : List Code) (code form : ℕ) (v : Option Values) (o : Other N cs code) where
-  pub laid-past : {l l′ : List ℕ} {r : ℕ} (rest : List Code) → LaidAs (filledBy (textIn rest code form) v) l l′ r → LaidAs (filledBy (textIn (cs ++ rest) code form) v) l l′ r
-  laid-past rest y = rw (code-past N cs rest code o) y
+  pub written-past : {l l′ : List ℕ} {r : ℕ} (rest : List Code) → WrittenAs (filledBy (textIn rest code form) v) l l′ r → WrittenAs (filledBy (textIn (cs ++ rest) code form) v) l l′ r
+  written-past rest y = rw (code-past N cs rest code o) y
 
-  pub laid-not : (l : List ℕ) → LaidAs (filledBy (textIn (cs ++ []) code form) v) l l 0
+  pub written-not : (l : List ℕ) → WrittenAs (filledBy (textIn (cs ++ []) code form) v) l l 0
   unfolding codeOf
-  laid-not l = laid-past [] (record { answer-is = refl; list-is = refl })
+  written-not l = written-past [] (record { answer-is = refl; list-is = refl })

@@ -1,4 +1,4 @@
--- A text laid run by run, its values in their places.
+-- A text written run by run, its values in their places.
 -- Assumes nothing.
 use Prim.Native.Nat.{ℕ, zero, suc, _+_, _-_, _*_, _<_, _≤_}
 use native.Mathlib.Decide.{decLt}
@@ -41,7 +41,7 @@ module _ (a b c : List ℕ) (m : ℕ) (h : 1 ≤ m) (x : length a ≤ m) (y : le
 pub filled-room : (text a b c : List ℕ) → length (filled text (values a b c)) ≤ length text * (1 + length a + length b + length c)
 filled-room text a b c = filled-within a b c (1 + length a + length b + length c) (omega arith) (omega arith) (omega arith) (omega arith) text
 
--- bytes that stand for no value are laid as they are
+-- bytes that stand for no value are written as they are
 run-here : (n : ℕ) (s : List ℕ) (v : Values) → n ≤ length s → ((k : ℕ) → k < n → 5 ≤ getD s k 0) → filled s v ≡ take n s ++ filled (drop n s) v
 unfolding filled
 run-here zero s v h above = refl
@@ -79,7 +79,7 @@ pub filling-start : (text : List ℕ) (v : Values) (l : List ℕ) → Filling te
 filling-start text v l = record { left = omega arith; whole = refl; ending = zero-add (length (filled text v)); same = refl }
 
 module _ (text a b c l₀ l : List ℕ) (at i : ℕ) (y : Filling text (values a b c) l₀ l at i) (l′ : List ℕ) (r : ℕ) (e : length l′ ≡ length l) where
-  -- bytes that the text gives from a place up to another are laid
+  -- bytes that the text gives from a place up to another are written
   filling-by : (s : List ℕ) (j : ℕ) → j ≤ length text → filled (drop i text) (values a b c) ≡ s ++ filled (drop j text) (values a b c) → Put s l at l′ r → Filling text (values a b c) l₀ l′ r j
   filling-by s j k here p =
       let rest = filled (drop j text) (values a b c) in

@@ -11,7 +11,7 @@ use lib.ListN.{length}
 use Rattle.buffer.specs.Over.{Put}
 use Rattle.buffer.proofs.Over.{over-past}
 use Rattle.message_texts.specs.Filled.{filled}
-use Rattle.message_texts.specs.Inner.{values, Short, LaidAs}
+use Rattle.message_texts.specs.Inner.{values, Short, WrittenAs}
 use Rattle.message_texts.proofs.Filling.{filled-room}
 
 pub put-length : {s l l′ : List ℕ} {n : ℕ} → Put s l 0 l′ n → n ≡ length s
@@ -25,18 +25,18 @@ module _ (text a b c : List ℕ) (h : length text ≤ 256) (short : Short a b c)
   pub one-more : (n : ℕ) → n ≡ length (filled text (values a b c)) → n + 1 < 2 ^ 64
   one-more n e = omega (arith, e, filled-room text a b c, most)
 
--- a text that was laid over the empty start of a list, which is then as it was
-module _ (s l none-laid : List ℕ) (n : ℕ) (p : Put s [] 0 none-laid n) where
-  pub none-before : none-laid ++ l ≡ l
+-- a text that was written over the empty start of a list, which is then as it was
+module _ (s l none-written : List ℕ) (n : ℕ) (p : Put s [] 0 none-written n) where
+  pub none-before : none-written ++ l ≡ l
   none-before = ap (_++ l) (p .list ∙ over-past [] 0 s (omega arith))
 
-  pub has-room : n ≤ length (none-laid ++ l) → length s ≤ length l
+  pub has-room : n ≤ length (none-written ++ l) → length s ≤ length l
   has-room h = omega (arith, put-length p, ap length none-before)
 
-  pub laid-short : length (none-laid ++ l) < n → LaidAs (some s) l (none-laid ++ l) (n + 1)
-  laid-short h =
+  pub written-short : length (none-written ++ l) < n → WrittenAs (some s) l (none-written ++ l) (n + 1)
+  written-short h =
       let k : length l < length s = omega (arith, put-length p, ap length none-before) in
       rw (none-before, put-length p) (record { answer-is = refl; list-is = rw (lt-ltb (length l) (length s) k) })
 
-pub laid-long : (s l l′ : List ℕ) (n : ℕ) → length s ≤ length l → Put s l 0 l′ n → LaidAs (some s) l l′ (n + 1)
-laid-long s l l′ n h p = record { answer-is = rw (put-length p); list-is = rw (le-ltb (length l) (length s) h) (p .list) }
+pub written-long : (s l l′ : List ℕ) (n : ℕ) → length s ≤ length l → Put s l 0 l′ n → WrittenAs (some s) l l′ (n + 1)
+written-long s l l′ n h p = record { answer-is = rw (put-length p); list-is = rw (le-ltb (length l) (length s) h) (p .list) }

@@ -1,4 +1,4 @@
--- What the functions that lay a text promise.
+-- What the functions that write a text promise.
 use Prim.Native.Nat.{ℕ, zero, suc, _+_, _<_, _≤_}
 use mathlib.Core.Path.{_≡_}
 use mathlib.Core.List.{List, [], _∷_}
@@ -30,19 +30,19 @@ abbrev pub lengthBy : Option (List ℕ) → ℕ
 lengthBy none = 0
 lengthBy (some s) = length s + 1
 
--- the list afterwards: with the text laid over its start, if that has room
+-- the list afterwards: with the text written over its start, if that has room
 abbrev pub overBy : Option (List ℕ) → List ℕ → List ℕ
 overBy none l = l
 overBy (some s) l = pick (ltb (length l) (length s)) l (over l 0 s)
 
--- the text is laid over the list, if there is one and it has room
-pub record LaidAs (o : Option (List ℕ)) (l l′ : List ℕ) (r : ℕ) : Type 0 where
+-- the text is written over the list, if there is one and it has room
+pub record WrittenAs (o : Option (List ℕ)) (l l′ : List ℕ) (r : ℕ) : Type 0 where
   pub answer-is : r ≡ lengthBy o
   pub list-is : l′ ≡ overBy o l
 
 -- the text that the code and the form have among these, with the values
-abbrev pub LaidFrom : List Code → ℕ → ℕ → List ℕ → List ℕ → List ℕ → List ℕ → List ℕ → ℕ → Type 0
-LaidFrom cs code form a b c l l′ r = LaidAs (filledBy (textIn cs code form) (some (values a b c))) l l′ r
+abbrev pub WrittenFrom : List Code → ℕ → ℕ → List ℕ → List ℕ → List ℕ → List ℕ → List ℕ → ℕ → Type 0
+WrittenFrom cs code form a b c l l′ r = WrittenAs (filledBy (textIn cs code form) (some (values a b c))) l l′ r
 
 -- of a code's texts in order, that of a form
 unfoldable pub textOf : List (List ℕ) → ℕ → Option (List ℕ)
@@ -51,5 +51,5 @@ textOf (t ∷ ts) zero = some t
 textOf (t ∷ ts) (suc k) = textOf ts k
 
 -- the text that the form has among these, with the values
-pub record LaidOf (ts : List (List ℕ)) (form : ℕ) (a b c l l′ : List ℕ) (r : ℕ) : Type 0 where
-  pub laid-as : LaidAs (filledBy (textOf ts form) (some (values a b c))) l l′ r
+pub record WrittenOf (ts : List (List ℕ)) (form : ℕ) (a b c l l′ : List ℕ) (r : ℕ) : Type 0 where
+  pub written-as : WrittenAs (filledBy (textOf ts form) (some (values a b c))) l l′ r

@@ -1,4 +1,4 @@
-// The texts of findings: the text that a code and a form have, laid over a lent list with its values in their places.
+// The texts of findings: writes the text that a code and a form have over a lent list, its values in their places.
 ghost use mathlib.Core.Path.{_≡_};
 ghost use mathlib.Core.List.{[], _∷_, _++_};
 ghost use mathlib.Core.Option.{some};
@@ -9,7 +9,7 @@ ghost use Rattle.definition.specs.Checks.{upper};
 ghost use Rattle.buffer.specs.Over.{Put, limit};
 ghost use Rattle.message_texts.specs.Texts.{numberTexts, markerTexts, attributeTexts};
 ghost use Rattle.message_texts.specs.Filled.{byteOf, filled, allTexts};
-ghost use Rattle.message_texts.specs.Inner.{values, Short, Plain, LaidAs, LaidFrom, LaidOf};
+ghost use Rattle.message_texts.specs.Inner.{values, Short, Plain, WrittenAs, WrittenFrom, WrittenOf};
 
 fn capital(b: u8) -> u8
     ensures { λ r. ⌜ r ≡ pick (within 0x61 0x7A b) (b - 32) b ⌝ }
@@ -21,7 +21,7 @@ fn capital(b: u8) -> u8
     }
 }
 
-// Lays the bytes with capitals for small letters, and gives the place behind them, whether or not they had room.
+// Writes the bytes with capitals for small letters, and gives the place behind them, whether or not they had room.
 fn put_capitals(out: &mut [u8], at: usize, s: &[u8]) -> usize
     requires { ⌜ (at ≤ limit) × (length (now s) ≤ limit) ⌝ }
     ensures { λ r. ⌜ Put (upper (now (s .entry))) (now (out .entry)) at (now (out .exit)) r ⌝ }
@@ -34,7 +34,7 @@ fn put_capitals(out: &mut [u8], at: usize, s: &[u8]) -> usize
     at + s.len()
 }
 
-// Lays what a byte of a text stands for: 1, 2 and 3 for the values, 4 for the first in capitals, any other for itself.
+// Writes what a byte of a text stands for: 1, 2 and 3 for the values, 4 for the first in capitals, any other for itself.
 fn put_value(n: u8, a: &[u8], b: &[u8], c: &[u8], out: &mut [u8], at: usize) -> usize
     requires { ⌜ (at ≤ limit) × Short (now a) (now b) (now c) ⌝ }
     ensures { λ r. ⌜ Put (byteOf n (values (now (a .entry)) (now (b .entry)) (now (c .entry)))) (now (out .entry)) at (now (out .exit)) r ⌝ }
@@ -63,7 +63,7 @@ fn plain_end(text: &[u8], from: usize) -> usize
     i
 }
 
-// Lays a text with its values in their places, and gives its length. A text is mostly bytes that stand for themselves: each run of them is laid at once. The bounds keep the sum of the lengths in 64 bits.
+// Writes a text with its values in their places, and gives its length. A text is mostly bytes that stand for themselves: each run of them is written at once. The bounds keep the sum of the lengths in 64 bits.
 fn fill(text: &[u8], a: &[u8], b: &[u8], c: &[u8], out: &mut [u8]) -> usize
     requires { ⌜ (length (now text) ≤ 256) × Short (now a) (now b) (now c) ⌝ }
     ensures { λ r. ⌜ Put (filled (now (text .entry)) (values (now (a .entry)) (now (b .entry)) (now (c .entry)))) (now (out .entry)) 0 (now (out .exit)) r ⌝ }
@@ -82,13 +82,13 @@ fn fill(text: &[u8], a: &[u8], b: &[u8], c: &[u8], out: &mut [u8]) -> usize
     at
 }
 
-// The functions from here on lay a text if there is one and it has room, and give one more than its length, or 0 where there is none: a number is
+// The functions from here on write a text if there is one and it has room, and give one more than its length, or 0 where there is none: a number is
 // handed back in a register, where an enum would be copied from function to function.
 
-// Lays a text with its values in their places if it has room. Its length is seldom in doubt: only where the list may be too short is it found first, by laying over no list.
+// Writes a text with its values in their places if it has room. Its length is seldom in doubt: only where the list may be too short is it found first, by writing over no list.
 fn fill_within(text: &[u8], a: &[u8], b: &[u8], c: &[u8], out: &mut [u8]) -> usize
     requires { ⌜ (length (now text) ≤ 256) × Short (now a) (now b) (now c) ⌝ }
-    ensures { λ r. ⌜ LaidAs (some (filled (now (text .entry)) (values (now (a .entry)) (now (b .entry)) (now (c .entry))))) (now (out .entry)) (now (out .exit)) r ⌝ }
+    ensures { λ r. ⌜ WrittenAs (some (filled (now (text .entry)) (values (now (a .entry)) (now (b .entry)) (now (c .entry))))) (now (out .entry)) (now (out .exit)) r ⌝ }
 {
     if out.len() < text.len() * (1 + a.len() + b.len() + c.len()) {
         let n = fill(text, a, b, c, &mut out[..0]);
@@ -102,7 +102,7 @@ fn fill_within(text: &[u8], a: &[u8], b: &[u8], c: &[u8], out: &mut [u8]) -> usi
 // The text of a code that has one form.
 fn one(form: u64, text: &[u8], a: &[u8], b: &[u8], c: &[u8], out: &mut [u8]) -> usize
     requires { ⌜ (length (now text) ≤ 256) × Short (now a) (now b) (now c) ⌝ }
-    ensures { λ r. ⌜ LaidOf (now (text .entry) ∷ []) form (now (a .entry)) (now (b .entry)) (now (c .entry)) (now (out .entry)) (now (out .exit)) r ⌝ }
+    ensures { λ r. ⌜ WrittenOf (now (text .entry) ∷ []) form (now (a .entry)) (now (b .entry)) (now (c .entry)) (now (out .entry)) (now (out .exit)) r ⌝ }
 {
     if form == 0 {
         return fill_within(text, a, b, c, out);
@@ -113,7 +113,7 @@ fn one(form: u64, text: &[u8], a: &[u8], b: &[u8], c: &[u8], out: &mut [u8]) -> 
 // The text of a code that has two.
 fn two(form: u64, text0: &[u8], text1: &[u8], a: &[u8], b: &[u8], c: &[u8], out: &mut [u8]) -> usize
     requires { ⌜ (length (now text0) ≤ 256) × (length (now text1) ≤ 256) × Short (now a) (now b) (now c) ⌝ }
-    ensures { λ r. ⌜ LaidOf (now (text0 .entry) ∷ now (text1 .entry) ∷ []) form (now (a .entry)) (now (b .entry)) (now (c .entry)) (now (out .entry)) (now (out .exit)) r ⌝ }
+    ensures { λ r. ⌜ WrittenOf (now (text0 .entry) ∷ now (text1 .entry) ∷ []) form (now (a .entry)) (now (b .entry)) (now (c .entry)) (now (out .entry)) (now (out .exit)) r ⌝ }
 {
     if form == 0 {
         return one(form, text0, a, b, c, out);
@@ -134,7 +134,7 @@ fn four(
     out: &mut [u8],
 ) -> usize
     requires { ⌜ (length (now text0) ≤ 256) × (length (now text1) ≤ 256) × (length (now text2) ≤ 256) × (length (now text3) ≤ 256) × Short (now a) (now b) (now c) ⌝ }
-    ensures { λ r. ⌜ LaidOf (now (text0 .entry) ∷ now (text1 .entry) ∷ now (text2 .entry) ∷ now (text3 .entry) ∷ []) form (now (a .entry)) (now (b .entry)) (now (c .entry)) (now (out .entry)) (now (out .exit)) r ⌝ }
+    ensures { λ r. ⌜ WrittenOf (now (text0 .entry) ∷ now (text1 .entry) ∷ now (text2 .entry) ∷ now (text3 .entry) ∷ []) form (now (a .entry)) (now (b .entry)) (now (c .entry)) (now (out .entry)) (now (out .exit)) r ⌝ }
 {
     if form < 2 {
         return two(form, text0, text1, a, b, c, out);
@@ -147,27 +147,27 @@ fn four(
 // The codes of the document and its book, else those below.
 fn document_text(code: u64, form: u64, a: &[u8], b: &[u8], c: &[u8], out: &mut [u8]) -> usize
     requires { ⌜ Short (now a) (now b) (now c) ⌝ }
-    ensures { λ r. ⌜ LaidFrom allTexts code form (now (a .entry)) (now (b .entry)) (now (c .entry)) (now (out .entry)) (now (out .exit)) r ⌝ }
+    ensures { λ r. ⌜ WrittenFrom allTexts code form (now (a .entry)) (now (b .entry)) (now (c .entry)) (now (out .entry)) (now (out .exit)) r ⌝ }
 {
     match code {
-        4 => {
+        findings::MISSING_ID_MARKER => {
             let text = *b"document has chapters/verses but no \\id (book) marker";
             one(form, &text, a, b, c, out)
         }
-        5 => {
+        findings::INVALID_BOOK_CODE => {
             let text0 = *b"book code \"\x01\" should be uppercase: \"\x04\"";
             let text1 = *b"\"\x01\" is not a valid USFM book code";
             two(form, &text0, &text1, a, b, c, out)
         }
-        6 => {
+        findings::DUPLICATE_ID => {
             let text = *b"more than one \\id marker";
             one(form, &text, a, b, c, out)
         }
-        7 => {
+        findings::TEXT_BEFORE_ID => {
             let text = *b"text appears before the \\id marker";
             one(form, &text, a, b, c, out)
         }
-        8 => {
+        findings::MISSING_CHAPTER_MARKER => {
             let text = *b"the document has no \\c (chapter) marker";
             one(form, &text, a, b, c, out)
         }
@@ -178,27 +178,27 @@ fn document_text(code: u64, form: u64, a: &[u8], b: &[u8], c: &[u8], out: &mut [
 // Of the codes of chapters and verses the first five, else those below.
 fn number_text(code: u64, form: u64, a: &[u8], b: &[u8], c: &[u8], out: &mut [u8]) -> usize
     requires { ⌜ Short (now a) (now b) (now c) ⌝ }
-    ensures { λ r. ⌜ LaidFrom (numberTexts ++ markerTexts ++ attributeTexts) code form (now (a .entry)) (now (b .entry)) (now (c .entry)) (now (out .entry)) (now (out .exit)) r ⌝ }
+    ensures { λ r. ⌜ WrittenFrom (numberTexts ++ markerTexts ++ attributeTexts) code form (now (a .entry)) (now (b .entry)) (now (c .entry)) (now (out .entry)) (now (out .exit)) r ⌝ }
 {
     match code {
-        9 => {
+        findings::INVALID_CHAPTER_SEQUENCE => {
             let text = *b"expected chapter \x01 but found \x02";
             one(form, &text, a, b, c, out)
         }
-        10 => {
+        findings::DUPLICATE_CHAPTER => {
             let text = *b"chapter \x01 appears more than once";
             one(form, &text, a, b, c, out)
         }
-        11 => {
+        findings::INVALID_VERSE_SEQUENCE => {
             let text = *b"expected verse \x01 but found \x02";
             one(form, &text, a, b, c, out)
         }
-        12 => {
+        findings::VERSE_OUTSIDE_PARAGRAPH => {
             let text =
                 *b"\\v is not inside a body paragraph (e.g. \\c or \\s directly followed by \\v with no \\p)";
             one(form, &text, a, b, c, out)
         }
-        15 => {
+        findings::LEADING_ZEROS => {
             let text0 = *b"chapter number `\x01` has leading zeros";
             let text1 = *b"verse number `\x01` has leading zeros";
             two(form, &text0, &text1, a, b, c, out)
@@ -210,22 +210,22 @@ fn number_text(code: u64, form: u64, a: &[u8], b: &[u8], c: &[u8], out: &mut [u8
 // The others of them, else those below.
 fn more_number_text(code: u64, form: u64, a: &[u8], b: &[u8], c: &[u8], out: &mut [u8]) -> usize
     requires { ⌜ Short (now a) (now b) (now c) ⌝ }
-    ensures { λ r. ⌜ LaidFrom (drop 5 numberTexts ++ markerTexts ++ attributeTexts) code form (now (a .entry)) (now (b .entry)) (now (c .entry)) (now (out .entry)) (now (out .exit)) r ⌝ }
+    ensures { λ r. ⌜ WrittenFrom (drop 5 numberTexts ++ markerTexts ++ attributeTexts) code form (now (a .entry)) (now (b .entry)) (now (c .entry)) (now (out .entry)) (now (out .exit)) r ⌝ }
 {
     match code {
-        18 => {
+        findings::MISSING_CHAPTER_NUMBER => {
             let text = *b"\\c is missing its chapter number";
             one(form, &text, a, b, c, out)
         }
-        19 => {
+        findings::MISSING_VERSE_NUMBER => {
             let text = *b"\\v is missing its verse number";
             one(form, &text, a, b, c, out)
         }
-        20 => {
+        findings::CHAR_CROSSES_VERSE_BOUNDARY => {
             let text = *b"a character marker spans a verse boundary (\\v inside a \\char span)";
             one(form, &text, a, b, c, out)
         }
-        34 => {
+        findings::MISSING_SPACE_BEFORE_NUMBER => {
             let text = *b"\\\x01 needs a space before its number; read as \\\x02 \x03";
             one(form, &text, a, b, c, out)
         }
@@ -236,23 +236,23 @@ fn more_number_text(code: u64, form: u64, a: &[u8], b: &[u8], c: &[u8], out: &mu
 // Of the codes of markers the first four, else those below.
 fn marker_text(code: u64, form: u64, a: &[u8], b: &[u8], c: &[u8], out: &mut [u8]) -> usize
     requires { ⌜ Short (now a) (now b) (now c) ⌝ }
-    ensures { λ r. ⌜ LaidFrom (markerTexts ++ attributeTexts) code form (now (a .entry)) (now (b .entry)) (now (c .entry)) (now (out .entry)) (now (out .exit)) r ⌝ }
+    ensures { λ r. ⌜ WrittenFrom (markerTexts ++ attributeTexts) code form (now (a .entry)) (now (b .entry)) (now (c .entry)) (now (out .entry)) (now (out .exit)) r ⌝ }
 {
     match code {
-        13 => {
+        findings::NOTE_SUBMARKER_OUTSIDE_NOTE => {
             let text = *b"\\\x01 is only valid inside a note";
             one(form, &text, a, b, c, out)
         }
-        14 => {
+        findings::NON_EMPTY_BLANK_LINE => {
             let text = *b"\\b (blank line) must not contain content";
             one(form, &text, a, b, c, out)
         }
-        16 => {
+        findings::MILESTONE_MISMATCH => {
             let text0 = *b"milestone \\\x01-s has no matching \\\x01-e";
             let text1 = *b"milestone \\\x01-e has no matching \\\x01-s";
             two(form, &text0, &text1, a, b, c, out)
         }
-        21 => {
+        findings::EMPTY_FIGURE => {
             let text = *b"\\fig has no caption content";
             one(form, &text, a, b, c, out)
         }
@@ -263,26 +263,26 @@ fn marker_text(code: u64, form: u64, a: &[u8], b: &[u8], c: &[u8], out: &mut [u8
 // The others of them, else those below.
 fn more_marker_text(code: u64, form: u64, a: &[u8], b: &[u8], c: &[u8], out: &mut [u8]) -> usize
     requires { ⌜ Short (now a) (now b) (now c) ⌝ }
-    ensures { λ r. ⌜ LaidFrom (drop 4 markerTexts ++ attributeTexts) code form (now (a .entry)) (now (b .entry)) (now (c .entry)) (now (out .entry)) (now (out .exit)) r ⌝ }
+    ensures { λ r. ⌜ WrittenFrom (drop 4 markerTexts ++ attributeTexts) code form (now (a .entry)) (now (b .entry)) (now (c .entry)) (now (out .entry)) (now (out .exit)) r ⌝ }
 {
     match code {
-        23 => {
+        findings::MISSING_REQUIRED_ATTRIBUTE => {
             let text = *b"\\rb is missing its required \"gloss\" attribute";
             one(form, &text, a, b, c, out)
         }
-        24 => {
+        findings::BODY_PARAGRAPH_BEFORE_CHAPTER => {
             let text = *b"body paragraph \\\x01 appears before any \\c (chapter)";
             one(form, &text, a, b, c, out)
         }
-        25 => {
+        findings::EMPTY_WORD_MARKER => {
             let text = *b"\\w has no text content or attributes";
             one(form, &text, a, b, c, out)
         }
-        27 => {
+        findings::INVALID_TABLE_COLUMN_SEQUENCE => {
             let text = *b"expected table column \x01 but found column \x02";
             one(form, &text, a, b, c, out)
         }
-        33 => {
+        findings::MISPLACED_NUMBER_MARKER => {
             let text =
                 *b"\\\x01 must directly follow its \\\x02 (at most once per \x03); it is kept as character text";
             one(form, &text, a, b, c, out)
@@ -294,21 +294,21 @@ fn more_marker_text(code: u64, form: u64, a: &[u8], b: &[u8], c: &[u8], out: &mu
 // The codes of attributes, which are the last.
 fn attribute_text(code: u64, form: u64, a: &[u8], b: &[u8], c: &[u8], out: &mut [u8]) -> usize
     requires { ⌜ Short (now a) (now b) (now c) ⌝ }
-    ensures { λ r. ⌜ LaidFrom attributeTexts code form (now (a .entry)) (now (b .entry)) (now (c .entry)) (now (out .entry)) (now (out .exit)) r ⌝ }
+    ensures { λ r. ⌜ WrittenFrom attributeTexts code form (now (a .entry)) (now (b .entry)) (now (c .entry)) (now (out .entry)) (now (out .exit)) r ⌝ }
 {
     match code {
-        17 => {
+        findings::INVALID_ATTRIBUTES => {
             let text0 = *b"empty attribute list after `|`";
             let text1 = *b"attribute key without a `=\"value\"`";
             let text2 = *b"attribute has an empty value (e.g. `lemma=\"\"`)";
             let text3 = *b"unterminated quoted attribute value";
             four(form, &text0, &text1, &text2, &text3, a, b, c, out)
         }
-        22 => {
+        findings::UNQUOTED_ATTRIBUTE_VALUE => {
             let text = *b"attribute value must be quoted";
             one(form, &text, a, b, c, out)
         }
-        32 => {
+        findings::DEFAULT_ATTRIBUTE_NOT_DEFINED => {
             let text = *b"\\\x01 has no default attribute; the value after `|` is invalid";
             one(form, &text, a, b, c, out)
         }
@@ -316,10 +316,10 @@ fn attribute_text(code: u64, form: u64, a: &[u8], b: &[u8], c: &[u8], out: &mut 
     }
 }
 
-// The text that the code and the form have.
-pub fn lay_text(code: u64, form: u64, a: &[u8], b: &[u8], c: &[u8], out: &mut [u8]) -> usize
+// Writes the text that the code and the form have.
+pub fn write_text(code: u64, form: u64, a: &[u8], b: &[u8], c: &[u8], out: &mut [u8]) -> usize
     requires { ⌜ Short (now a) (now b) (now c) ⌝ }
-    ensures { λ r. ⌜ LaidFrom allTexts code form (now (a .entry)) (now (b .entry)) (now (c .entry)) (now (out .entry)) (now (out .exit)) r ⌝ }
+    ensures { λ r. ⌜ WrittenFrom allTexts code form (now (a .entry)) (now (b .entry)) (now (c .entry)) (now (out .entry)) (now (out .exit)) r ⌝ }
 {
     document_text(code, form, a, b, c, out)
 }

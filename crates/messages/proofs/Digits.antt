@@ -1,4 +1,4 @@
--- Bytes that were laid at the start of a list long enough are its first ones.
+-- Bytes that were written at the start of a list long enough are its first ones.
 -- Assumes nothing.
 use Prim.Native.Nat.{ℕ, _≤_}
 use mathlib.Core.Path.{_≡_, refl, ap, _∙_}

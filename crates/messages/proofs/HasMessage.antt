@@ -34,7 +34,7 @@ use Rattle.definition.specs.Outcome.{Lent, refusal, listOf}
 use Rattle.definition.proofs.Demand3.{checked-accepted}
 use Rattle.message_texts.specs.Texts.{documentTexts, numberTexts, markerTexts, attributeTexts}
 use Rattle.message_texts.specs.Filled.{allTexts, codeOf, formOf}
-use Rattle.messages.specs.Message.{askedOf, shownOf, textBy, messageText}
+use Rattle.messages.specs.Message.{requestOf, shownOf, textBy, messageText}
 use Rattle.messages.proofs.Every.{AllOf, all-append, all-without, WhenHeld, all-only, all-pick, all-given}
 use Rattle.messages.proofs.LowLetters.{next-low, breaks-some}
 use Rattle.messages.proofs.AttributeKinds.{OfAttributes, all-kinds}
@@ -43,7 +43,7 @@ use Rattle.findings.specs.Codes.{milestoneMismatch, unclosedStart, leadingZeros
 
 -- the text of the finding is there, so that number 12 does not turn it back
 abbrev pub HasMessage : List ℕ → List ℕ → List ℕ → Finding → Type 0
-HasMessage table s t f = (text : List ℕ) × (messageText table s t (askedOf f) ≡ some text)
+HasMessage table s t f = (text : List ℕ) × (messageText table s t (requestOf f) ≡ some text)
 
 abbrev isSome : Option (List ℕ) → Bool
 isSome none = false
@@ -83,10 +83,10 @@ module _ (table s t : List ℕ) where
     label = labelOf e (x .text)
 
     -- a finding about it has its text if what the text shows is there; the text does not depend on the severity
-    said : (code form first second : ℕ) → isSome (textBy (shownOf table s t (askedOf (about x 0 code form first second)) e x) (codeOf allTexts code) form) ≡ true → Has (about x 0 code form first second)
+    said : (code form first second : ℕ) → isSome (textBy (shownOf table s t (requestOf (about x 0 code form first second)) e x) (codeOf allTexts code) form) ≡ true → Has (about x 0 code form first second)
     unfolding messageText
     said code form first second h =
-        let q = askedOf (about x 0 code form first second) in
+        let q = requestOf (about x 0 code form first second) in
         is-some (messageText table s t q) (rw (lt-ltb i (count t) low) (subst (λ (o : Option Entry). isSome (textBy (shownOf table s t q o x) (codeOf allTexts code) form) ≡ true) (sym entry) h))
 
     number-checks : numbered (kindAt t i) ≡ true → (chapter : Bool) → AllOf (WhenHeld Has) (numberForm (pick chapter 0 1) e x)
@@ -212,7 +212,7 @@ module _ (table s t : List ℕ) where
     open-checks : (name : List ℕ) (o : Around) (a : Option Anchor) (st st₁ : State) (f : Forest) → AllOf (WhenHeld Has) (idChecks (equal name idName) st (bookCode below) y ++ placeChecks name e o a st₁ y below f ++ contentChecks name y below)
     unfolding allTexts documentTexts numberTexts markerTexts codeOf formOf shownOf
     open-checks name o a st st₁ f =
-        (λ h. tell 6 0 refl, (book (isBook (upper code)), (λ h. tell 13 0 refl, (λ h. tell 14 0 refl, (λ h. tell 24 0 refl, (number, (λ h. tell 21 0 refl, (λ h. tell 25 0 refl, (λ h. tell 23 0 refl, tt)))))))))
+        (λ h. said-here 6 0 refl, (book (isBook (upper code)), (λ h. said-here 13 0 refl, (λ h. said-here 14 0 refl, (λ h. said-here 24 0 refl, (number, (λ h. said-here 21 0 refl, (λ h. said-here 25 0 refl, (λ h. said-here 23 0 refl, tt)))))))))
       where
         code : List ℕ
         code = bookCode below
@@ -220,16 +220,16 @@ module _ (table s t : List ℕ) where
         written : List ℕ
         written = nameOf (y .text)
 
-        tell : (n form : ℕ) → isSome (textBy (shownOf table s t (askedOf (about y 0 n form 0 0)) (some e) y) (codeOf allTexts n) form) ≡ true → Has (about y 0 n form 0 0)
-        tell n form h = said i low (some e) known n form 0 0 h
+        said-here : (n form : ℕ) → isSome (textBy (shownOf table s t (requestOf (about y 0 n form 0 0)) (some e) y) (codeOf allTexts n) form) ≡ true → Has (about y 0 n form 0 0)
+        said-here n form h = said i low (some e) known n form 0 0 h
 
         -- both forms show the code
         book : (b : Bool) → (equal name idName && (not (eqb (length code) 0) && not (isBook code))) ≡ true → Has (warning y invalidBookCode (pick b 0 1))
-        book true h = tell 5 0 (rw (opens, middle (equal name idName) (not (eqb (length code) 0)) (not (isBook code)) h))
-        book false h = tell 5 1 (rw (opens, middle (equal name idName) (not (eqb (length code) 0)) (not (isBook code)) h))
+        book true h = said-here 5 0 (rw (opens, middle (equal name idName) (not (eqb (length code) 0)) (not (isBook code)) h))
+        book false h = said-here 5 1 (rw (opens, middle (equal name idName) (not (eqb (length code) 0)) (not (isBook code)) h))
 
         number : (oneOf numberMarkers name && (oneOf numberMarkers written && not (attachedTo a f (y .start)))) ≡ true → Has (warning y misplacedNumberMarker 0)
-        number h = tell 33 0 (rw (ne-eqb i 0 (omega arith), middle (oneOf numberMarkers name) (oneOf numberMarkers written) (not (attachedTo a f (y .start))) h))
+        number h = said-here 33 0 (rw (ne-eqb i 0 (omega arith), middle (oneOf numberMarkers name) (oneOf numberMarkers written) (not (attachedTo a f (y .start))) h))
 
     milestone-checks : (st : State) → AllOf (WhenHeld Has) (milestoneChecks e st y)
     milestone-checks st =
@@ -268,9 +268,9 @@ module _ (table s t : List ℕ) where
   walk-all {d} {a} {b} (one h z r) from l o p st fit =
       let x = nodeAt s t a in
       let k = nested-le r in
-      let told = leafTold table o st x in
+      let visited = leafTold table o st x in
       rw (forest-leaf s t h z r)
-      (good-before (told .findings) (walk table o (leafAnchor p x) (forest s t (a + 1) b) (told .state)) (leaf-all o st a (omega arith) fit) (walk-all r (omega arith) l o (leafAnchor p x) (told .state) (leaf-fit o st x fit)))
+      (good-before (visited .findings) (walk table o (leafAnchor p x) (forest s t (a + 1) b) (visited .state)) (leaf-all o st a (omega arith) fit) (walk-all r (omega arith) l o (leafAnchor p x) (visited .state) (leaf-fit o st x fit)))
   walk-all {d} {a} {b} (inner h z c r) from l o p st fit =
       let k = nested-le r in
       let j = nested-le c in
@@ -295,11 +295,11 @@ module _ (table s t : List ℕ) where
           → Good table s t (byEntry q (walk table o passed rest st) (λ e. after (openTold table o p st e x children (node x children rest)) (λ st₁. thenWalk (walk table (inside o e) none children st₁) (walk table o passed rest))))
       go none e low m below later = later st fit
       go (some e) entry low m below later =
-          let told = openTold table o p st e x children (node x children rest) in
-          let w = walk table (inside o e) none children (told .state) in
+          let visited = openTold table o p st e x children (node x children rest) in
+          let w = walk table (inside o e) none children (visited .state) in
           let v = walk table o passed rest (w .state) in
-          let g = below (inside o e) (told .state) (open-fit a from low h e entry o p st children (node x children rest) fit) in
-          good-before (told .findings) (before (w .findings) v) (open-all a from low h e entry c m o p st (node x children rest)) (good-before (w .findings) v (g .findings) (later (w .state) (g .state)))
+          let g = below (inside o e) (visited .state) (open-fit a from low h e entry o p st children (node x children rest) fit) in
+          good-before (visited .findings) (before (w .findings) v) (open-all a from low h e entry c m o p st (node x children rest)) (good-before (w .findings) v (g .findings) (later (w .state) (g .state)))
 
   -- text before the book, and the closing findings
   text-all : {d a b : ℕ} → Nested t d a b → b ≤ count t → AllOf Has (textBefore (forest s t a b))

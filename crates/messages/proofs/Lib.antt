@@ -9,4 +9,4 @@ pub mod HasMessage
 pub mod Digits
 pub mod Lengths
 pub mod Parts
-pub mod Telling
+pub mod WritingTexts

@@ -23,11 +23,11 @@ use Rattle.validate.specs.Entry.{checkRefusal, listsRefusal, fromTape, fromTabl
 use Rattle.validate.proofs.Whole.{or-assoc}
 use Rattle.validate.specs.declared.InputCheck.{InputCheck}
 use Rattle.validate.specs.declared.InputCheck.the-variants as input
-use Rattle.message_texts.specs.Inner.{LaidAs}
+use Rattle.message_texts.specs.Inner.{WrittenAs}
 use Rattle.buffer.specs.Over.{over}
-use Rattle.messages.specs.Message.{Asked, messageText}
-use Rattle.messages.specs.Inner.{LaidBy}
-use Rattle.messages.specs.Told.{document, firstNine, Told, refused, laid, byRoom, bytesBy}
+use Rattle.messages.specs.Message.{Request, messageText}
+use Rattle.messages.specs.Inner.{WrittenBy}
+use Rattle.messages.specs.Answer.{document, firstNine, Answer, refused, written, byRoom, bytesBy}
 use Rattle.text.proofs.Bool.{or-parts}
 
 or-none : (x : Option Refusal) → orElse x none ≡ x
@@ -81,13 +81,13 @@ pub nine-none : (l : Lent) → refusal l ≡ none → firstNine (l .table) (l .s
 unfolding refusal firstNine
 nine-none l z = first-five (of1 l) (of2 l) (of3 l) (ofTape l) (of9 l) (of10 l) z
 
--- what is told, by what the laying of a text answered and the length of the list
-unfoldable pub toldFor : ℕ → ℕ → Told
-toldFor zero room = refused (record { number = noMessage; place = 0 })
-toldFor (suc n) room = pick (ltb room n) (refused (record { number = messageListTooShort; place = n })) (laid n)
+-- the answer, by what the function that writes the text gives and the length of the list
+unfoldable pub answerFor : ℕ → ℕ → Answer
+answerFor zero room = refused (record { number = noMessage; place = 0 })
+answerFor (suc n) room = pick (ltb room n) (refused (record { number = messageListTooShort; place = n })) (written n)
 
-by-room : (o : Option (List ℕ)) (l l′ : List ℕ) (r : ℕ) → LaidAs o l l′ r → (toldFor r (length l) ≡ byRoom o (length l)) × (l′ ≡ bytesBy none o l)
-unfolding toldFor
+by-room : (o : Option (List ℕ)) (l l′ : List ℕ) (r : ℕ) → WrittenAs o l l′ r → (answerFor r (length l) ≡ byRoom o (length l)) × (l′ ≡ bytesBy none o l)
+unfolding answerFor
 by-room none l l′ r y = (rw (y .answer-is), y .list-is)
 by-room (some s) l l′ r y = (rw (y .answer-is, add-one), go (ltb (length l) (length s)) (y .list-is))
   where
@@ -95,27 +95,27 @@ by-room (some s) l l′ r y = (rw (y .answer-is, add-one), go (ltb (length l) (l
     go true q = q
     go false q = q
 
-pub told-lack : (r room : ℕ) → r ≡ 0 → refused (record { number = noMessage; place = 0 }) ≡ toldFor r room
-unfolding toldFor
-told-lack r room e = rw e
+pub answer-lack : (r room : ℕ) → r ≡ 0 → refused (record { number = noMessage; place = 0 }) ≡ answerFor r room
+unfolding answerFor
+answer-lack r room e = rw e
 
-pub told-short : (r room : ℕ) → (r ≡ 0 → ⊥) → room < r - 1 → refused (record { number = messageListTooShort; place = r - 1 }) ≡ toldFor r room
-unfolding toldFor
-told-short zero room e h = absurd (e refl)
-told-short (suc n) room e h = let l : suc n - 1 ≡ n = omega arith in rw (l, lt-ltb room n (omega arith))
+pub answer-short : (r room : ℕ) → (r ≡ 0 → ⊥) → room < r - 1 → refused (record { number = messageListTooShort; place = r - 1 }) ≡ answerFor r room
+unfolding answerFor
+answer-short zero room e h = absurd (e refl)
+answer-short (suc n) room e h = let l : suc n - 1 ≡ n = omega arith in rw (l, lt-ltb room n (omega arith))
 
-pub told-laid : (r room : ℕ) → (r ≡ 0 → ⊥) → r - 1 ≤ room → laid (r - 1) ≡ toldFor r room
-unfolding toldFor
-told-laid zero room e h = absurd (e refl)
-told-laid (suc n) room e h = let l : suc n - 1 ≡ n = omega arith in rw (l, le-ltb room n (omega arith))
+pub answer-written : (r room : ℕ) → (r ≡ 0 → ⊥) → r - 1 ≤ room → written (r - 1) ≡ answerFor r room
+unfolding answerFor
+answer-written zero room e h = absurd (e refl)
+answer-written (suc n) room e h = let l : suc n - 1 ≡ n = omega arith in rw (l, le-ltb room n (omega arith))
 
 -- a node that is not on the tape has no text
-module _ (table s t : List ℕ) (q : Asked) where
+module _ (table s t : List ℕ) (q : Request) where
   pub off-tape : count t ≤ q .node → messageText table s t q ≡ none
   unfolding messageText
   off-tape h = rw (le-ltb (q .node) (count t) h)
 
   -- a text of one that is, by the room for it
-  pub on-tape : q .node < count t → (l l′ : List ℕ) (r : ℕ) (a : Told) → LaidBy table s t q l l′ r → a ≡ toldFor r (length l) → (a ≡ byRoom (messageText table s t q) (length l)) × (l′ ≡ bytesBy none (messageText table s t q) l)
+  pub on-tape : q .node < count t → (l l′ : List ℕ) (r : ℕ) (a : Answer) → WrittenBy table s t q l l′ r → a ≡ answerFor r (length l) → (a ≡ byRoom (messageText table s t q) (length l)) × (l′ ≡ bytesBy none (messageText table s t q) l)
   unfolding messageText
   on-tape h l l′ r a y e = let z = by-room _ l l′ r y in rw (lt-ltb (q .node) (count t) h) (e ∙ z .0, z .1)

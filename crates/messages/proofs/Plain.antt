@@ -13,8 +13,8 @@ use Rattle.message_texts.specs.Texts.{Code, Hole, documentTexts, numberTexts, m
 use Rattle.message_texts.specs.Texts as texts
 use Rattle.message_texts.specs.Filled.{allTexts, codeOf, formIn, filledBy}
 use Rattle.message_texts.specs.Inner.{values}
-use Rattle.messages.specs.Message.{Asked, shown, shownOf, textBy}
-use Rattle.messages.specs.Inner.{LaidBy, LaidWith}
+use Rattle.messages.specs.Message.{Request, shown, shownOf, textBy}
+use Rattle.messages.specs.Inner.{WrittenBy, WrittenWith}
 use Rattle.text.specs.Pick.{pick}
 
 abbrev others : List ℕ
@@ -47,20 +47,20 @@ module _ (sh : Hole → Option (List ℕ)) (nothing : sh texts.empty ≡ some []
       go true e (inr z) i = rw (z .0, z .1 .0, z .1 .1, nothing)
       go false e p i = i
 
--- the code is none of these, as an arm for any other code is told
+-- the code is none of these: what the arm for any other code knows, behind what is known before
 abbrev pub OtherThan : Type 0 → List ℕ → ℕ → Type 0
 OtherThan N [] n = N
 OtherThan N (k ∷ ks) n = OtherThan (N × (n ≡ k → ⊥)) ks n
 
-told : (N : Type 0) (ks : List ℕ) (n : ℕ) → OtherThan N ks n → N
-told N [] n o = o
-told N (k ∷ ks) n o = told (N × (n ≡ k → ⊥)) ks n o .0
+known : (N : Type 0) (ks : List ℕ) (n : ℕ) → OtherThan N ks n → N
+known N [] n o = o
+known N (k ∷ ks) n o = known (N × (n ≡ k → ⊥)) ks n o .0
 
 none-of : (N : Type 0) (k : ℕ) (ks : List ℕ) (n : ℕ) → OtherThan N (k ∷ ks) n → OneOf (k ∷ ks) n → ⊥
 none-of N k [] n o e = o .1 e
-none-of N k (j ∷ ks) n o (inl e) = told (N × (n ≡ k → ⊥)) (j ∷ ks) n o .1 e
+none-of N k (j ∷ ks) n o (inl e) = known (N × (n ≡ k → ⊥)) (j ∷ ks) n o .1 e
 none-of N k (j ∷ ks) n o (inr r) = none-of (N × (n ≡ k → ⊥)) j ks n o r
 
-pub laid-plain : (table s t : List ℕ) (q : Asked) → OtherThan (Unit {0}) special (q .code) → (l l′ : List ℕ) (r : ℕ) → LaidWith q [] [] [] l l′ r → LaidBy table s t q l l′ r
+pub written-plain : (table s t : List ℕ) (q : Request) → OtherThan (Unit {0}) special (q .code) → (l l′ : List ℕ) (r : ℕ) → WrittenWith q [] [] [] l l′ r → WrittenBy table s t q l l′ r
 unfolding shownOf
-laid-plain table s t q other l l′ r h = rw (found (shown table s t q) refl (q .code) (q .form) (none-of (Unit {0}) 5 others (q .code) other) allTexts all-plain) h
+written-plain table s t q other l l′ r h = rw (found (shown table s t q) refl (q .code) (q .form) (none-of (Unit {0}) 5 others (q .code) other) allTexts all-plain) h

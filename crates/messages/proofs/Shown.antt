@@ -25,7 +25,7 @@ use Rattle.definition.specs.Milestones.{isStart, isEnd, baseOf}
 use Rattle.buffer.specs.Decimal.{decimal}
 use Rattle.message_texts.specs.Texts as texts
 use Rattle.message_texts.specs.Inner.{values}
-use Rattle.messages.specs.Message.{Asked, letter, labelIn, glued, nameIn, codeIn, isNumber, ofChapter, unitOf, hasBase, onlyIfTrue, shown, shownOf, three}
+use Rattle.messages.specs.Message.{Request, letter, labelIn, glued, nameIn, codeIn, isNumber, ofChapter, unitOf, hasBase, onlyIfTrue, shown, shownOf, three}
 use Rattle.messages.specs.Inner.{isTables, nameOr}
 
 -- a label, empty for a node that has none
@@ -48,7 +48,7 @@ module _ (e : Option Entry) (x : Node) (label : List ℕ) (is : label ≡ pick (
           rw (← z, k, eq-eqb (length label) 0 h)
       go false k = rw k
 
-module _ (table s t : List ℕ) (q : Asked) where
+module _ (table s t : List ℕ) (q : Request) where
   abbrev e : Option Entry
   e = infoAt table t (q .node)
 
@@ -153,7 +153,7 @@ module _ (table s t : List ℕ) (q : Asked) where
 cut-length : (p : Part) (s : List ℕ) → p .start + p .len ≤ length s → length (cut p s) ≡ p .len
 cut-length p s h = length-take-le (p .len) (drop (p .start) s) (rw length-drop (omega arith))
 
--- 13 and 24: an entry of a table that is laid out has a name that isn't empty
+-- 13 and 24: an entry of a well-formed table has a name that isn't empty
 module _ (table words : List ℕ) (n : ℕ) (ix : Indexed table words n) (t : List ℕ) (i : ℕ) where
   pub entry-sound : (k : Entry) → infoAt table t i ≡ some k → Sound table k
   unfolding infoAt
@@ -180,7 +180,7 @@ module _ (table words : List ℕ) (n : ℕ) (ix : Indexed table words n) (t : Li
         go none z = absurd (h (ap length (is ∙ ap (nameOr table) z)))
         go (some k) z = ap some (sym (is ∙ ap (nameOr table) z))
 
-module _ (table s t : List ℕ) (q : Asked) where
+module _ (table s t : List ℕ) (q : Request) where
   pub entry-none : nameIn table (infoAt table t (q .node)) ≡ none → three (shown table s t q texts.entryName) (shown table s t q texts.empty) (shown table s t q texts.empty) ≡ none
   unfolding shownOf
   entry-none h = rw h
@@ -202,7 +202,7 @@ pub open-later : (s t : List ℕ) (i : ℕ) → Accepted s t → i < count t →
 open-later s t zero a l h = let k = root-kind s t a l in let z : _≡_ {A = Bool} false true = rw k at h in absurd (false≢true z)
 open-later s t (suc i) a l h = omega arith
 
-module _ (table s t : List ℕ) (q : Asked) where
+module _ (table s t : List ℕ) (q : Request) where
   pub root-entry : Accepted s t → q .node < count t → q .node ≡ 0 → nameIn table (infoAt table t (q .node)) ≡ none
   unfolding infoAt
   root-entry a l h =

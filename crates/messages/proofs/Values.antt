@@ -8,8 +8,8 @@ use Rattle.message_texts.specs.Texts.{Code, Hole, documentTexts, numberTexts, m
 use Rattle.message_texts.specs.Texts as texts
 use Rattle.message_texts.specs.Filled.{Values, allTexts, codeOf, textIn, filledBy}
 use Rattle.message_texts.specs.Inner.{values}
-use Rattle.messages.specs.Message.{Asked, shown, three, textBy}
-use Rattle.messages.specs.Inner.{LaidBy, LaidWith}
+use Rattle.messages.specs.Message.{Request, shown, three, textBy}
+use Rattle.messages.specs.Inner.{WrittenBy, WrittenWith}
 
 unfilled : (f : Option (List ℕ)) → filledBy f none ≡ none
 unfilled none = refl
@@ -24,18 +24,18 @@ pub record Holes (n : ℕ) (h1 h2 h3 : Hole) : Type 0 where
   pub third : text .h3 ≡ h3
 
 -- a text by its code, whose values are there or not
-module _ (table s t : List ℕ) (q : Asked) (h1 h2 h3 : Hole) (k : Holes (q .code) h1 h2 h3) where
+module _ (table s t : List ℕ) (q : Request) (h1 h2 h3 : Hole) (k : Holes (q .code) h1 h2 h3) where
   abbrev vs : Option Values
   vs = three (shown table s t q h1) (shown table s t q h2) (shown table s t q h3)
 
-  asked : textBy (shown table s t q) (codeOf allTexts (q .code)) (q .form) ≡ filledBy (textIn allTexts (q .code) (q .form)) vs
-  asked = rw (k .is, k .one, k .two, k .third)
+  text-is : textBy (shown table s t q) (codeOf allTexts (q .code)) (q .form) ≡ filledBy (textIn allTexts (q .code) (q .form)) vs
+  text-is = rw (k .is, k .one, k .two, k .third)
 
-  pub laid-with : (a b c : List ℕ) → vs ≡ some (values a b c) → (l l′ : List ℕ) (r : ℕ) → LaidWith q a b c l l′ r → LaidBy table s t q l l′ r
-  laid-with a b c e l l′ r h = rw (asked, e) h
+  pub written-with : (a b c : List ℕ) → vs ≡ some (values a b c) → (l l′ : List ℕ) (r : ℕ) → WrittenWith q a b c l l′ r → WrittenBy table s t q l l′ r
+  written-with a b c e l l′ r h = rw (text-is, e) h
 
-  pub laid-lacks : vs ≡ none → (l : List ℕ) → LaidBy table s t q l l 0
-  laid-lacks e l = rw (asked, e, unfilled) (record { answer-is = refl; list-is = refl })
+  pub written-lacks : vs ≡ none → (l : List ℕ) → WrittenBy table s t q l l 0
+  written-lacks e l = rw (text-is, e, unfilled) (record { answer-is = refl; list-is = refl })
 
 pub holes-5 : (n : ℕ) → n ≡ 5 → Holes n texts.bookCode texts.empty texts.empty
 unfolding allTexts documentTexts numberTexts markerTexts attributeTexts codeOf

@@ -10,22 +10,22 @@ use Rattle.tape.specs.Nodes.{count}
 use Rattle.tape.specs.Forest.{Accepted}
 use Rattle.table.specs.Entries.{Entry, Indexed}
 use Rattle.message_texts.specs.Filled.{allTexts, codeOf}
-use Rattle.message_texts.specs.Inner.{LaidAs, LaidFrom}
+use Rattle.message_texts.specs.Inner.{WrittenAs, WrittenFrom}
 use Rattle.messages.specs.Message as message
 use Rattle.messages.specs.Message.{shown, textBy}
-use Rattle.messages.specs.Told as told
-use Rattle.messages.specs.declared.Asked as code
-use Rattle.messages.specs.declared.Told.the-variants as answer
-use Rattle.messages.specs.declared.Told as declared
+use Rattle.messages.specs.Answer as answers
+use Rattle.messages.specs.declared.MessageRequest as code
+use Rattle.messages.specs.declared.MessageAnswer.the-variants as answer
+use Rattle.messages.specs.declared.MessageAnswer as declared
 
--- what the code asks for
-abbrev pub askedBy : code.Asked → message.Asked
-askedBy q = record { code = q .code; form = q .form; node = q .node; first = q .first; second = q .second }
+-- the request that the code makes
+abbrev pub requestBy : code.MessageRequest → message.Request
+requestBy q = record { code = q .code; form = q .form; node = q .node; first = q .first; second = q .second }
 
 -- what the answer says
-abbrev pub toldOf : declared.Told → told.Told
-toldOf (answer.Laid n) = told.laid n
-toldOf (answer.Refused number place) = told.refused (record { number = number; place = place })
+abbrev pub answerOf : declared.MessageAnswer → answers.Answer
+answerOf (answer.Written n) = answers.written n
+answerOf (answer.Refused number place) = answers.refused (record { number = number; place = place })
 
 -- a document that numbers 1 to 9 pass, with its table's index, and a node of it
 pub record Readable (table words : List ℕ) (entries : ℕ) (s t : List ℕ) (node : ℕ) : Type 0 where
@@ -34,13 +34,13 @@ pub record Readable (table words : List ℕ) (entries : ℕ) (s t : List ℕ) (n
   pub short : length s ≤ 1048576
   pub inside : node < count t
 
--- the text that is asked for is laid over the list, if there is one and it has room
-abbrev pub LaidBy : List ℕ → List ℕ → List ℕ → message.Asked → List ℕ → List ℕ → ℕ → Type 0
-LaidBy table s t q l l′ r = LaidAs (textBy (shown table s t q) (codeOf allTexts (q .code)) (q .form)) l l′ r
+-- the requested text is written over the list, if there is one and it has room
+abbrev pub WrittenBy : List ℕ → List ℕ → List ℕ → message.Request → List ℕ → List ℕ → ℕ → Type 0
+WrittenBy table s t q l l′ r = WrittenAs (textBy (shown table s t q) (codeOf allTexts (q .code)) (q .form)) l l′ r
 
--- the text of the code and the form with these values is laid over the list, if there is one and it has room
-abbrev pub LaidWith : message.Asked → List ℕ → List ℕ → List ℕ → List ℕ → List ℕ → ℕ → Type 0
-LaidWith q a b c l l′ r = LaidFrom allTexts (q .code) (q .form) a b c l l′ r
+-- the text of the code and the form with these values is written over the list, if there is one and it has room
+abbrev pub WrittenWith : message.Request → List ℕ → List ℕ → List ℕ → List ℕ → List ℕ → ℕ → Type 0
+WrittenWith q a b c l l′ r = WrittenFrom allTexts (q .code) (q .form) a b c l l′ r
 
 -- "`\fr` outside a note shows the table's name"
 abbrev pub isTables : ℕ → Bool

@@ -1,4 +1,4 @@
 pub mod Message
-pub mod Told
+pub mod Answer
 pub mod Messages
 pub mod Inner

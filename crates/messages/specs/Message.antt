@@ -22,16 +22,16 @@ use Rattle.message_texts.specs.Texts as texts
 use Rattle.message_texts.specs.Texts.{Hole, Code}
 use Rattle.message_texts.specs.Filled.{Values, allTexts, codeOf, formOf, filledBy}
 
--- what a text is asked for: of a finding's words, those that are looked at
-pub record Asked : Type 0 where
+-- a request for a text: of a finding's words, those that the text depends on
+pub record Request : Type 0 where
   pub code : ℕ
   pub form : ℕ
   pub node : ℕ
   pub first : ℕ
   pub second : ℕ
 
-abbrev pub askedOf : Finding → Asked
-askedOf f = record { code = f .code; form = f .form; node = f .node; first = f .first; second = f .second }
+abbrev pub requestOf : Finding → Request
+requestOf f = record { code = f .code; form = f .form; node = f .node; first = f .first; second = f .second }
 
 abbrev pub onlyIfTrue : Bool → List ℕ → Option (List ℕ)
 onlyIfTrue true s = some s
@@ -74,7 +74,7 @@ abbrev pub codeIn : Node → List ℕ → Option (List ℕ)
 codeIn x code = onlyIfTrue (isOpen (x .kind) && not (eqb (length code) 0)) code
 
 -- what a text shows of the node with its table entry and the children's book code, or none where it lacks that
-unfoldable pub shownOf : List ℕ → List ℕ → List ℕ → Asked → Option Entry → Node → Hole → Option (List ℕ)
+unfoldable pub shownOf : List ℕ → List ℕ → List ℕ → Request → Option Entry → Node → Hole → Option (List ℕ)
 shownOf table s t q e x texts.empty = some []
 shownOf table s t q e x texts.first = some (decimal (q .first))
 shownOf table s t q e x texts.second = some (decimal (q .second))
@@ -91,7 +91,7 @@ shownOf table s t q e x texts.owner = onlyIfTrue (isNumber (q .node) x) (take 1 
 shownOf table s t q e x texts.unit = onlyIfTrue (isNumber (q .node) x) (unitOf (ofChapter x))
 shownOf table s t q e x texts.bookCode = codeIn x (bookCode (forest s t (q .node + 1) (linkAt t (q .node))))
 
-abbrev pub shown : List ℕ → List ℕ → List ℕ → Asked → Hole → Option (List ℕ)
+abbrev pub shown : List ℕ → List ℕ → List ℕ → Request → Hole → Option (List ℕ)
 shown table s t q h = shownOf table s t q (infoAt table t (q .node)) (nodeAt s t (q .node)) h
 
 abbrev pub three : Option (List ℕ) → Option (List ℕ) → Option (List ℕ) → Option Values
@@ -105,5 +105,5 @@ textBy shown none form = none
 textBy shown (some c) form = filledBy (formOf (c .forms) form) (three (shown (c .h1)) (shown (c .h2)) (shown (c .h3)))
 
 -- the text, or none: "code and form unknown to validate.rs, node or owner not on the tape, letter over 127, or the node lacks what the text needs"
-unfoldable pub messageText : List ℕ → List ℕ → List ℕ → Asked → Option (List ℕ)
+unfoldable pub messageText : List ℕ → List ℕ → List ℕ → Request → Option (List ℕ)
 messageText table s t q = pick (ltb (q .node) (count t)) (textBy (shown table s t q) (codeOf allTexts (q .code)) (q .form)) none

@@ -7,15 +7,15 @@ use lib.Dec.{eqb, ltb}
 use lib.ListN.{length, getD}
 use Rattle.refusals.specs.Refusal.{Refusal, noMessage, messageListTooShort}
 use Rattle.buffer.specs.Over.{over}
-use Rattle.messages.specs.Message.{Asked, messageText}
-use Rattle.messages.specs.Told.{firstNine}
-use Rattle.messages.specs.declared.Texts as declared
-use Rattle.messages.specs.declared.Texts.the-variants as answer
+use Rattle.messages.specs.Message.{Request, messageText}
+use Rattle.messages.specs.Answer.{firstNine}
+use Rattle.messages.specs.declared.MessagesAnswer as declared
+use Rattle.messages.specs.declared.MessagesAnswer.the-variants as answer
 use Rattle.text.specs.Pick.{pick}
 
--- what record k of a list asks for
-abbrev pub askedAt : List ℕ → ℕ → Asked
-askedAt l k =
+-- the request for the text of record k of a list
+abbrev pub requestAt : List ℕ → ℕ → Request
+requestAt l k =
     record {
       code = getD l (8 * k + 1) 0;
       form = getD l (8 * k + 5) 0;
@@ -51,43 +51,43 @@ abbrev pub turnedBack : Option (List ℕ) → Refusal
 turnedBack none = record { number = noMessage; place = 0 }
 turnedBack (some x) = record { number = messageListTooShort; place = length x }
 
--- numbers 1 to 9; or how many texts are laid and how many bytes they take, and where not all are, what turns the next one back
-pub data Told : Type 0 where
-  refused : Refusal → Told
-  all : ℕ → ℕ → Told
-  stopped : ℕ → ℕ → Refusal → Told
+-- numbers 1 to 9; or how many texts are written and how many bytes they take, and where not all are, what turns the next one back
+pub data MessagesAnswer : Type 0 where
+  refused : Refusal → MessagesAnswer
+  all : ℕ → ℕ → MessagesAnswer
+  stopped : ℕ → ℕ → Refusal → MessagesAnswer
 
-abbrev pub toldBy : (ℕ → Option (List ℕ)) → ℕ → List (List ℕ) → Told
-toldBy text n ts =
+abbrev pub answerByTexts : (ℕ → Option (List ℕ)) → ℕ → List (List ℕ) → MessagesAnswer
+answerByTexts text n ts =
     pick (eqb (length ts) n) (all (length ts) (length (joined ts))) (stopped (length ts) (length (joined ts)) (turnedBack (text (length ts))))
 
 abbrev pub textAt : List ℕ → List ℕ → List ℕ → List ℕ → ℕ → Option (List ℕ)
-textAt table s t l k = messageText table s t (askedAt l k)
+textAt table s t l k = messageText table s t (requestAt l k)
 
--- the texts that are laid over a list with so much room
+-- the texts that are written over a list with so much room
 abbrev pub textsOf : List ℕ → List ℕ → List ℕ → List ℕ → ℕ → List (List ℕ)
 textsOf table s t l room = textsFrom (textAt table s t l) 0 (whole l) room
 
-abbrev pub answerBy : Option Refusal → Told → Told
-answerBy (some r) a = refused r
-answerBy none a = a
+abbrev pub refusedOr : Option Refusal → MessagesAnswer → MessagesAnswer
+refusedOr (some r) a = refused r
+refusedOr none a = a
 
-abbrev pub told : List ℕ → List ℕ → List ℕ → List ℕ → ℕ → Told
-told table s t l room = answerBy (firstNine table s t) (toldBy (textAt table s t l) (whole l) (textsOf table s t l room))
+abbrev pub messagesAnswer : List ℕ → List ℕ → List ℕ → List ℕ → ℕ → MessagesAnswer
+messagesAnswer table s t l room = refusedOr (firstNine table s t) (answerByTexts (textAt table s t l) (whole l) (textsOf table s t l room))
 
--- a lent list after it: as it was after a refusal, else with the words or bytes laid over its start as far as there is room
-abbrev pub laidBy : Option Refusal → List ℕ → List ℕ → List ℕ
-laidBy (some r) out s = out
-laidBy none out s = over out 0 s
+-- a lent list after it: as it was after a refusal, else with the words or bytes written over its start as far as there is room
+abbrev pub writtenUnless : Option Refusal → List ℕ → List ℕ → List ℕ
+writtenUnless (some r) out s = out
+writtenUnless none out s = over out 0 s
 
-abbrev pub bytesAfter : List ℕ → List ℕ → List ℕ → List ℕ → List ℕ → List ℕ
-bytesAfter table s t l out = laidBy (firstNine table s t) out (joined (textsOf table s t l (length out)))
+abbrev pub messagesAfter : List ℕ → List ℕ → List ℕ → List ℕ → List ℕ → List ℕ
+messagesAfter table s t l out = writtenUnless (firstNine table s t) out (joined (textsOf table s t l (length out)))
 
 abbrev pub endsAfter : List ℕ → List ℕ → List ℕ → List ℕ → ℕ → List ℕ → List ℕ
-endsAfter table s t l room ends = laidBy (firstNine table s t) ends (endsFrom 0 (textsOf table s t l room))
+endsAfter table s t l room ends = writtenUnless (firstNine table s t) ends (endsFrom 0 (textsOf table s t l room))
 
 -- what the answer says
-abbrev pub toldOf : declared.Texts → Told
-toldOf (answer.All records bytes) = all records bytes
-toldOf (answer.Stopped records bytes number place) = stopped records bytes (record { number = number; place = place })
-toldOf (answer.Refused number place) = refused (record { number = number; place = place })
+abbrev pub messagesAnswerOf : declared.MessagesAnswer → MessagesAnswer
+messagesAnswerOf (answer.All records bytes) = all records bytes
+messagesAnswerOf (answer.Stopped records bytes number place) = stopped records bytes (record { number = number; place = place })
+messagesAnswerOf (answer.Refused number place) = refused (record { number = number; place = place })

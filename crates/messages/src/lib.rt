@@ -1,5 +1,17 @@
-// The text of a finding: numbers 1 to 9, 12 and 13, or the Rust's text laid over a lent list from its start; and the texts of a
+// The text of a finding: numbers 1 to 9, 12 and 13, or the Rust's text written over a lent list from its start; and the texts of a
 // list's findings, one behind another, by one reading of the document.
+use findings::BODY_PARAGRAPH_BEFORE_CHAPTER;
+use findings::DEFAULT_ATTRIBUTE_NOT_DEFINED;
+use findings::DUPLICATE_CHAPTER;
+use findings::INVALID_BOOK_CODE;
+use findings::INVALID_CHAPTER_SEQUENCE;
+use findings::INVALID_TABLE_COLUMN_SEQUENCE;
+use findings::INVALID_VERSE_SEQUENCE;
+use findings::LEADING_ZEROS;
+use findings::MILESTONE_MISMATCH;
+use findings::MISPLACED_NUMBER_MARKER;
+use findings::MISSING_SPACE_BEFORE_NUMBER;
+use findings::NOTE_SUBMARKER_OUTSIDE_NOTE;
 use table::Info;
 use validate::InputCheck;
 ghost use mathlib.Core.Bool.{_||_};
@@ -22,16 +34,14 @@ ghost use Rattle.definition.specs.Milestones.{endsIn};
 ghost use Rattle.buffer.specs.Over.{over};
 ghost use Rattle.buffer.specs.Decimal.{decimal};
 ghost use Rattle.messages.specs.Message.{letter, unitOf, messageText};
-ghost use Rattle.messages.specs.Told as answers;
-ghost use Rattle.messages.specs.Told.{byRoom, bytesBy, bytesAfter};
-ghost use Rattle.messages.specs.Messages as texts;
-ghost use Rattle.messages.specs.Messages.{askedAt, whole, textAt, textsOf, joined, endsFrom};
-ghost use Rattle.messages.specs.Inner.{askedBy, toldOf, Readable, LaidBy, nameOr, isTables};
+ghost use Rattle.messages.specs.Answer.{byRoom, bytesBy, messageAnswer, messageAfter};
+ghost use Rattle.messages.specs.Messages.{requestAt, whole, textAt, textsOf, joined, endsFrom, answerByTexts, messagesAnswer, messagesAnswerOf, messagesAfter, endsAfter};
+ghost use Rattle.messages.specs.Inner.{requestBy, answerOf, Readable, WrittenBy, nameOr, isTables};
 ghost use Rattle.message_texts.specs.Filled.{allTexts};
-ghost use Rattle.message_texts.specs.Inner.{LaidFrom};
+ghost use Rattle.message_texts.specs.Inner.{WrittenFrom};
 
-// Of a finding's words, those that a text is asked for with.
-pub struct Asked {
+// Of a finding's words, those that its text depends on.
+pub struct MessageRequest {
     pub code: u64,
     pub form: u64,
     pub node: u64,
@@ -39,14 +49,14 @@ pub struct Asked {
     pub second: u64,
 }
 
-// How long the text is that was laid, or the number that turns it back with its place.
-pub enum Told {
-    Laid(usize),
+// The length of the text that was written, or the number that turns it back with its place.
+pub enum MessageAnswer {
+    Written(usize),
     Refused(u64, u64),
 }
 
-// How many texts are laid and how many bytes they take; where not all are, what turns the next one back.
-pub enum Texts {
+// How many texts were written and how many bytes they take; where not all were, what turns the next one back.
+pub enum MessagesAnswer {
     All(usize, usize),
     Stopped(usize, usize, u64, u64),
     Refused(u64, u64),
@@ -56,7 +66,11 @@ pub enum Texts {
 fn shows_entry(code: u64) -> bool
     ensures { λ r. ⌜ r ≡ isTables code ⌝ }
 {
-    if code == 13 { true } else { code == 24 }
+    if code == NOTE_SUBMARKER_OUTSIDE_NOTE {
+        true
+    } else {
+        code == BODY_PARAGRAPH_BEFORE_CHAPTER
+    }
 }
 
 // The name that a text shows: the table's or the source's, by code; empty where the table has none.
@@ -102,19 +116,19 @@ fn label_shown<'a, 'b, 'c, 'd>(
     )
 }
 
-// A text of two numbers.
-fn lay_numbers(code: u64, form: u64, first: u64, second: u64, out: &mut [u8]) -> usize
-    ensures { λ r. ⌜ LaidFrom allTexts code form (decimal first) (decimal second) [] (now (out .entry)) (now (out .exit)) r ⌝ }
+// Writes a text of two numbers.
+fn write_numbers(code: u64, form: u64, first: u64, second: u64, out: &mut [u8]) -> usize
+    ensures { λ r. ⌜ WrittenFrom allTexts code form (decimal first) (decimal second) [] (now (out .entry)) (now (out .exit)) r ⌝ }
 {
     let mut x = [0u8; 20];
     let mut y = [0u8; 20];
     let k = buffer::put_decimal(&mut x, 0, first);
     let m = buffer::put_decimal(&mut y, 0, second);
-    message_texts::lay_text(code, form, &x[..k], &y[..m], b"", out)
+    message_texts::write_text(code, form, &x[..k], &y[..m], b"", out)
 }
 
-// A text of a verse position, whose letter is a byte or none, and a label.
-fn lay_position(
+// Writes a text of a verse position, whose letter is a byte or none, and a label.
+fn write_position(
     code: u64,
     form: u64,
     first: u64,
@@ -123,30 +137,30 @@ fn lay_position(
     out: &mut [u8],
 ) -> usize
     requires { ⌜ (second ≤ 127) × (length (now label) ≤ 1048576) ⌝ }
-    ensures { λ r. ⌜ LaidFrom allTexts code form (decimal first ++ letter second) (now (label .entry)) [] (now (out .entry)) (now (out .exit)) r ⌝ }
+    ensures { λ r. ⌜ WrittenFrom allTexts code form (decimal first ++ letter second) (now (label .entry)) [] (now (out .entry)) (now (out .exit)) r ⌝ }
 {
     let mut x = [0u8; 21];
     let k = buffer::put_decimal(&mut x, 0, first);
     if second == 0 {
-        return message_texts::lay_text(code, form, &x[..k], label, b"", out);
+        return message_texts::write_text(code, form, &x[..k], label, b"", out);
     }
     let last = [second as u8];
     let m = buffer::put(&mut x, k, &last);
-    message_texts::lay_text(code, form, &x[..m], label, b"", out)
+    message_texts::write_text(code, form, &x[..m], label, b"", out)
 }
 
 // InvalidVerseSequence.
-fn lay_verse(
+fn write_verse(
     table: &[u8],
     words: &[u64],
     entries: usize,
     source: &[u8],
     tape: &[u8],
-    q: Asked,
+    q: MessageRequest,
     out: &mut [u8],
 ) -> usize
     requires { ⌜ (Readable (now table) (now words) entries (now source) (now tape) (q .node)) × (q .code ≡ 11) ⌝ }
-    ensures { λ r. ⌜ LaidBy (now (table .entry)) (now (source .entry)) (now (tape .entry)) (askedBy q) (now (out .entry)) (now (out .exit)) r ⌝ }
+    ensures { λ r. ⌜ WrittenBy (now (table .entry)) (now (source .entry)) (now (tape .entry)) (requestBy q) (now (out .entry)) (now (out .exit)) r ⌝ }
 {
     if 127 < q.second {
         return 0;
@@ -155,50 +169,50 @@ fn lay_verse(
     if label.len() == 0 {
         return 0;
     }
-    lay_position(q.code, q.form, q.first, q.second, label, out)
+    write_position(q.code, q.form, q.first, q.second, label, out)
 }
 
 // LeadingZeros.
-fn lay_label(
+fn write_label(
     table: &[u8],
     words: &[u64],
     entries: usize,
     source: &[u8],
     tape: &[u8],
-    q: Asked,
+    q: MessageRequest,
     out: &mut [u8],
 ) -> usize
     requires { ⌜ (Readable (now table) (now words) entries (now source) (now tape) (q .node)) × (q .code ≡ 15) ⌝ }
-    ensures { λ r. ⌜ LaidBy (now (table .entry)) (now (source .entry)) (now (tape .entry)) (askedBy q) (now (out .entry)) (now (out .exit)) r ⌝ }
+    ensures { λ r. ⌜ WrittenBy (now (table .entry)) (now (source .entry)) (now (tape .entry)) (requestBy q) (now (out .entry)) (now (out .exit)) r ⌝ }
 {
     let label = label_shown(table, words, entries, source, tape, q.node as usize);
     if label.len() == 0 {
         return 0;
     }
-    message_texts::lay_text(q.code, q.form, label, b"", b"", out)
+    message_texts::write_text(q.code, q.form, label, b"", b"", out)
 }
 
-// A name, the label that is glued to it, and what the name is without it.
-fn lay_parts(code: u64, form: u64, name: &[u8], label: &[u8], out: &mut [u8]) -> usize
+// Writes a text of a name, the label that is glued to it, and what the name is without it.
+fn write_parts(code: u64, form: u64, name: &[u8], label: &[u8], out: &mut [u8]) -> usize
     requires { ⌜ (length (now label) ≤ length (now name)) × (length (now name) ≤ 1048576) ⌝ }
-    ensures { λ r. ⌜ LaidFrom allTexts code form (now (name .entry)) (take (length (now (name .entry)) - length (now (label .entry))) (now (name .entry))) (now (label .entry)) (now (out .entry)) (now (out .exit)) r ⌝ }
+    ensures { λ r. ⌜ WrittenFrom allTexts code form (now (name .entry)) (take (length (now (name .entry)) - length (now (label .entry))) (now (name .entry))) (now (label .entry)) (now (out .entry)) (now (out .exit)) r ⌝ }
 {
     let end = name.len() - label.len();
-    message_texts::lay_text(code, form, name, &name[..end], label, out)
+    message_texts::write_text(code, form, name, &name[..end], label, out)
 }
 
 // MissingSpaceBeforeNumber.
-fn lay_glued<'a>(
+fn write_glued<'a>(
     table: &'a [u8],
     words: &[u64],
     entries: usize,
     source: &'a [u8],
     tape: &[u8],
-    q: Asked,
+    q: MessageRequest,
     out: &mut [u8],
 ) -> usize
     requires { ⌜ (Readable (now table) (now words) entries (now source) (now tape) (q .node)) × (q .code ≡ 34) ⌝ }
-    ensures { λ r. ⌜ LaidBy (now (table .entry)) (now (source .entry)) (now (tape .entry)) (askedBy q) (now (out .entry)) (now (out .exit)) r ⌝ }
+    ensures { λ r. ⌜ WrittenBy (now (table .entry)) (now (source .entry)) (now (tape .entry)) (requestBy q) (now (out .entry)) (now (out .exit)) r ⌝ }
 {
     let i = q.node as usize;
     if !numbers::is_numbered(tape::kind_at(tape, i)) {
@@ -211,21 +225,21 @@ fn lay_glued<'a>(
     }
     let name = name_shown(table, words, entries, source, tape, i, q.code);
     let label = numbers::number_label(info, text);
-    lay_parts(q.code, q.form, name, label, out)
+    write_parts(q.code, q.form, name, label, out)
 }
 
 // NoteSubmarkerOutsideNote and BodyParagraphBeforeChapter.
-fn lay_entry<'a>(
+fn write_entry<'a>(
     table: &'a [u8],
     words: &[u64],
     entries: usize,
     source: &'a [u8],
     tape: &[u8],
-    q: Asked,
+    q: MessageRequest,
     out: &mut [u8],
 ) -> usize
     requires { ⌜ (Readable (now table) (now words) entries (now source) (now tape) (q .node)) × ((q .code ≡ 13) ⊎ (q .code ≡ 24)) ⌝ }
-    ensures { λ r. ⌜ LaidBy (now (table .entry)) (now (source .entry)) (now (tape .entry)) (askedBy q) (now (out .entry)) (now (out .exit)) r ⌝ }
+    ensures { λ r. ⌜ WrittenBy (now (table .entry)) (now (source .entry)) (now (tape .entry)) (requestBy q) (now (out .entry)) (now (out .exit)) r ⌝ }
 {
     if q.node == 0 {
         return 0;
@@ -235,21 +249,21 @@ fn lay_entry<'a>(
     if name.len() == 0 {
         return 0;
     }
-    message_texts::lay_text(q.code, q.form, name, b"", b"", out)
+    message_texts::write_text(q.code, q.form, name, b"", b"", out)
 }
 
 // MilestoneMismatch.
-fn lay_base<'a>(
+fn write_base<'a>(
     table: &'a [u8],
     words: &[u64],
     entries: usize,
     source: &'a [u8],
     tape: &[u8],
-    q: Asked,
+    q: MessageRequest,
     out: &mut [u8],
 ) -> usize
     requires { ⌜ (Readable (now table) (now words) entries (now source) (now tape) (q .node)) × (q .code ≡ 16) ⌝ }
-    ensures { λ r. ⌜ LaidBy (now (table .entry)) (now (source .entry)) (now (tape .entry)) (askedBy q) (now (out .entry)) (now (out .exit)) r ⌝ }
+    ensures { λ r. ⌜ WrittenBy (now (table .entry)) (now (source .entry)) (now (tape .entry)) (requestBy q) (now (out .entry)) (now (out .exit)) r ⌝ }
 {
     if q.node == 0 {
         return 0;
@@ -259,7 +273,7 @@ fn lay_base<'a>(
     if !is_paired(name) {
         return 0;
     }
-    message_texts::lay_text(q.code, q.form, milestones::base(name), b"", b"", out)
+    message_texts::write_text(q.code, q.form, milestones::base(name), b"", b"", out)
 }
 
 // Whether a name is a milestone's start or end.
@@ -273,17 +287,17 @@ fn is_paired(name: &[u8]) -> bool
 }
 
 // DefaultAttributeNotDefined.
-fn lay_owner<'a>(
+fn write_owner<'a>(
     table: &'a [u8],
     words: &[u64],
     entries: usize,
     source: &'a [u8],
     tape: &[u8],
-    q: Asked,
+    q: MessageRequest,
     out: &mut [u8],
 ) -> usize
     requires { ⌜ (Readable (now table) (now words) entries (now source) (now tape) (q .node)) × (q .code ≡ 32) ⌝ }
-    ensures { λ r. ⌜ LaidBy (now (table .entry)) (now (source .entry)) (now (tape .entry)) (askedBy q) (now (out .entry)) (now (out .exit)) r ⌝ }
+    ensures { λ r. ⌜ WrittenBy (now (table .entry)) (now (source .entry)) (now (tape .entry)) (requestBy q) (now (out .entry)) (now (out .exit)) r ⌝ }
 {
     if q.first == 0 {
         return 0;
@@ -293,32 +307,32 @@ fn lay_owner<'a>(
     }
     let i = q.first as usize;
     let name = name_shown(table, words, entries, source, tape, i, q.code);
-    message_texts::lay_text(q.code, q.form, name, b"", b"", out)
+    message_texts::write_text(q.code, q.form, name, b"", b"", out)
 }
 
-// A name of an alternate or a published number, the letter of its owner's marker and what its owner is.
-fn lay_unit(code: u64, form: u64, name: &[u8], out: &mut [u8]) -> usize
+// Writes a text of the name of an alternate or a published number, the letter of its owner's marker and what its owner is.
+fn write_unit(code: u64, form: u64, name: &[u8], out: &mut [u8]) -> usize
     requires { ⌜ (1 ≤ length (now name)) × (length (now name) ≤ 1048576) ⌝ }
-    ensures { λ r. ⌜ LaidFrom allTexts code form (now (name .entry)) (take 1 (now (name .entry))) (unitOf (eqb (getD (now (name .entry)) 0 0) 0x63)) (now (out .entry)) (now (out .exit)) r ⌝ }
+    ensures { λ r. ⌜ WrittenFrom allTexts code form (now (name .entry)) (take 1 (now (name .entry))) (unitOf (eqb (getD (now (name .entry)) 0 0) 0x63)) (now (out .entry)) (now (out .exit)) r ⌝ }
 {
     if name[0] == b'c' {
-        return message_texts::lay_text(code, form, name, &name[..1], b"chapter", out);
+        return message_texts::write_text(code, form, name, &name[..1], b"chapter", out);
     }
-    message_texts::lay_text(code, form, name, &name[..1], b"verse", out)
+    message_texts::write_text(code, form, name, &name[..1], b"verse", out)
 }
 
 // MisplacedNumberMarker.
-fn lay_number<'a>(
+fn write_number<'a>(
     table: &'a [u8],
     words: &[u64],
     entries: usize,
     source: &'a [u8],
     tape: &[u8],
-    q: Asked,
+    q: MessageRequest,
     out: &mut [u8],
 ) -> usize
     requires { ⌜ (Readable (now table) (now words) entries (now source) (now tape) (q .node)) × (q .code ≡ 33) ⌝ }
-    ensures { λ r. ⌜ LaidBy (now (table .entry)) (now (source .entry)) (now (tape .entry)) (askedBy q) (now (out .entry)) (now (out .exit)) r ⌝ }
+    ensures { λ r. ⌜ WrittenBy (now (table .entry)) (now (source .entry)) (now (tape .entry)) (requestBy q) (now (out .entry)) (now (out .exit)) r ⌝ }
 {
     if q.node == 0 {
         return 0;
@@ -328,13 +342,13 @@ fn lay_number<'a>(
     if !marker_checks::is_number_marker(name) {
         return 0;
     }
-    lay_unit(q.code, q.form, name, out)
+    write_unit(q.code, q.form, name, out)
 }
 
 // InvalidBookCode.
-fn lay_book(source: &[u8], tape: &[u8], q: Asked, out: &mut [u8]) -> usize
+fn write_book(source: &[u8], tape: &[u8], q: MessageRequest, out: &mut [u8]) -> usize
     requires { ⌜ (Accepted (now source) (now tape)) × (length (now source) ≤ 1048576) × (q .node < count (now tape)) × (q .code ≡ 5) ⌝ }
-    ensures { λ r. ⌜ ((table : List ℕ) → LaidBy table (now (source .entry)) (now (tape .entry)) (askedBy q) (now (out .entry)) (now (out .exit)) r) ⌝ }
+    ensures { λ r. ⌜ ((table : List ℕ) → WrittenBy table (now (source .entry)) (now (tape .entry)) (requestBy q) (now (out .entry)) (now (out .exit)) r) ⌝ }
 {
     let i = q.node as usize;
     if tape::kind_at(tape, i) != tape::MARKER_OPEN {
@@ -344,37 +358,37 @@ fn lay_book(source: &[u8], tape: &[u8], q: Asked, out: &mut [u8]) -> usize
     if code.len() == 0 {
         return 0;
     }
-    message_texts::lay_text(q.code, q.form, code, b"", b"", out)
+    message_texts::write_text(q.code, q.form, code, b"", b"", out)
 }
 
-// The text that is asked for, its values by its code.
-fn lay<'a>(
+// Writes the text of a finding: its code says which values the text shows.
+fn write_message<'a>(
     table: &'a [u8],
     words: &[u64],
     entries: usize,
     source: &'a [u8],
     tape: &[u8],
-    q: Asked,
+    q: MessageRequest,
     out: &mut [u8],
 ) -> usize
     requires { ⌜ Readable (now table) (now words) entries (now source) (now tape) (q .node) ⌝ }
-    ensures { λ r. ⌜ LaidBy (now (table .entry)) (now (source .entry)) (now (tape .entry)) (askedBy q) (now (out .entry)) (now (out .exit)) r ⌝ }
+    ensures { λ r. ⌜ WrittenBy (now (table .entry)) (now (source .entry)) (now (tape .entry)) (requestBy q) (now (out .entry)) (now (out .exit)) r ⌝ }
 {
     let code = q.code;
     match code {
-        5 => lay_book(source, tape, q, out),
-        9 => lay_numbers(code, q.form, q.first, q.second, out),
-        10 => lay_numbers(code, q.form, q.first, q.second, out),
-        11 => lay_verse(table, words, entries, source, tape, q, out),
-        13 => lay_entry(table, words, entries, source, tape, q, out),
-        15 => lay_label(table, words, entries, source, tape, q, out),
-        16 => lay_base(table, words, entries, source, tape, q, out),
-        24 => lay_entry(table, words, entries, source, tape, q, out),
-        27 => lay_numbers(code, q.form, q.first, q.second, out),
-        32 => lay_owner(table, words, entries, source, tape, q, out),
-        33 => lay_number(table, words, entries, source, tape, q, out),
-        34 => lay_glued(table, words, entries, source, tape, q, out),
-        _ => message_texts::lay_text(q.code, q.form, b"", b"", b"", out),
+        INVALID_BOOK_CODE => write_book(source, tape, q, out),
+        INVALID_CHAPTER_SEQUENCE => write_numbers(code, q.form, q.first, q.second, out),
+        DUPLICATE_CHAPTER => write_numbers(code, q.form, q.first, q.second, out),
+        INVALID_VERSE_SEQUENCE => write_verse(table, words, entries, source, tape, q, out),
+        NOTE_SUBMARKER_OUTSIDE_NOTE => write_entry(table, words, entries, source, tape, q, out),
+        LEADING_ZEROS => write_label(table, words, entries, source, tape, q, out),
+        MILESTONE_MISMATCH => write_base(table, words, entries, source, tape, q, out),
+        BODY_PARAGRAPH_BEFORE_CHAPTER => write_entry(table, words, entries, source, tape, q, out),
+        INVALID_TABLE_COLUMN_SEQUENCE => write_numbers(code, q.form, q.first, q.second, out),
+        DEFAULT_ATTRIBUTE_NOT_DEFINED => write_owner(table, words, entries, source, tape, q, out),
+        MISPLACED_NUMBER_MARKER => write_number(table, words, entries, source, tape, q, out),
+        MISSING_SPACE_BEFORE_NUMBER => write_glued(table, words, entries, source, tape, q, out),
+        _ => message_texts::write_text(q.code, q.form, b"", b"", b"", out),
     }
 }
 
@@ -385,45 +399,51 @@ pub fn message_in<'a>(
     entries: usize,
     source: &'a [u8],
     tape: &[u8],
-    q: Asked,
+    q: MessageRequest,
     out: &mut [u8],
-) -> Told
+) -> MessageAnswer
     requires { ⌜ (Indexed (now table) (now words) entries) × (Accepted (now source) (now tape)) × (length (now source) ≤ 1048576) ⌝ }
-    ensures { λ r. ⌜ (toldOf r ≡ byRoom (messageText (now (table .entry)) (now (source .entry)) (now (tape .entry)) (askedBy q)) (length (now (out .entry)))) × (now (out .exit) ≡ bytesBy none (messageText (now (table .entry)) (now (source .entry)) (now (tape .entry)) (askedBy q)) (now (out .entry))) ⌝ }
+    ensures { λ r. ⌜ (answerOf r ≡ byRoom (messageText (now (table .entry)) (now (source .entry)) (now (tape .entry)) (requestBy q)) (length (now (out .entry)))) × (now (out .exit) ≡ bytesBy none (messageText (now (table .entry)) (now (source .entry)) (now (tape .entry)) (requestBy q)) (now (out .entry))) ⌝ }
 {
     if tape.len() as u64 / 16 <= q.node {
-        return Told::Refused(12, 0);
+        return MessageAnswer::Refused(12, 0);
     }
-    let n = lay(table, words, entries, source, tape, q, out);
+    let n = write_message(table, words, entries, source, tape, q, out);
     if n == 0 {
-        return Told::Refused(12, 0);
+        return MessageAnswer::Refused(12, 0);
     }
     let len = n - 1;
     if out.len() < len {
-        return Told::Refused(13, len as u64);
+        return MessageAnswer::Refused(13, len as u64);
     }
-    Told::Laid(len)
+    MessageAnswer::Written(len)
 }
 
 // The text of a finding: whatever is lent, the answer and the list at exit are the definition's.
-pub fn message<'a>(table: &'a [u8], source: &'a [u8], tape: &[u8], q: Asked, out: &mut [u8]) -> Told
-    ensures answer { λ r. ⌜ toldOf r ≡ answers.told (now (table .entry)) (now (source .entry)) (now (tape .entry)) (askedBy q) (now (out .entry)) ⌝ }
-    ensures bytes { λ r. ⌜ now (out .exit) ≡ bytesAfter (now (table .entry)) (now (source .entry)) (now (tape .entry)) (askedBy q) (now (out .entry)) ⌝ }
+pub fn message<'a>(
+    table: &'a [u8],
+    source: &'a [u8],
+    tape: &[u8],
+    q: MessageRequest,
+    out: &mut [u8],
+) -> MessageAnswer
+    ensures answer { λ r. ⌜ answerOf r ≡ messageAnswer (now (table .entry)) (now (source .entry)) (now (tape .entry)) (requestBy q) (now (out .entry)) ⌝ }
+    ensures bytes { λ r. ⌜ now (out .exit) ≡ messageAfter (now (table .entry)) (now (source .entry)) (now (tape .entry)) (requestBy q) (now (out .entry)) ⌝ }
 {
     let mut words = [0u64; 512];
     match validate::check_input(table, &mut words, source, tape, 65535, 65535) {
-        InputCheck::Refused(number, place) => Told::Refused(number, place),
+        InputCheck::Refused(number, place) => MessageAnswer::Refused(number, place),
         InputCheck::Accepted(entries) => message_in(table, &words, entries, source, tape, q, out),
     }
 }
 
-// What a record of a list asks for.
-fn asked_at(list: &[u64], k: usize) -> Asked
+// The request for the text of a record of a list.
+fn request_at(list: &[u64], k: usize) -> MessageRequest
     requires { ⌜ k < whole (now list) ⌝ }
-    ensures { λ r. ⌜ askedBy r ≡ askedAt (now (list .entry)) k ⌝ }
+    ensures { λ r. ⌜ requestBy r ≡ requestAt (now (list .entry)) k ⌝ }
 {
     let at = 8 * k;
-    Asked {
+    MessageRequest {
         code: list[at + 1],
         form: list[at + 5],
         node: list[at + 4],
@@ -432,8 +452,8 @@ fn asked_at(list: &[u64], k: usize) -> Asked
     }
 }
 
-// The texts of a document that is passed already.
-pub fn tell_in<'a>(
+// Writes the texts of a list's records, for a document that numbers 1 to 9 pass, with its table's index.
+pub fn messages_in<'a>(
     table: &'a [u8],
     words: &[u64],
     entries: usize,
@@ -442,9 +462,9 @@ pub fn tell_in<'a>(
     list: &[u64],
     ends: &mut [u64],
     out: &mut [u8],
-) -> Texts
+) -> MessagesAnswer
     requires { ⌜ (Indexed (now table) (now words) entries) × (Accepted (now source) (now tape)) × (length (now source) ≤ 1048576) ⌝ }
-    ensures answer { λ r. ⌜ texts.toldOf r ≡ texts.toldBy (textAt (now (table .entry)) (now (source .entry)) (now (tape .entry)) (now (list .entry))) (whole (now (list .entry))) (textsOf (now (table .entry)) (now (source .entry)) (now (tape .entry)) (now (list .entry)) (length (now (out .entry)))) ⌝ }
+    ensures answer { λ r. ⌜ messagesAnswerOf r ≡ answerByTexts (textAt (now (table .entry)) (now (source .entry)) (now (tape .entry)) (now (list .entry))) (whole (now (list .entry))) (textsOf (now (table .entry)) (now (source .entry)) (now (tape .entry)) (now (list .entry)) (length (now (out .entry)))) ⌝ }
     ensures bytes { λ r. ⌜ now (out .exit) ≡ over (now (out .entry)) 0 (joined (textsOf (now (table .entry)) (now (source .entry)) (now (tape .entry)) (now (list .entry)) (length (now (out .entry))))) ⌝ }
     ensures ends { λ r. ⌜ now (ends .exit) ≡ over (now (ends .entry)) 0 (endsFrom 0 (textsOf (now (table .entry)) (now (source .entry)) (now (tape .entry)) (now (list .entry)) (length (now (out .entry))))) ⌝ }
 {
@@ -452,10 +472,15 @@ pub fn tell_in<'a>(
     let mut k: usize = 0;
     let mut at: usize = 0;
     while k < n {
-        let q = asked_at(list, k);
+        let q = request_at(list, k);
         match message_in(table, words, entries, source, tape, q, &mut out[at..]) {
-            Told::Refused(number, place) => return Texts::Stopped(k, at, number, place),
-            Told::Laid(len) => {
+            MessageAnswer::Refused(number, place) => return MessagesAnswer::Stopped(
+                k,
+                at,
+                number,
+                place,
+            ),
+            MessageAnswer::Written(len) => {
                 at += len;
                 if k < ends.len() {
                     ends[k] = at as u64;
@@ -464,26 +489,26 @@ pub fn tell_in<'a>(
             }
         }
     }
-    Texts::All(k, at)
+    MessagesAnswer::All(k, at)
 }
 
-// The texts of a list's records, laid one behind another, up to the first that has none or no room, and where each ends.
-pub fn tell<'a>(
+// Writes the texts of a list's records one behind another, up to the first that has none or no room, and where each ends.
+pub fn messages<'a>(
     table: &'a [u8],
     source: &'a [u8],
     tape: &[u8],
     list: &[u64],
     ends: &mut [u64],
     out: &mut [u8],
-) -> Texts
-    ensures answer { λ r. ⌜ texts.toldOf r ≡ texts.told (now (table .entry)) (now (source .entry)) (now (tape .entry)) (now (list .entry)) (length (now (out .entry))) ⌝ }
-    ensures bytes { λ r. ⌜ now (out .exit) ≡ texts.bytesAfter (now (table .entry)) (now (source .entry)) (now (tape .entry)) (now (list .entry)) (now (out .entry)) ⌝ }
-    ensures ends { λ r. ⌜ now (ends .exit) ≡ texts.endsAfter (now (table .entry)) (now (source .entry)) (now (tape .entry)) (now (list .entry)) (length (now (out .entry))) (now (ends .entry)) ⌝ }
+) -> MessagesAnswer
+    ensures answer { λ r. ⌜ messagesAnswerOf r ≡ messagesAnswer (now (table .entry)) (now (source .entry)) (now (tape .entry)) (now (list .entry)) (length (now (out .entry))) ⌝ }
+    ensures bytes { λ r. ⌜ now (out .exit) ≡ messagesAfter (now (table .entry)) (now (source .entry)) (now (tape .entry)) (now (list .entry)) (now (out .entry)) ⌝ }
+    ensures ends { λ r. ⌜ now (ends .exit) ≡ endsAfter (now (table .entry)) (now (source .entry)) (now (tape .entry)) (now (list .entry)) (length (now (out .entry))) (now (ends .entry)) ⌝ }
 {
     let mut words = [0u64; 512];
     match validate::check_input(table, &mut words, source, tape, 65535, 65535) {
-        InputCheck::Refused(number, place) => Texts::Refused(number, place),
-        InputCheck::Accepted(entries) => tell_in(
+        InputCheck::Refused(number, place) => MessagesAnswer::Refused(number, place),
+        InputCheck::Accepted(entries) => messages_in(
             table,
             &words,
             entries,

@@ -14,14 +14,15 @@ use lib.Seq.{getD-set-same, getD-set-other, set-out, ext-getD}
 use borrow.Author.Tests.{eq-eqb, ne-eqb}
 use Rattle.buffer.specs.Over.{over}
 use Rattle.buffer.proofs.Over.{length-over, over-again, set-over, getD-over}
-use Rattle.buffer.proofs.Laying.{Laying, laying-first}
+use Rattle.buffer.proofs.Writing.{Writing, writing-first}
+use Rattle.findings.specs.Codes.{codes}
 use Rattle.tally.specs.Tally.{codeAt, whole, withCode, countsFrom, tallyOf}
 use Rattle.text.specs.Pick.{pick}
 use Rattle.findings.specs.Codes.{codes}
 
 -- one count more cleared
-pub clear-on : (l₀ l : List ℕ) (c : ℕ) → Laying (replicate codes 0) l₀ 0 l c → c < codes → c < length l → Laying (replicate codes 0) l₀ 0 (set l c 0) (c + 1)
-clear-on l₀ l c y h k = rw (getD-replicate {A = ℕ} codes c 0 0 h) at (laying-first (replicate codes 0) l₀ l c y (rw length-replicate h) k)
+pub clear-on : (l₀ l : List ℕ) (c : ℕ) → Writing (replicate codes 0) l₀ 0 l c → c < codes → c < length l → Writing (replicate codes 0) l₀ 0 (set l c 0) (c + 1)
+clear-on l₀ l c y h k = rw (getD-replicate {A = ℕ} codes c 0 0 h) at (writing-first (replicate codes 0) l₀ l c y (rw length-replicate h) k)
 
 length-counts : (l : List ℕ) (c n : ℕ) → length (countsFrom l c n) ≡ n
 unfolding countsFrom
@@ -52,11 +53,11 @@ one-more l yet k c b e h g = rw (add-one k) (choose (ℕ-discrete c (codeAt l k)
     choose (yes z) = rw (z, getD-set-same yet (codeAt l k) b 0 h, eq-eqb (codeAt l k) (codeAt l k) refl) (omega arith)
     choose (no z) = rw (getD-set-other yet (codeAt l k) c b 0 z, ne-eqb (codeAt l k) c (λ q. z (sym q))) (omega arith)
 
--- the counts of the first k records are laid over the list
+-- the counts of the first k records are written over the list
 pub record Counting (l out₀ out : List ℕ) (k : ℕ) : Type 0 where
   pub few : k ≤ whole l
   pub yet : List ℕ
-  pub laid : out ≡ over out₀ 0 yet
+  pub written : out ≡ over out₀ 0 yet
   pub size : length yet ≡ codes
   pub each : (c : ℕ) → c < codes → getD yet c 0 ≡ withCode l c k
 
@@ -66,14 +67,14 @@ counting-start l out out₀ e =
     record {
       few = omega arith;
       yet = replicate codes 0;
-      laid = rw e (sym (over-again out (replicate codes 0) (replicate codes 0) (omega arith)));
+      written = rw e (sym (over-again out (replicate codes 0) (replicate codes 0) (omega arith)));
       size = refl;
       each = λ c h. getD-replicate {A = ℕ} codes c 0 0 h;
     }
 
 module _ (l out₀ out : List ℕ) (k : ℕ) (y : Counting l out₀ out k) where
   pub counting-same : length out ≡ length out₀
-  counting-same = rw (y .laid) (length-over out₀ 0 (y .yet))
+  counting-same = rw (y .written) (length-over out₀ 0 (y .yet))
 
   -- all records are counted, in a list that was cleared
   pub counting-end : (before : List ℕ) → out₀ ≡ over before 0 (replicate codes 0) → whole l ≤ k → out ≡ over before 0 (tallyOf l)
@@ -83,7 +84,7 @@ module _ (l out₀ out : List ℕ) (k : ℕ) (y : Counting l out₀ out k) where
       let q : k ≡ whole l = omega arith in
       let one : (c : ℕ) → c < length (y .yet) → getD (y .yet) c 0 ≡ getD (tallyOf l) c 0 = λ c b. y .each c (omega arith) ∙ rw (q, getD-counts l 0 codes c (omega arith), zero-add) in
       let n = length-counts l 0 codes in
-      y .laid ∙ rw (e, ext-getD 0 (y .yet) (tallyOf l) (s ∙ sym n) one) (over-again before (replicate codes 0) (tallyOf l) (omega arith))
+      y .written ∙ rw (e, ext-getD 0 (y .yet) (tallyOf l) (s ∙ sym n) one) (over-again before (replicate codes 0) (tallyOf l) (omega arith))
 
   module _ (below : k < whole l) (known : codeAt l k < codes) where
     counting-value : codeAt l k < length out → getD out (codeAt l k) 0 ≡ withCode l (codeAt l k) k
@@ -91,7 +92,7 @@ module _ (l out₀ out : List ℕ) (k : ℕ) (y : Counting l out₀ out k) where
         let s = y .size in
         let n = length-over out₀ 0 (y .yet) in
         let e = counting-same in
-        rw (y .laid) (getD-over out₀ (y .yet) (codeAt l k) (omega arith) (omega arith) ∙ y .each (codeAt l k) known)
+        rw (y .written) (getD-over out₀ (y .yet) (codeAt l k) (omega arith) (omega arith) ∙ y .each (codeAt l k) known)
 
     pub counting-small : codeAt l k < length out → getD out (codeAt l k) 0 ≤ k
     counting-small h = omega (arith, counting-value h, code-few l (codeAt l k) k)
@@ -103,7 +104,7 @@ module _ (l out₀ out : List ℕ) (k : ℕ) (y : Counting l out₀ out k) where
         record {
           few = omega arith;
           yet = set (y .yet) (codeAt l k) b;
-          laid = rw (y .laid) (set-over out₀ (y .yet) (codeAt l k) b (omega arith));
+          written = rw (y .written) (set-over out₀ (y .yet) (codeAt l k) b (omega arith));
           size = length-set (y .yet) (codeAt l k) b ∙ s;
           each = λ c h. one-more l (y .yet) k c b e (omega arith) (y .each c h);
         }

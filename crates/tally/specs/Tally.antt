@@ -44,7 +44,7 @@ countsFrom l c (suc n) = withCode l c (whole l) ∷ countsFrom l (suc c) n
 abbrev pub tallyOf : List ℕ → List ℕ
 tallyOf l = countsFrom l 0 codes
 
--- the lent list after it: as it was after a refusal, else the counts laid over it as far as there is room
+-- the lent list after it: as it was after a refusal, else the counts written over it as far as there is room
 abbrev pub countsAfter : List ℕ → List ℕ → List ℕ
 countsAfter l out = pick (isNone (tallyRefusal l)) (over out 0 (tallyOf l)) out
 

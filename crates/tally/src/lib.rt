@@ -68,7 +68,7 @@ fn count(list: &[u64], counts: &mut [u64])
     }
 }
 
-// The counts by code of a list of findings, laid over the lent list as far as it has room. A list that is turned back leaves it as
+// Writes the counts by code of a list of findings over the lent list, as far as it has room. A list that is turned back leaves it as
 // it was.
 pub fn tally(list: &[u64], counts: &mut [u64]) -> Tallied
     ensures answer { λ r. ⌜ answerOf r ≡ tallyRefusal (now (list .entry)) ⌝ }

@@ -46,7 +46,7 @@ use Rattle.validate.specs.declared.Answer.{Answer}
 use Rattle.validate.proofs.Answer as answers
 use Rattle.validate.proofs.check as entry
 use Rattle.validate.proofs.Lists as lists
-use Rattle.messages.specs.Message.{askedOf, messageText}
+use Rattle.messages.specs.Message.{requestOf, messageText}
 use Rattle.messages.proofs.Every.{AllOf}
 use Rattle.messages.proofs.HasMessage as message
 use Rattle.tally.specs.Tally.{whole, tallyRefusal, tallyOf, sum}
@@ -175,7 +175,7 @@ written-words l none-given = lists.written-words l none-given
 
 -- "Message (after 1 to 9): code and form unknown to validate.rs, node or owner not on the tape, letter over 127, or the node lacks what the text needs"
 -- Every finding of a checked document has its text, so number 12 turns none of them back.
-pub finding-has-message : (l : Lent) → refusal l ≡ none → AllOf (λ (f : Finding). (text : List ℕ) × (messageText (l .table) (l .source) (l .tape) (askedOf f) ≡ some text)) (listOf l)
+pub finding-has-message : (l : Lent) → refusal l ≡ none → AllOf (λ (f : Finding). (text : List ℕ) × (messageText (l .table) (l .source) (l .tape) (requestOf f) ≡ some text)) (listOf l)
 finding-has-message l none-given = message.finding-has-message l none-given
 
 -- "Tally gives 35 counts by code."

@@ -44,20 +44,20 @@ slice-aggregate-read-6 c = search needs
 read-requires-3 : tie.Need-read-requires-3
 read-requires-3 c κs = search needs
 
-tell-too-large-requires : tie.Need-tell-too-large-requires
-tell-too-large-requires c κs = search needs
+write-too-large-requires : tie.Need-write-too-large-requires
+write-too-large-requires c κs = search needs
 
 returns : tie.Need-returns
 returns c = search needs
 
-tell-too-large-requires-2 : tie.Need-tell-too-large-requires-2
-tell-too-large-requires-2 c κs = search needs
+write-too-large-requires-2 : tie.Need-write-too-large-requires-2
+write-too-large-requires-2 c κs = search needs
 
 returns-2 : tie.Need-returns-2
 returns-2 c = search needs
 
-tell-too-large-requires-3 : tie.Need-tell-too-large-requires-3
-tell-too-large-requires-3 c κs = search needs
+write-too-large-requires-3 : tie.Need-write-too-large-requires-3
+write-too-large-requires-3 c κs = search needs
 
 returns-3 : tie.Need-returns-3
 returns-3 c = search needs
@@ -104,11 +104,11 @@ main-spec =
     slice-aggregate-read-5
     slice-aggregate-read-6
     read-requires-3
-    tell-too-large-requires
+    write-too-large-requires
     returns
-    tell-too-large-requires-2
+    write-too-large-requires-2
     returns-2
-    tell-too-large-requires-3
+    write-too-large-requires-3
     returns-3
     array-share-prefix-table
     slice-aggregate-exercise

@@ -2,7 +2,7 @@
 -- Assumes nothing.
 use mathlib.Core.Path.{ap, _∙_}
 use Rattle.buffer.specs.Over.{over}
-use Rattle.messages.specs.Told.{Told}
+use Rattle.messages.specs.Answer.{Answer}
 use Rattle.harkoxin.specs.Words.{messageWords}
 use borrow.Author.Needs.{needs}
 use Rattle.harkoxin.proofs.harkoxin_message.Statement.{statement}
@@ -11,8 +11,8 @@ use Rattle.harkoxin.proofs.harkoxin_message.Tie as tie
 message-requires : tie.Need-message-requires
 message-requires c κs = search needs
 
-lay-told-requires : tie.Need-lay-told-requires
-lay-told-requires c κs = search needs
+write-message-answer-requires : tie.Need-write-message-answer-requires
+write-message-answer-requires c κs = search needs
 
 same-length : tie.Need-same-length
 same-length c = search needs
@@ -24,8 +24,8 @@ returns : tie.Need-returns
 returns c =
     let a = c .before .before .before .before .before .before .before .before .before .before .before .before .before .args in
     let e = c .before .before .before .before .before .before .message .ensures in
-    (c .before .before .lay-told .ensures ∙ ap (λ (x : Told). over (a .out .now) 0 (messageWords x)) (e .0), e .1)
+    (c .before .before .write-message-answer .ensures ∙ ap (λ (x : Answer). over (a .out .now) 0 (messageWords x)) (e .0), e .1)
 
 pub harkoxin-message-spec : {M : Type 1} → statement M
 harkoxin-message-spec =
-    tie.close (tie.spec message-requires lay-told-requires same-length same-length-2 returns)
+    tie.close (tie.spec message-requires write-message-answer-requires same-length same-length-2 returns)

@@ -2,17 +2,17 @@
 -- Assumes nothing.
 use mathlib.Core.Path.{ap, _∙_}
 use Rattle.buffer.specs.Over.{over}
-use Rattle.messages.specs.Messages.{Told}
-use Rattle.harkoxin.specs.Words.{textsWords}
+use Rattle.messages.specs.Messages.{MessagesAnswer}
+use Rattle.harkoxin.specs.Words.{messagesWords}
 use borrow.Author.Needs.{needs}
 use Rattle.harkoxin.proofs.harkoxin_messages.Statement.{statement}
 use Rattle.harkoxin.proofs.harkoxin_messages.Tie as tie
 
-tell-requires : tie.Need-tell-requires
-tell-requires c κs = search needs
+messages-requires : tie.Need-messages-requires
+messages-requires c κs = search needs
 
-lay-texts-requires : tie.Need-lay-texts-requires
-lay-texts-requires c κs = search needs
+write-messages-answer-requires : tie.Need-write-messages-answer-requires
+write-messages-answer-requires c κs = search needs
 
 same-length : tie.Need-same-length
 same-length c = search needs
@@ -26,10 +26,10 @@ same-length-3 c = search needs
 returns : tie.Need-returns
 returns c =
     let a = c .before .before .before .before .before .before .before .before .before .before .before .before .before .before .before .before .before .before .args in
-    let e = c .before .before .before .before .before .before .before .before .tell .ensures in
-    (c .before .before .lay-texts .ensures ∙ ap (λ (x : Told). over (a .out .now) 0 (textsWords x)) (e .0), e .1)
+    let e = c .before .before .before .before .before .before .before .before .messages .ensures in
+    (c .before .before .write-messages-answer .ensures ∙ ap (λ (x : MessagesAnswer). over (a .out .now) 0 (messagesWords x)) (e .0), e .1)
 
 pub harkoxin-messages-spec : {M : Type 1} → statement M
 harkoxin-messages-spec =
     tie.close
-    (tie.spec tell-requires lay-texts-requires same-length same-length-2 same-length-3 returns)
+    (tie.spec messages-requires write-messages-answer-requires same-length same-length-2 same-length-3 returns)

@@ -12,8 +12,8 @@ use Rattle.harkoxin.proofs.harkoxin_tally.Tie as tie
 tally-requires : tie.Need-tally-requires
 tally-requires c κs = search needs
 
-lay-tallied-requires : tie.Need-lay-tallied-requires
-lay-tallied-requires c κs = search needs
+write-tallied-requires : tie.Need-write-tallied-requires
+write-tallied-requires c κs = search needs
 
 same-length : tie.Need-same-length
 same-length c = search needs
@@ -25,8 +25,8 @@ returns : tie.Need-returns
 returns c =
     let a = c .before .before .before .before .before .before .before .before .before .before .before .args in
     let e = c .before .before .before .before .before .before .tally .ensures in
-    (c .before .before .lay-tallied .ensures ∙ ap (λ (x : Option Refusal). over (a .out .now) 0 (tallyWords x)) (e .0), e .1)
+    (c .before .before .write-tallied .ensures ∙ ap (λ (x : Option Refusal). over (a .out .now) 0 (tallyWords x)) (e .0), e .1)
 
 pub harkoxin-tally-spec : {M : Type 1} → statement M
 harkoxin-tally-spec =
-    tie.close (tie.spec tally-requires lay-tallied-requires same-length same-length-2 returns)
+    tie.close (tie.spec tally-requires write-tallied-requires same-length same-length-2 returns)

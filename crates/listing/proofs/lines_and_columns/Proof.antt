@@ -1,4 +1,4 @@
--- `listing::lines_and_columns` meets its contract. The invariant: the places passed are told, and `line` and `column` are those of the next.
+-- `listing::lines_and_columns` meets its contract. The invariant: the places passed are written, and `line` and `column` are those of the next.
 -- Assumes nothing.
 use borrow.Author.Needs.{needs}
 use Prim.Native.Nat.{_-_}

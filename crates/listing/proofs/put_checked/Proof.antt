@@ -51,7 +51,7 @@ returns c =
     let third = fourth .before .before .before .before .before in
     let second = third .before .before .before .before .before in
     let first = second .before .before .before .before .before in
-    put-then (first .put-line .ensures) (put-then (second .put-count .ensures .laid) (put-then (third .put-count2 .ensures .laid) (put-then (fourth .put-count3 .ensures .laid) (fifth .put-count4 .ensures .laid))))
+    put-then (first .put-line .ensures) (put-then (second .put-count .ensures .written) (put-then (third .put-count2 .ensures .written) (put-then (fourth .put-count3 .ensures .written) (fifth .put-count4 .ensures .written))))
 
 pub put-checked-spec : {M : Type 1} → statement M
 put-checked-spec =

@@ -7,7 +7,7 @@ use denote.Ref.{now}
 use native.Mathlib.Omega.{arith}
 use Rattle.buffer.specs.Decimal.{decimal}
 use Rattle.buffer.proofs.Decimal.{decimal-length}
-use Rattle.listing.proofs.Lines.{line-laid, line-near}
+use Rattle.listing.proofs.Lines.{line-written, line-near}
 use Rattle.listing.proofs.put_count.Statement.{statement}
 use Rattle.listing.proofs.put_count.Tie as tie
 
@@ -45,7 +45,7 @@ returns c =
     let digits = last .before .before .before .before .before in
     let sign = digits .before .before .before .before in
     let start = sign .before .before .before .before .before .before .before .before .before in
-    line-near (now (start .args .key)) (decimal (start .args .n)) (line-laid (sign .before .before .before .before .before .put .ensures) (sign .put2 .ensures) (digits .put-decimal .ensures) (last .put3 .ensures)) (start .pre .1) (omega (arith, few start))
+    line-near (now (start .args .key)) (decimal (start .args .n)) (line-written (sign .before .before .before .before .before .put .ensures) (sign .put2 .ensures) (digits .put-decimal .ensures) (last .put3 .ensures)) (start .pre .1) (omega (arith, few start))
 
 pub put-count-spec : {M : Type 1} → statement M
 put-count-spec =

@@ -55,7 +55,7 @@ returns c =
     let third = fourth .before .before .before .before .before in
     let second = third .before .before .before .before .before in
     let first = second .before .before .before .before .before .before in
-    put-then (first .put-named .ensures .laid) (put-then (second .put-named2 .ensures .laid) (put-then (third .put-count .ensures .laid) (put-then (fourth .put-count2 .ensures .laid) (fifth .put-line .ensures))))
+    put-then (first .put-named .ensures .written) (put-then (second .put-named2 .ensures .written) (put-then (third .put-count .ensures .written) (put-then (fourth .put-count2 .ensures .written) (fifth .put-line .ensures))))
 
 pub put-finding-spec : {M : Type 1} → statement M
 put-finding-spec =

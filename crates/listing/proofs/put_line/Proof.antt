@@ -1,7 +1,7 @@
 -- `listing::put_line` meets its contract.
 -- Assumes nothing.
 use borrow.Author.Needs.{needs}
-use Rattle.listing.proofs.Lines.{line-laid}
+use Rattle.listing.proofs.Lines.{line-written}
 use Rattle.listing.proofs.put_line.Statement.{statement}
 use Rattle.listing.proofs.put_line.Tie as tie
 
@@ -31,7 +31,7 @@ returns c =
     let fourth = c .before .before in
     let third = fourth .before .before .before .before .before in
     let second = third .before .before .before .before in
-    line-laid (second .before .before .before .before .before .put .ensures) (second .put2 .ensures) (third .put3 .ensures) (fourth .put4 .ensures)
+    line-written (second .before .before .before .before .before .put .ensures) (second .put2 .ensures) (third .put3 .ensures) (fourth .put4 .ensures)
 
 pub put-line-spec : {M : Type 1} → statement M
 put-line-spec =

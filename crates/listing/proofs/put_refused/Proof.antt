@@ -36,7 +36,7 @@ unfolding ascii refusedLines
 returns c =
     let third = c .before .before in
     let second = third .before .before .before .before .before in
-    put-then (second .before .before .before .before .before .put-line .ensures) (put-then (second .put-count .ensures .laid) (third .put-count2 .ensures .laid))
+    put-then (second .before .before .before .before .before .put-line .ensures) (put-then (second .put-count .ensures .written) (third .put-count2 .ensures .written))
 
 pub put-refused-spec : {M : Type 1} → statement M
 put-refused-spec =

@@ -1,4 +1,4 @@
--- `listing::word_start` meets its contract. The invariant: the words from the place on, `left` of them passed over, give the word that is asked for.
+-- `listing::word_start` meets its contract. The invariant: the words from the place on, `left` of them passed over, give the k-th word.
 -- Assumes nothing.
 use borrow.Author.Needs.{needs}
 use Prim.Native.Nat.{_-_, _≤_}

@@ -4,7 +4,7 @@ use borrow.Author.Needs.{needs}
 use Rattle.text.specs.Literal.{ascii}
 use Rattle.message_texts.specs.Texts.{attributeTexts}
 use Rattle.message_texts.specs.Filled.{joined, codeOf}
-use Rattle.message_texts.proofs.Choosing.{laid-at, laid-not, pieces}
+use Rattle.message_texts.proofs.Choosing.{written-at, written-not, pieces}
 use Rattle.message_texts.proofs.attribute_text.Statement.{statement}
 use Rattle.message_texts.proofs.attribute_text.Tie as tie
 
@@ -40,25 +40,25 @@ same-length c = search needs
 
 returns : tie.Need-returns
 unfolding attributeTexts codeOf joined pieces ascii
-returns c = laid-at attributeTexts (c .before .before .before .before .before .before .before .before .before .before .before .before .before .before .before .before .match .keys1) (c .before .before .four .ensures)
+returns c = written-at attributeTexts (c .before .before .before .before .before .before .before .before .before .before .before .before .before .before .before .before .match .keys1) (c .before .before .four .ensures)
 
 same-length-2 : tie.Need-same-length-2
 same-length-2 c = search needs
 
 returns-2 : tie.Need-returns-2
 unfolding attributeTexts codeOf joined pieces ascii
-returns-2 c = laid-at attributeTexts (c .before .before .before .before .before .before .before .match .keys2) (c .before .before .one .ensures)
+returns-2 c = written-at attributeTexts (c .before .before .before .before .before .before .before .match .keys2) (c .before .before .one .ensures)
 
 same-length-3 : tie.Need-same-length-3
 same-length-3 c = search needs
 
 returns-3 : tie.Need-returns-3
 unfolding attributeTexts codeOf joined pieces ascii
-returns-3 c = laid-at attributeTexts (c .before .before .before .before .before .before .before .match .keys3) (c .before .before .one2 .ensures)
+returns-3 c = written-at attributeTexts (c .before .before .before .before .before .before .before .match .keys3) (c .before .before .one2 .ensures)
 
 returns-4 : tie.Need-returns-4
 unfolding attributeTexts
-returns-4 c = laid-not _ attributeTexts _ _ _ (c .match .rest) _
+returns-4 c = written-not _ attributeTexts _ _ _ (c .match .rest) _
 
 pub attribute-text-spec : {M : Type 1} → statement M
 attribute-text-spec =

@@ -10,7 +10,7 @@ use lib.ListN.{length}
 use Rattle.message_texts.specs.Filled.{filled}
 use Rattle.message_texts.specs.Inner.{values}
 use Rattle.message_texts.proofs.Filling.{filled-room}
-use Rattle.message_texts.proofs.Room.{most, one-more, put-length, none-before, has-room, laid-short, laid-long}
+use Rattle.message_texts.proofs.Room.{most, one-more, put-length, none-before, has-room, written-short, written-long}
 use Rattle.message_texts.proofs.fill_within.Statement.{statement}
 use Rattle.message_texts.proofs.fill_within.Tie as tie
 
@@ -48,7 +48,7 @@ same-length : tie.Need-same-length
 same-length c = search needs
 
 returns : tie.Need-returns
-returns c = laid-short _ _ _ _ (c .before .before .before .fill .ensures) (c .if2 .taken)
+returns c = written-short _ _ _ _ (c .before .before .before .fill .ensures) (c .if2 .taken)
 
 fill-requires-2 : tie.Need-fill-requires-2
 fill-requires-2 c κs = search needs
@@ -73,7 +73,7 @@ same-length-2 c = c .before .before .fill2 .kept .1 .1 .1 .1 .0 ∙ ap length (r
 returns-2 : tie.Need-returns-2
 returns-2 c =
     let z = roomy (c .before .before .before .before) in
-    laid-long _ _ _ _ (z .1) (rw (z .0) at (c .before .before .fill2 .ensures))
+    written-long _ _ _ _ (z .1) (rw (z .0) at (c .before .before .fill2 .ensures))
 
 pub fill-within-spec : {M : Type 1} → statement M
 fill-within-spec =

@@ -6,7 +6,7 @@ use lib.ListN.{drop}
 use Rattle.text.specs.Literal.{ascii}
 use Rattle.message_texts.specs.Texts.{markerTexts, attributeTexts}
 use Rattle.message_texts.specs.Filled.{joined, codeOf}
-use Rattle.message_texts.proofs.Choosing.{laid-at, laid-past, pieces}
+use Rattle.message_texts.proofs.Choosing.{written-at, written-past, pieces}
 use Rattle.message_texts.proofs.more_marker_text.Statement.{statement}
 use Rattle.message_texts.proofs.more_marker_text.Tie as tie
 
@@ -48,42 +48,42 @@ same-length c = search needs
 
 returns : tie.Need-returns
 unfolding markerTexts codeOf joined pieces ascii
-returns c = laid-at (drop 4 markerTexts ++ attributeTexts) (c .before .before .before .before .before .before .before .match .keys1) (c .before .before .one .ensures)
+returns c = written-at (drop 4 markerTexts ++ attributeTexts) (c .before .before .before .before .before .before .before .match .keys1) (c .before .before .one .ensures)
 
 same-length-2 : tie.Need-same-length-2
 same-length-2 c = search needs
 
 returns-2 : tie.Need-returns-2
 unfolding markerTexts codeOf joined pieces ascii
-returns-2 c = laid-at (drop 4 markerTexts ++ attributeTexts) (c .before .before .before .before .before .before .before .match .keys2) (c .before .before .one2 .ensures)
+returns-2 c = written-at (drop 4 markerTexts ++ attributeTexts) (c .before .before .before .before .before .before .before .match .keys2) (c .before .before .one2 .ensures)
 
 same-length-3 : tie.Need-same-length-3
 same-length-3 c = search needs
 
 returns-3 : tie.Need-returns-3
 unfolding markerTexts codeOf joined pieces ascii
-returns-3 c = laid-at (drop 4 markerTexts ++ attributeTexts) (c .before .before .before .before .before .before .before .match .keys3) (c .before .before .one3 .ensures)
+returns-3 c = written-at (drop 4 markerTexts ++ attributeTexts) (c .before .before .before .before .before .before .before .match .keys3) (c .before .before .one3 .ensures)
 
 same-length-4 : tie.Need-same-length-4
 same-length-4 c = search needs
 
 returns-4 : tie.Need-returns-4
 unfolding markerTexts codeOf joined pieces ascii
-returns-4 c = laid-at (drop 4 markerTexts ++ attributeTexts) (c .before .before .before .before .before .before .before .match .keys4) (c .before .before .one4 .ensures)
+returns-4 c = written-at (drop 4 markerTexts ++ attributeTexts) (c .before .before .before .before .before .before .before .match .keys4) (c .before .before .one4 .ensures)
 
 same-length-5 : tie.Need-same-length-5
 same-length-5 c = search needs
 
 returns-5 : tie.Need-returns-5
 unfolding markerTexts codeOf joined pieces ascii
-returns-5 c = laid-at (drop 4 markerTexts ++ attributeTexts) (c .before .before .before .before .before .before .before .match .keys5) (c .before .before .one5 .ensures)
+returns-5 c = written-at (drop 4 markerTexts ++ attributeTexts) (c .before .before .before .before .before .before .before .match .keys5) (c .before .before .one5 .ensures)
 
 same-length-6 : tie.Need-same-length-6
 same-length-6 c = search needs
 
 returns-6 : tie.Need-returns-6
 unfolding markerTexts
-returns-6 c = laid-past _ (drop 4 markerTexts) _ _ _ (c .before .before .before .before .match .rest) _ (c .before .before .attribute-text .ensures)
+returns-6 c = written-past _ (drop 4 markerTexts) _ _ _ (c .before .before .before .before .match .rest) _ (c .before .before .attribute-text .ensures)
 
 pub more-marker-text-spec : {M : Type 1} → statement M
 more-marker-text-spec =

@@ -2,7 +2,7 @@
 -- Assumes nothing.
 use borrow.Author.Needs.{needs}
 use native.Mathlib.Omega.{arith}
-use Rattle.message_texts.proofs.Choosing.{laid-first, laid-none}
+use Rattle.message_texts.proofs.Choosing.{written-first, written-none}
 use Rattle.message_texts.proofs.one.Statement.{statement}
 use Rattle.message_texts.proofs.one.Tie as tie
 
@@ -13,10 +13,10 @@ same-length : tie.Need-same-length
 same-length c = search needs
 
 returns : tie.Need-returns
-returns c = laid-first _ (c .before .before .before .before .if1 .taken) (c .before .before .fill-within .ensures)
+returns c = written-first _ (c .before .before .before .before .if1 .taken) (c .before .before .fill-within .ensures)
 
 returns-2 : tie.Need-returns-2
-returns-2 c = laid-none _ (omega arith)
+returns-2 c = written-none _ (omega arith)
 
 pub one-spec : {M : Type 1} → statement M
 one-spec = tie.close (tie.spec fill-within-requires same-length returns returns-2)

@@ -8,19 +8,19 @@ use borrow.Author.Tests.{ltb-true, ltb-false}
 use denote.Ref.{now}
 use lib.ListN.{length}
 use Rattle.definition.specs.Checks.{upper}
-use Rattle.buffer.proofs.Laying.{Laying, laying-start, laying-full, laying-end}
+use Rattle.buffer.proofs.Writing.{Writing, writing-start, writing-full, writing-end}
 use Rattle.message_texts.proofs.Capitals.{length-upper, capitals-on}
 use Rattle.message_texts.proofs.put_capitals.Statement.{statement}
 use Rattle.message_texts.proofs.put_capitals.Tie as tie
 
 abbrev Inv-loop : tie.InvT-loop
-Inv-loop out₀ at s i₀ out i = Laying (upper s) out₀ at out i
+Inv-loop out₀ at s i₀ out i = Writing (upper s) out₀ at out i
 
 abbrev μ-loop : tie.MeasureT-loop
 μ-loop out₀ at s i₀ out i = length s - i
 
 loop-holds : tie.Need-loop-holds Inv-loop μ-loop
-loop-holds c = laying-start _ _ _
+loop-holds c = writing-start _ _ _
 
 add-if1 : tie.Need-add-if1 Inv-loop μ-loop
 add-if1 c = search needs
@@ -60,7 +60,7 @@ returns c =
     let a = c .before .before .before .before .args in
     let e = length-upper (now (a .s)) in
     record {
-      list = ⊎-elim (λ w. laying-full _ _ _ _ _ v (ltb-false _ _ (w .1 .left))) (λ w. laying-end _ _ _ _ _ v (omega arith)) (c .loop-test .came);
+      list = ⊎-elim (λ w. writing-full _ _ _ _ _ v (ltb-false _ _ (w .1 .left))) (λ w. writing-end _ _ _ _ _ v (omega arith)) (c .loop-test .came);
       end = omega arith;
     }
 

@@ -5,20 +5,21 @@ use Prim.Native.Nat.{_-_}
 use borrow.Author.Tests.{ltb-true, ltb-false}
 use native.Mathlib.Omega.{arith}
 use lib.ListN.{replicate}
-use Rattle.buffer.proofs.Laying.{Laying, laying-start, laying-full, laying-end}
+use Rattle.buffer.proofs.Writing.{Writing, writing-start, writing-full, writing-end}
+use Rattle.findings.specs.Codes.{codes}
 use Rattle.tally.proofs.Counting.{clear-on}
 use Rattle.tally.proofs.clear.Statement.{statement}
 use Rattle.tally.proofs.clear.Tie as tie
 use Rattle.findings.specs.Codes.{codes}
 
 abbrev Inv-loop : tie.InvT-loop
-Inv-loop counts₀ c₀ counts c = Laying (replicate codes 0) counts₀ 0 counts c
+Inv-loop counts₀ c₀ counts c = Writing (replicate codes 0) counts₀ 0 counts c
 
 abbrev μ-loop : tie.MeasureT-loop
 μ-loop counts₀ c₀ counts c = codes - c
 
 loop-holds : tie.Need-loop-holds Inv-loop μ-loop
-loop-holds c = laying-start _ _ _
+loop-holds c = writing-start _ _ _
 
 mul-counts : tie.Need-mul-counts Inv-loop μ-loop
 mul-counts c = search needs
@@ -39,13 +40,13 @@ same-length : tie.Need-same-length Inv-loop μ-loop
 same-length c = c .before .before .loop .inv .same
 
 returns : tie.Need-returns Inv-loop μ-loop
-returns c = laying-full _ _ _ _ _ (c .before .before .loop .inv) (omega (arith, ltb-false))
+returns c = writing-full _ _ _ _ _ (c .before .before .loop .inv) (omega (arith, ltb-false))
 
 same-length-2 : tie.Need-same-length-2 Inv-loop μ-loop
 same-length-2 c = search needs
 
 returns-2 : tie.Need-returns-2 Inv-loop μ-loop
-returns-2 c = laying-end _ _ _ _ _ (c .before .loop .inv) (omega arith)
+returns-2 c = writing-end _ _ _ _ _ (c .before .loop .inv) (omega arith)
 
 pub clear-spec : {M : Type 1} → statement M
 clear-spec =
