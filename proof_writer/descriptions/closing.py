@@ -3,7 +3,7 @@
 LAWS = ['proofs/Starts', 'proofs/Zeroed', 'reference_laws::proofs/Sizes', 'definition::specs/Outcome', 'state::specs/Running']
 DEFAULTS = {'OpenStart': 'noStart'}
 
-COUNTED = 'source₀ tape₀ opens₀ (rec₀ .«open») list₀ (countsOf rec₀)'
+COUNTED = 'source₀ tape₀ opens₀ (rec₀ .«open_len») list₀ (countsOf rec₀)'
 HERE = 'here _ _ _ test-while req'
 
 WALKS = {
@@ -14,7 +14,7 @@ WALKS = {
         loop=dict(
             changes='c k list',
             keeps=f'Told {COUNTED} $list $c $k',
-            measure='rec₀ .«open» - $k',
+            measure='rec₀ .«open_len» - $k',
             start=f'told-none {COUNTED} (z-counts .0) says-counts (req .known) (req .room)',
             again='told-more kept test-while says-tell-open',
             less='nearer _ _ test-while'),

@@ -2,7 +2,7 @@
 
 LAWS = ['specs/Entry', 'proofs/Course', 'proofs/Through', 'reference_laws::proofs/Sizes', 'tape::proofs/OneNumber', 'state::specs/Running']
 
-BEGUN = 'req (z-link-at .0) says-link-at (aroundOf (record { body = false; note = false; char = false })) refl list₀ (z-begun .1 .0)'
+BEGUN = 'req (z-link-at .0) says-link-at (contextOf (record { «in_body_para» = false; «in_note» = false; «in_char» = false })) refl list₀ (z-begun .1 .0)'
 WALKED = f'{BEGUN} (z-begun .0) says-begun _ _ _ _ says-walk'
 LENT = 'table₀ source₀ tape₀ seen₀ opens₀ list₀'
 COUNTED = f'{LENT} (req .1) (z-node-count .0) says-node-count'

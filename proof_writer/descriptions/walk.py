@@ -2,10 +2,10 @@
 
 LAWS = ['specs/Walking', 'proofs/Going', 'proofs/Visiting', 'proofs/Steps', 'reference_laws::proofs/Sizes', 'state::specs/Running', 'tape::specs/Nodes']
 
-WITH = '(visit-with (aroundOf around₀) (entryOfInfo m₀) list₀ (req .0) (req .1) (req .3))'
-VISIT = 'table₀ words₀ count₀ source₀ tape₀ depth₀ (aroundOf around₀) i₀ to₀ (entryOfInfo m₀) numbers₀ seen₀ opens₀ list₀ rec₀'
-WHOLE = '(walkAt table₀ source₀ tape₀ (aroundOf around₀) from₀ to₀ seen₀ opens₀ rec₀)'
-WALK = 'table₀ words₀ count₀ source₀ tape₀ depth₀ (aroundOf around₀) from₀ to₀'
+WITH = '(visit-with (contextOf context₀) (entryOfInfo m₀) list₀ (req .0) (req .1) (req .3))'
+VISIT = 'table₀ words₀ count₀ source₀ tape₀ depth₀ (contextOf context₀) i₀ to₀ (entryOfInfo m₀) numbers₀ seen₀ opens₀ list₀ rec₀'
+WHOLE = '(walkAt table₀ source₀ tape₀ (contextOf context₀) from₀ to₀ seen₀ opens₀ rec₀)'
+WALK = 'table₀ words₀ count₀ source₀ tape₀ depth₀ (contextOf context₀) from₀ to₀'
 PASSED = '_ says-past-node _ _ _ _ len-visit-leaf-seen says-visit-leaf _ says-marker'
 
 WALKS = {
@@ -40,8 +40,8 @@ visit = dict(
             reached='(after-paired .0, refl, says-link-at, after-paired .1)'),
         'inner': dict(
             values='before paired from link deeper inner rec opens list',
-            holds=f'Inner {VISIT} $list $opens $paired $before $rec $from $link $deeper (aroundOf $inner)',
-            reached='record { whole = after-can-skip-children .3; before = after-can-skip-children .0; now-is = says-with-anchor-2; from-is = after-can-skip-children .1; link-is = after-can-skip-children .2; deeper = refl; around = says-inside }')},
+            holds=f'Inner {VISIT} $list $opens $paired $before $rec $from $link $deeper (contextOf $inner)',
+            reached='record { whole = after-can-skip-children .3; before = after-can-skip-children .0; now-is = says-with-anchor-2; from-is = after-can-skip-children .1; link-is = after-can-skip-children .2; deeper = refl; context = says-inside }')},
     arms={
         'can_skip_marker': f'visited-skipped {WITH} _ says-can-skip-marker test-can-skip-marker',
         'can_skip_children': 'visited-still (after-paired .1) _ says-link-at _ says-can-skip-children test-can-skip-children _ _ (after-paired .0) says-with-anchor',

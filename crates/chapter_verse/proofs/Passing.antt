@@ -20,29 +20,29 @@ use Rattle.numbers.specs.Label.{labelOf, numbered}
 use Rattle.numbers.specs.Verse.{Position, positionOf, versePart}
 use Rattle.numbers.specs.declared.VersePart.{VersePart}
 use Rattle.numbers.specs.declared.Suffix.the-variants as suffix
-use Rattle.definition.specs.State.{State, firstVerse}
+use Rattle.definition.specs.State.{WalkState, firstVerse}
 use Rattle.definition.specs.State as state
 use Rattle.definition.specs.Checks.{given, chapterChecks, verseChecks, afterChapter, afterVerse, nextBy, leafTold}
 use Rattle.state.specs.Running.{stateOf, countsOf, withCounts, Sane}
-use Rattle.state.specs.declared.Record.{Record}
+use Rattle.state.specs.declared.State.{State}
 use Rattle.chapter_verse.specs.Inner.{PassedChapter, PassedVerse}
 use Rattle.chapter_verse.specs.Leaves.{LeafVisited}
 use Rattle.chapter_verse.proofs.Seen.{latest-push}
 use Rattle.text.proofs.Bool.{or-parts}
 
 -- the record as the code makes it of the chapter's number
-abbrev pub chapterRecord : ℕ → Record → Record
+abbrev pub chapterRecord : ℕ → State → State
 chapterRecord n r =
     record {
       «has_id» = r .«has_id»;
       «has_chapter» = true;
       «has_verse» = r .«has_verse»;
       «front_matter» = r .«front_matter»;
-      «outside_warned» = r .«outside_warned»;
-      chapter = n + 1;
-      verse = record { num = 1; suffix = suffix.None };
-      seen = r .seen + 1;
-      «open» = r .«open»;
+      «verse_outside_warned» = r .«verse_outside_warned»;
+      «expected_chapter» = n + 1;
+      «expected_verse» = record { num = 1; suffix = suffix.None };
+      «seen_len» = r .«seen_len» + 1;
+      «open_len» = r .«open_len»;
       verses = r .verses;
       anchor = r .anchor;
       errors = r .errors;
@@ -51,28 +51,28 @@ chapterRecord n r =
     }
 
 -- the definition's record after a chapter, by its number and the chapters seen
-abbrev chapterState : State → ℕ → List ℕ → State
+abbrev chapterState : WalkState → ℕ → List ℕ → WalkState
 chapterState st n seen =
     record {
       hasId = st .hasId;
       hasChapter = true;
       hasVerse = st .hasVerse;
       frontMatter = st .frontMatter;
-      outsideWarned = st .outsideWarned;
-      chapter = n + 1;
-      verse = firstVerse;
+      verseOutsideWarned = st .verseOutsideWarned;
+      expectedChapter = n + 1;
+      expectedVerse = firstVerse;
       seen = seen;
       openStarts = st .openStarts;
       verses = st .verses;
     }
 
-pub chapter-passed : (t seen : List ℕ) (i n : ℕ) (r : Record) → n ≡ linkAt t i → r .seen < length seen → PassedChapter t i seen r (set seen (r .seen) n) (chapterRecord n r)
+pub chapter-passed : (t seen : List ℕ) (i n : ℕ) (r : State) → n ≡ linkAt t i → r .«seen_len» < length seen → PassedChapter t i seen r (set seen (r .«seen_len») n) (chapterRecord n r)
 unfolding afterChapter
 chapter-passed t seen i n r e h =
     record {
       state =
           λ s opens.
-          ap (chapterState (stateOf s t seen opens r) n) (latest-push seen (r .seen) n h)
+          ap (chapterState (stateOf s t seen opens r) n) (latest-push seen (r .«seen_len») n h)
           ∙ ap (λ (m : ℕ). chapterState (stateOf s t seen opens r) m (m ∷ stateOf s t seen opens r .seen)) e;
       sane = omega arith;
       one-seen = refl;
@@ -81,18 +81,18 @@ chapter-passed t seen i n r e h =
     }
 
 -- the record as the code makes it of the next position and the flag
-abbrev pub verseRecord : VersePart → Bool → Record → Record
+abbrev pub verseRecord : VersePart → Bool → State → State
 verseRecord v warned r =
     record {
       «has_id» = r .«has_id»;
       «has_chapter» = r .«has_chapter»;
       «has_verse» = true;
       «front_matter» = r .«front_matter»;
-      «outside_warned» = warned;
-      chapter = r .chapter;
-      verse = v;
-      seen = r .seen;
-      «open» = r .«open»;
+      «verse_outside_warned» = warned;
+      «expected_chapter» = r .«expected_chapter»;
+      «expected_verse» = v;
+      «seen_len» = r .«seen_len»;
+      «open_len» = r .«open_len»;
       verses = r .verses + 1;
       anchor = r .anchor;
       errors = r .errors;
@@ -100,29 +100,29 @@ verseRecord v warned r =
       infos = r .infos;
     }
 
-abbrev verseState : State → Bool → Position → State
+abbrev verseState : WalkState → Bool → Position → WalkState
 verseState st warned v =
     record {
       hasId = st .hasId;
       hasChapter = st .hasChapter;
       hasVerse = true;
       frontMatter = st .frontMatter;
-      outsideWarned = warned;
-      chapter = st .chapter;
-      verse = v;
+      verseOutsideWarned = warned;
+      expectedChapter = st .expectedChapter;
+      expectedVerse = v;
       seen = st .seen;
       openStarts = st .openStarts;
       verses = st .verses + 1;
     }
 
-module _ (e : Option Entry) (s t : List ℕ) (o : state.Around) (i : ℕ) (r : Record) where
-  pub verse-passed : (label : List ℕ) (v : VersePart) (warned : Bool) → label ≡ labelOf e (cut (span t i) s) → (positionOf v ≡ nextBy (versePart label) label (positionOf (r .verse))) × (v .num ≤ 4294967296) → warned ≡ (r .«outside_warned» || not (o .body)) → PassedVerse e s t o i r (verseRecord v warned r)
+module _ (e : Option Entry) (s t : List ℕ) (o : state.WalkContext) (i : ℕ) (r : State) where
+  pub verse-passed : (label : List ℕ) (v : VersePart) (warned : Bool) → label ≡ labelOf e (cut (span t i) s) → (positionOf v ≡ nextBy (versePart label) label (positionOf (r .«expected_verse»))) × (v .num ≤ 4294967296) → warned ≡ (r .«verse_outside_warned» || not (o .inBodyPara)) → PassedVerse e s t o i r (verseRecord v warned r)
   unfolding afterVerse
   verse-passed label v warned is-label is-next is-warned =
       record {
         state =
             λ seen opens.
-            ap₂ (verseState (stateOf s t seen opens r)) is-warned (is-next .0 ∙ ap (λ (x : List ℕ). nextBy (versePart x) x (positionOf (r .verse))) is-label);
+            ap₂ (verseState (stateOf s t seen opens r)) is-warned (is-next .0 ∙ ap (λ (x : List ℕ). nextBy (versePart x) x (positionOf (r .«expected_verse»))) is-label);
         sane = is-next .1;
         same-seen = refl;
         opens = refl;
@@ -130,24 +130,24 @@ module _ (e : Option Entry) (s t : List ℕ) (o : state.Around) (i : ℕ) (r : R
       }
 
 -- the kind of the node as the code reads it, and what is left of the definition by it
-module _ (table s t : List ℕ) (o : state.Around) (i k : ℕ) (is-kind : k ≡ kindAt t i) where
+module _ (table s t : List ℕ) (o : state.WalkContext) (i k : ℕ) (is-kind : k ≡ kindAt t i) where
   module _ (e : Option Entry) (is-entry : e ≡ infoAt table t i) where
     module _ (chapter : k ≡ 3) where
-      pub told-chapter : (st : State) → leafTold table o st (nodeAt s t i) .findings ≡ given (chapterChecks e st (nodeAt s t i))
+      pub told-chapter : (st : WalkState) → leafTold table o st (nodeAt s t i) .findings ≡ given (chapterChecks e st (nodeAt s t i))
       unfolding leafTold infoAt
       told-chapter st = rw (eq-eqb (kindAt t i) chapterKind (sym is-kind ∙ chapter), is-entry) refl
 
-      state-chapter : (st : State) → leafTold table o st (nodeAt s t i) .state ≡ afterChapter st (nodeAt s t i)
+      state-chapter : (st : WalkState) → leafTold table o st (nodeAt s t i) .state ≡ afterChapter st (nodeAt s t i)
       unfolding leafTold
       state-chapter st = rw (eq-eqb (kindAt t i) chapterKind (sym is-kind ∙ chapter)) refl
 
-      pub room-chapter : (st : State) (c : Counts) → Room c (leafTold table o st (nodeAt s t i) .findings) → Room c (given (chapterChecks e st (nodeAt s t i)))
+      pub room-chapter : (st : WalkState) (c : Counts) → Room c (leafTold table o st (nodeAt s t i) .findings) → Room c (given (chapterChecks e st (nodeAt s t i)))
       room-chapter st c h = rw (told-chapter st) at h
 
-      pub visited-chapter : {seen l seen′ l′ : List ℕ} {r q : Record} {c : Counts} → Wrote (given (chapterChecks e (stateOf s t seen [] r) (nodeAt s t i))) l (countsOf r) l′ c → PassedChapter t i seen r seen′ q → LeafVisited table s t o i seen l r seen′ l′ (withCounts q c)
+      pub visited-chapter : {seen l seen′ l′ : List ℕ} {r q : State} {c : Counts} → Wrote (given (chapterChecks e (stateOf s t seen [] r) (nodeAt s t i))) l (countsOf r) l′ c → PassedChapter t i seen r seen′ q → LeafVisited table s t o i seen l r seen′ l′ (withCounts q c)
       unfolding afterChapter
       visited-chapter {seen} {l} {seen′} {l′} {r} {q} {c} w p =
-          let v : q .verses ≡ r .verses = ap (λ (x : State). x .verses) (p .state [] []) in
+          let v : q .verses ≡ r .verses = ap (λ (x : WalkState). x .verses) (p .state [] []) in
           record {
             wrote = rw (told-chapter (stateOf s t seen [] r)) w;
             state = λ opens. p .state s opens ∙ sym (state-chapter (stateOf s t seen opens r));
@@ -162,21 +162,21 @@ module _ (table s t : List ℕ) (o : state.Around) (i k : ℕ) (is-kind : k ≡ 
       is-four : eqb (kindAt t i) verseKind ≡ true
       is-four = rw (← is-kind) (rw (ne-eqb k 3 no-chapter) at number)
 
-      pub told-verse : (st : State) → leafTold table o st (nodeAt s t i) .findings ≡ given (verseChecks e o st (nodeAt s t i))
+      pub told-verse : (st : WalkState) → leafTold table o st (nodeAt s t i) .findings ≡ given (verseChecks e o st (nodeAt s t i))
       unfolding leafTold infoAt
       told-verse st = rw (ne-eqb (kindAt t i) chapterKind (λ z. no-chapter (is-kind ∙ z)), is-four, is-entry) refl
 
-      state-verse : (st : State) → leafTold table o st (nodeAt s t i) .state ≡ afterVerse e o st (nodeAt s t i)
+      state-verse : (st : WalkState) → leafTold table o st (nodeAt s t i) .state ≡ afterVerse e o st (nodeAt s t i)
       unfolding leafTold infoAt
       state-verse st = rw (ne-eqb (kindAt t i) chapterKind (λ z. no-chapter (is-kind ∙ z)), is-four, is-entry) refl
 
-      pub room-verse : (st : State) (c : Counts) → Room c (leafTold table o st (nodeAt s t i) .findings) → Room c (given (verseChecks e o st (nodeAt s t i)))
+      pub room-verse : (st : WalkState) (c : Counts) → Room c (leafTold table o st (nodeAt s t i) .findings) → Room c (given (verseChecks e o st (nodeAt s t i)))
       room-verse st c h = rw (told-verse st) at h
 
-      pub visited-verse : {seen l l′ : List ℕ} {r q : Record} {c : Counts} → Wrote (given (verseChecks e o (stateOf s t seen [] r) (nodeAt s t i))) l (countsOf r) l′ c → PassedVerse e s t o i r q → LeafVisited table s t o i seen l r seen l′ (withCounts q c)
+      pub visited-verse : {seen l l′ : List ℕ} {r q : State} {c : Counts} → Wrote (given (verseChecks e o (stateOf s t seen [] r) (nodeAt s t i))) l (countsOf r) l′ c → PassedVerse e s t o i r q → LeafVisited table s t o i seen l r seen l′ (withCounts q c)
       unfolding afterVerse
       visited-verse {seen} {l} {l′} {r} {q} {c} w p =
-          let v : q .verses ≡ r .verses + 1 = ap (λ (x : State). x .verses) (p .state [] []) in
+          let v : q .verses ≡ r .verses + 1 = ap (λ (x : WalkState). x .verses) (p .state [] []) in
           record {
             wrote = rw (told-verse (stateOf s t seen [] r)) w;
             state = λ opens. p .state seen opens ∙ sym (state-verse (stateOf s t seen opens r));
@@ -187,7 +187,7 @@ module _ (table s t : List ℕ) (o : state.Around) (i k : ℕ) (is-kind : k ≡ 
             anchor = p .anchor;
           }
 
-  pub visited-other : numbered k ≡ false → (seen l : List ℕ) (r : Record) → Sane r → LeafVisited table s t o i seen l r seen l r
+  pub visited-other : numbered k ≡ false → (seen l : List ℕ) (r : State) → Sane r → LeafVisited table s t o i seen l r seen l r
   unfolding leafTold given
   visited-other no-number seen l r h =
       let z = or-parts (eqb (kindAt t i) chapterKind) (eqb (kindAt t i) verseKind) (ap numbered (sym is-kind) ∙ no-number) in

@@ -15,7 +15,7 @@ use Rattle.numbers.specs.Label.{isGlued, labelOf}
 use Rattle.numbers.specs.Inner.{Labelled}
 use Rattle.numbers.specs.Verse.{versePart}
 use Rattle.attachment.specs.Attached.{among}
-use Rattle.definition.specs.State.{State, Around}
+use Rattle.definition.specs.State.{WalkState, WalkContext}
 use Rattle.definition.specs.Checks.{Check, when, about, error, warning, isEmpty, breaks, letterByte}
 use Rattle.chapter_verse.specs.Inner.{LabelRead}
 use Rattle.findings.specs.Finding.{warningSeverity}
@@ -37,23 +37,23 @@ zeros form e x = when (led (label e x)) (error x leadingZeros form)
 abbrev pub bareChapter : Option Entry → Node → Check
 bareChapter e x = when (isEmpty (label e x)) (error x missingChapterNumber 0)
 
-abbrev pub twice : State → Node → Check
+abbrev pub twice : WalkState → Node → Check
 twice st x = when (among (x .link) (st .seen)) (about x warningSeverity duplicateChapter 0 (x .link) 0)
 
-abbrev pub leaps : State → Node → Check
-leaps st x = when (not (eqb (x .link) (st .chapter))) (about x warningSeverity invalidChapterSequence 0 (st .chapter) (x .link))
+abbrev pub leaps : WalkState → Node → Check
+leaps st x = when (not (eqb (x .link) (st .expectedChapter))) (about x warningSeverity invalidChapterSequence 0 (st .expectedChapter) (x .link))
 
-abbrev pub stray : Around → State → Node → Check
-stray o st x = when (not (o .body) && not (st .outsideWarned)) (warning x verseOutsideParagraph 0)
+abbrev pub stray : WalkContext → WalkState → Node → Check
+stray o st x = when (not (o .inBodyPara) && not (st .verseOutsideWarned)) (warning x verseOutsideParagraph 0)
 
-abbrev pub crossing : Around → Node → Check
-crossing o x = when (o .char) (error x charCrossesVerseBoundary 0)
+abbrev pub crossing : WalkContext → Node → Check
+crossing o x = when (o .inChar) (error x charCrossesVerseBoundary 0)
 
 abbrev pub bareVerse : Option Entry → Node → Check
 bareVerse e x = when (isEmpty (label e x)) (error x missingVerseNumber 0)
 
-abbrev pub amiss : Option Entry → State → Node → Check
-amiss e st x = when (breaks (versePart (label e x)) (st .verse)) (about x warningSeverity invalidVerseSequence 0 (st .verse .number) (letterByte (st .verse .letter)))
+abbrev pub amiss : Option Entry → WalkState → Node → Check
+amiss e st x = when (breaks (versePart (label e x)) (st .expectedVerse)) (about x warningSeverity invalidVerseSequence 0 (st .expectedVerse .number) (letterByte (st .expectedVerse .letter)))
 
 -- the label by its places in the node's text
 pub label-read : (e : Option Entry) (x : Node) (text : List ℕ) (at : LabelSpan) → text ≡ x .text → Labelled e text at → LabelRead e x (take (at .end - at .start) (drop (at .start) text)) (at .glued)
@@ -67,22 +67,22 @@ module _ (e : Option Entry) (x : Node) (l : List ℕ) (is-label : l ≡ label e 
   pub is-bare : eqb (length l) 0 ≡ isEmpty (label e x)
   is-bare = ap isEmpty is-label
 
-  pub is-amiss : (st : State) (b : Bool) → b ≡ breaks (versePart l) (st .verse) → b ≡ amiss e st x .holds
-  is-amiss st b h = h ∙ ap (λ (s : List ℕ). breaks (versePart s) (st .verse)) is-label
+  pub is-amiss : (st : WalkState) (b : Bool) → b ≡ breaks (versePart l) (st .expectedVerse) → b ≡ amiss e st x .holds
+  is-amiss st b h = h ∙ ap (λ (s : List ℕ). breaks (versePart s) (st .expectedVerse)) is-label
 
 -- the chapter's number as the code has it
-module _ (st : State) (x : Node) (n : ℕ) (is : n ≡ x .link) where
+module _ (st : WalkState) (x : Node) (n : ℕ) (is : n ≡ x .link) where
   pub is-twice : (b : Bool) → b ≡ among n (st .seen) → b ≡ twice st x .holds
   is-twice b h = h ∙ ap (λ (m : ℕ). among m (st .seen)) is
 
   pub says-twice : about x warningSeverity duplicateChapter 0 n 0 ≡ twice st x .finding
   says-twice = ap (λ (m : ℕ). about x warningSeverity duplicateChapter 0 m 0) is
 
-  pub is-leap : not (eqb n (st .chapter)) ≡ leaps st x .holds
-  is-leap = ap (λ (m : ℕ). not (eqb m (st .chapter))) is
+  pub is-leap : not (eqb n (st .expectedChapter)) ≡ leaps st x .holds
+  is-leap = ap (λ (m : ℕ). not (eqb m (st .expectedChapter))) is
 
-  pub says-leap : about x warningSeverity invalidChapterSequence 0 (st .chapter) n ≡ leaps st x .finding
-  says-leap = ap (λ (m : ℕ). about x warningSeverity invalidChapterSequence 0 (st .chapter) m) is
+  pub says-leap : about x warningSeverity invalidChapterSequence 0 (st .expectedChapter) n ≡ leaps st x .finding
+  says-leap = ap (λ (m : ℕ). about x warningSeverity invalidChapterSequence 0 (st .expectedChapter) m) is
 
-pub says-amiss : (e : Option Entry) (st : State) (x : Node) (n : ℕ) → n ≡ letterByte (st .verse .letter) → about x warningSeverity invalidVerseSequence 0 (st .verse .number) n ≡ amiss e st x .finding
-says-amiss e st x n h = ap (λ (m : ℕ). about x warningSeverity invalidVerseSequence 0 (st .verse .number) m) h
+pub says-amiss : (e : Option Entry) (st : WalkState) (x : Node) (n : ℕ) → n ≡ letterByte (st .expectedVerse .letter) → about x warningSeverity invalidVerseSequence 0 (st .expectedVerse .number) n ≡ amiss e st x .finding
+says-amiss e st x n h = ap (λ (m : ℕ). about x warningSeverity invalidVerseSequence 0 (st .expectedVerse .number) m) h

@@ -14,7 +14,7 @@ use Rattle.definition.specs.State as state
 use Rattle.definition.specs.Checks.{afterChapter, afterVerse}
 use Rattle.definition.specs.declared.OpenStart.{OpenStart}
 use Rattle.state.specs.Running.{stateOf, Sane}
-use Rattle.state.specs.declared.Record.{Record}
+use Rattle.state.specs.declared.State.{State}
 
 -- a number that a verse position can have, if one is read
 abbrev pub LowRead : PartRead → Type 0
@@ -27,17 +27,17 @@ pub record LabelRead (e : Option Entry) (x : Node) (label : List ℕ) (glued : B
   pub is-glued : glued ≡ isGlued e (nameOf (x .text))
 
 -- the record after the Chapter of node i, and the chapters seen; neither the source nor the open starts matter
-pub record PassedChapter (t : List ℕ) (i : ℕ) (seen : List ℕ) (r : Record) (seen′ : List ℕ) (q : Record) : Type 0 where
+pub record PassedChapter (t : List ℕ) (i : ℕ) (seen : List ℕ) (r : State) (seen′ : List ℕ) (q : State) : Type 0 where
   pub state : (s : List ℕ) (opens : List OpenStart) → stateOf s t seen′ opens q ≡ afterChapter (stateOf s t seen opens r) (nodeAt s t i)
   pub sane : Sane q
-  pub one-seen : q .seen ≡ r .seen + 1
-  pub opens : q .«open» ≡ r .«open»
+  pub one-seen : q .«seen_len» ≡ r .«seen_len» + 1
+  pub opens : q .«open_len» ≡ r .«open_len»
   pub anchor : q .anchor ≡ r .anchor
 
 -- the record after the Verse of node i, whatever chapters are seen and starts open
-pub record PassedVerse (e : Option Entry) (s t : List ℕ) (o : state.Around) (i : ℕ) (r q : Record) : Type 0 where
+pub record PassedVerse (e : Option Entry) (s t : List ℕ) (o : state.WalkContext) (i : ℕ) (r q : State) : Type 0 where
   pub state : (seen : List ℕ) (opens : List OpenStart) → stateOf s t seen opens q ≡ afterVerse e o (stateOf s t seen opens r) (nodeAt s t i)
   pub sane : Sane q
-  pub same-seen : q .seen ≡ r .seen
-  pub opens : q .«open» ≡ r .«open»
+  pub same-seen : q .«seen_len» ≡ r .«seen_len»
+  pub opens : q .«open_len» ≡ r .«open_len»
   pub anchor : q .anchor ≡ r .anchor

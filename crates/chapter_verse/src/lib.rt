@@ -13,8 +13,8 @@ use findings::VERSE_OUTSIDE_PARAGRAPH;
 use numbers::PartRead;
 use numbers::Suffix;
 use numbers::VersePart;
-use state::Around;
-use state::Record;
+use state::Context;
+use state::State;
 use table::Info;
 ghost use mathlib.Core.Path.{_≡_};
 ghost use mathlib.Core.Bool.{not, _&&_, _||_};
@@ -31,7 +31,7 @@ ghost use Rattle.numbers.specs.Verse.{positionOf, readOf, suffixOf, versePart, 
 ghost use Rattle.attachment.specs.Attached.{among};
 ghost use Rattle.definition.specs.Checks;
 ghost use Rattle.definition.specs.Checks.{about, error, given, numberForm, chapterChecks, verseChecks, letterByte, nextBy, leafTold};
-ghost use Rattle.state.specs.Running.{latest, stateOf, aroundOf, countsOf, Sane};
+ghost use Rattle.state.specs.Running.{latest, stateOf, contextOf, countsOf, Sane};
 ghost use Rattle.chapter_verse.specs.Inner.{LowRead, LabelRead, PassedChapter, PassedVerse};
 ghost use Rattle.chapter_verse.specs.Leaves.{LeafVisited};
 
@@ -165,17 +165,17 @@ fn chapter_findings(
     tape: &[u8],
     i: usize,
     seen: &[u32],
-    rec: Record,
+    rec: State,
     list: &mut [u64],
 ) -> Counts
-    requires { ⌜ (i < count (now tape)) × LabelRead (infoOf info) (nodeAt (now source) (now tape) i) (now label) glued × (rec .seen ≤ length (now seen)) × Room (countsOf rec) (given (chapterChecks (infoOf info) (stateOf (now source) (now tape) (now seen) [] rec) (nodeAt (now source) (now tape) i))) ⌝ }
+    requires { ⌜ (i < count (now tape)) × LabelRead (infoOf info) (nodeAt (now source) (now tape) i) (now label) glued × (rec .«seen_len» ≤ length (now seen)) × Room (countsOf rec) (given (chapterChecks (infoOf info) (stateOf (now source) (now tape) (now seen) [] rec) (nodeAt (now source) (now tape) i))) ⌝ }
     ensures { λ r. ⌜ Wrote (given (chapterChecks (infoOf info) (stateOf (now (source .entry)) (now (tape .entry)) (now (seen .entry)) [] rec) (nodeAt (now (source .entry)) (now (tape .entry)) i))) (now (list .entry)) (countsOf rec) (now (list .exit)) r ⌝ }
 {
     let bare = label.len() == 0;
     let number = tape::link_at(tape, i);
     let n = number as u64;
-    let twice = is_seen(seen, rec.seen, number);
-    let next = rec.chapter;
+    let twice = is_seen(seen, rec.seen_len, number);
+    let next = rec.expected_chapter;
     let leaps = n != next;
     let c = state::counts(rec);
     let d = error_if(tape, i, MISSING_CHAPTER_NUMBER, 0, bare, list, c);
@@ -225,20 +225,20 @@ fn verse_findings(
     source: &[u8],
     tape: &[u8],
     i: usize,
-    around: Around,
-    rec: Record,
+    context: Context,
+    rec: State,
     list: &mut [u64],
 ) -> Counts
-    requires { ⌜ (i < count (now tape)) × LabelRead (infoOf info) (nodeAt (now source) (now tape) i) (now label) glued × (readOf read ≡ versePart (now label)) × Sane rec × Room (countsOf rec) (given (verseChecks (infoOf info) (aroundOf around) (stateOf (now source) (now tape) [] [] rec) (nodeAt (now source) (now tape) i))) ⌝ }
-    ensures { λ r. ⌜ Wrote (given (verseChecks (infoOf info) (aroundOf around) (stateOf (now (source .entry)) (now (tape .entry)) [] [] rec) (nodeAt (now (source .entry)) (now (tape .entry)) i))) (now (list .entry)) (countsOf rec) (now (list .exit)) r ⌝ }
+    requires { ⌜ (i < count (now tape)) × LabelRead (infoOf info) (nodeAt (now source) (now tape) i) (now label) glued × (readOf read ≡ versePart (now label)) × Sane rec × Room (countsOf rec) (given (verseChecks (infoOf info) (contextOf context) (stateOf (now source) (now tape) [] [] rec) (nodeAt (now source) (now tape) i))) ⌝ }
+    ensures { λ r. ⌜ Wrote (given (verseChecks (infoOf info) (contextOf context) (stateOf (now (source .entry)) (now (tape .entry)) [] [] rec) (nodeAt (now (source .entry)) (now (tape .entry)) i))) (now (list .entry)) (countsOf rec) (now (list .exit)) r ⌝ }
 {
     let bare = label.len() == 0;
-    let v = rec.verse;
+    let v = rec.expected_verse;
     let n = v.num;
     let amiss = breaks(read, v);
     let letter = letter_byte(v);
-    let outside = neither(around.body, rec.outside_warned);
-    let crosses = around.char;
+    let outside = neither(context.in_body_para, rec.verse_outside_warned);
+    let crosses = context.in_char;
     let c = state::counts(rec);
     let d = warn_if(tape, i, VERSE_OUTSIDE_PARAGRAPH, 0, 0, outside, list, c);
     let e = error_if(tape, i, CHAR_CROSSES_VERSE_BOUNDARY, 0, crosses, list, d);
@@ -258,32 +258,23 @@ fn verse_findings(
 }
 
 // The record after a Chapter, which is among those seen from now on.
-fn after_chapter(tape: &[u8], i: usize, rec: Record, seen: &mut [u32]) -> Record
-    requires { ⌜ (i < count (now tape)) × (rec .seen < length (now seen)) ⌝ }
+fn after_chapter(tape: &[u8], i: usize, rec: State, seen: &mut [u32]) -> State
+    requires { ⌜ (i < count (now tape)) × (rec .«seen_len» < length (now seen)) ⌝ }
     ensures { λ r. ⌜ PassedChapter (now (tape .entry)) i (now (seen .entry)) rec (now (seen .exit)) r ⌝ }
 {
     let number = tape::link_at(tape, i);
-    let k = rec.seen;
+    let k = rec.seen_len;
     seen[k] = number;
-    Record {
-        has_id: rec.has_id,
-        has_chapter: true,
-        has_verse: rec.has_verse,
-        front_matter: rec.front_matter,
-        outside_warned: rec.outside_warned,
-        chapter: number as u64 + 1,
-        verse: VersePart {
-            num: 1,
-            suffix: Suffix::None,
-        },
-        seen: k + 1,
-        open: rec.open,
-        verses: rec.verses,
-        anchor: rec.anchor,
-        errors: rec.errors,
-        warnings: rec.warnings,
-        infos: rec.infos,
-    }
+    let first = VersePart {
+        num: 1,
+        suffix: Suffix::None,
+    };
+    let mut after = rec;
+    after.has_chapter = true;
+    after.expected_chapter = number as u64 + 1;
+    after.expected_verse = first;
+    after.seen_len = k + 1;
+    after
 }
 
 // What is read of a label's end, by what is read of its start, which is the end of a label without a hyphen.
@@ -319,31 +310,21 @@ fn after_verse(
     source: &[u8],
     tape: &[u8],
     i: usize,
-    around: Around,
-    rec: Record,
-) -> Record
+    context: Context,
+    rec: State,
+) -> State
     requires { ⌜ (now label ≡ labelOf (infoOf info) (nodeAt (now source) (now tape) i .text)) × (readOf read ≡ versePart (now label)) × Sane rec × (rec .verses < 4611686018427387904) ⌝ }
-    ensures { λ r. ⌜ PassedVerse (infoOf info) (now (source .entry)) (now (tape .entry)) (aroundOf around) i rec r ⌝ }
+    ensures { λ r. ⌜ PassedVerse (infoOf info) (now (source .entry)) (now (tape .entry)) (contextOf context) i rec r ⌝ }
 {
-    let v = rec.verse;
+    let v = rec.expected_verse;
     let next = verse_after(label, read, v);
-    let warned = or_not(rec.outside_warned, around.body);
-    Record {
-        has_id: rec.has_id,
-        has_chapter: rec.has_chapter,
-        has_verse: true,
-        front_matter: rec.front_matter,
-        outside_warned: warned,
-        chapter: rec.chapter,
-        verse: next,
-        seen: rec.seen,
-        open: rec.open,
-        verses: rec.verses + 1,
-        anchor: rec.anchor,
-        errors: rec.errors,
-        warnings: rec.warnings,
-        infos: rec.infos,
-    }
+    let warned = or_not(rec.verse_outside_warned, context.in_body_para);
+    let mut after = rec;
+    after.has_verse = true;
+    after.verse_outside_warned = warned;
+    after.expected_verse = next;
+    after.verses = rec.verses + 1;
+    after
 }
 
 // A Chapter or a Verse is checked, and any other leaf passed.
@@ -354,13 +335,13 @@ pub fn visit_leaf(
     source: &[u8],
     tape: &[u8],
     i: usize,
-    around: Around,
-    rec: Record,
+    context: Context,
+    rec: State,
     seen: &mut [u32],
     list: &mut [u64],
-) -> Record
-    requires { ⌜ (Indexed (now table) (now words) count) × (Spanned (now source) (now tape) i) × Sane rec × (rec .seen < length (now seen)) × (rec .verses < 4611686018427387904) × Room (countsOf rec) (leafTold (now table) (aroundOf around) (stateOf (now source) (now tape) (now seen) [] rec) (nodeAt (now source) (now tape) i) .findings) ⌝ }
-    ensures { λ r. ⌜ LeafVisited (now (table .entry)) (now (source .entry)) (now (tape .entry)) (aroundOf around) i (now (seen .entry)) (now (list .entry)) rec (now (seen .exit)) (now (list .exit)) r ⌝ }
+) -> State
+    requires { ⌜ (Indexed (now table) (now words) count) × (Spanned (now source) (now tape) i) × Sane rec × (rec .«seen_len» < length (now seen)) × (rec .verses < 4611686018427387904) × Room (countsOf rec) (leafTold (now table) (contextOf context) (stateOf (now source) (now tape) (now seen) [] rec) (nodeAt (now source) (now tape) i) .findings) ⌝ }
+    ensures { λ r. ⌜ LeafVisited (now (table .entry)) (now (source .entry)) (now (tape .entry)) (contextOf context) i (now (seen .entry)) (now (list .entry)) rec (now (seen .exit)) (now (list .exit)) r ⌝ }
 {
     let kind = tape::kind_at(tape, i);
     if !numbers::is_numbered(kind) {
@@ -379,7 +360,18 @@ pub fn visit_leaf(
         return state::with_counts(q, c);
     }
     let read = numbers::parse_verse_part(label);
-    let c = verse_findings(info, label, glued, read, source, tape, i, around, rec, list);
-    let q = after_verse(info, label, read, source, tape, i, around, rec);
+    let c = verse_findings(
+        info,
+        label,
+        glued,
+        read,
+        source,
+        tape,
+        i,
+        context,
+        rec,
+        list,
+    );
+    let q = after_verse(info, label, read, source, tape, i, context, rec);
     state::with_counts(q, c)
 }

@@ -4,12 +4,12 @@ use Rattle.reference_laws.proofs.Call.{Terms, stated-as, val, of-struct, [], _�
 use mathlib.Core.Path.{_≡_}
 use Rattle.state.specs.Running.{countsOf}
 use Rattle.findings.proofs.Counts as Counts-T
-use Rattle.state.proofs.Record as Record-T
+use Rattle.state.proofs.State as State-T
 use Rattle.state.proofs.counts as counts-F
 
 abbrev pub terms : Terms
 terms = stated-as counts-F.Symbol.name (of-struct Counts-T.the-type Counts-T.Laws.the-laws Counts-T.Laws.the-plain)
-    (val (of-struct Record-T.the-type Record-T.Laws.the-laws Record-T.Laws.the-plain) ∷ [])
+    (val (of-struct State-T.the-type State-T.Laws.the-laws State-T.Laws.the-plain) ∷ [])
     (λ r₀. [])
     (λ r₀ r z. (r ≡ countsOf r₀) ∷ [])
 

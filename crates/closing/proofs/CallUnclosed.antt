@@ -8,14 +8,14 @@ use Rattle.closing.specs.Ends.{Left}
 use Rattle.definition.specs.Document as Document
 use Rattle.findings.proofs.Counts as Counts-T
 use Rattle.definition.proofs.OpenStart as OpenStart-T
-use Rattle.state.proofs.Record as Record-T
+use Rattle.state.proofs.State as State-T
 use Rattle.closing.proofs.unclosed as unclosed-F
 
 abbrev pub terms : Terms
 terms = stated-as unclosed-F.Symbol.name (of-struct Counts-T.the-type Counts-T.Laws.the-laws Counts-T.Laws.the-plain)
-    (shr u8 ∷ shr u8 ∷ mut OpenStart-T.the-row ∷ val (of-struct Record-T.the-type Record-T.Laws.the-laws Record-T.Laws.the-plain) ∷ mut u64 ∷ [])
+    (shr u8 ∷ shr u8 ∷ mut OpenStart-T.the-row ∷ val (of-struct State-T.the-type State-T.Laws.the-laws State-T.Laws.the-plain) ∷ mut u64 ∷ [])
     (λ source₀ tape₀ opens₀ rec₀ list₀. (Left source₀ tape₀ opens₀ rec₀) ∷ [])
-    (λ source₀ tape₀ opens₀ rec₀ list₀ r z. (((z .0) ≡ opens₀) × Wrote (Document.unclosed (starts source₀ tape₀ opens₀ (rec₀ .«open»))) list₀ (countsOf rec₀) (z .1 .0) r) ∷ [])
+    (λ source₀ tape₀ opens₀ rec₀ list₀ r z. (((z .0) ≡ opens₀) × Wrote (Document.unclosed (starts source₀ tape₀ opens₀ (rec₀ .«open_len»))) list₀ (countsOf rec₀) (z .1 .0) r) ∷ [])
 
 pub known : Known terms unclosed-F.signature (λ M 𝓤 H A at-mem run. unclosed-F.spec 𝓤 H A at-mem run)
 known M 𝓤 H 𝓜 𝓖 𝓡 γ r at met x cs = cited 𝓤 H _ 𝓜 𝓡 γ (terms .name) r at met (bound-at (rule-of terms x .pars) cs)

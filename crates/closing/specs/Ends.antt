@@ -10,20 +10,20 @@ use Rattle.definition.specs.Checks.{Check, when, error}
 use Rattle.definition.specs.declared.OpenStart.{OpenStart}
 use Rattle.definition.specs.Document.{ofDocument, unclosed}
 use Rattle.state.specs.Running.{starts, countsOf, Opens}
-use Rattle.state.specs.declared.Record.{Record}
+use Rattle.state.specs.declared.State.{State}
 use Rattle.findings.specs.Codes.{milestoneMismatch, unclosedStart, missingIdMarker, missingChapterMarker}
 
 -- MissingIdMarker, MissingChapterMarker: the conditions of `closing`, of the code's record
-abbrev pub missingChecks : Record → List Check
+abbrev pub missingChecks : State → List Check
 missingChecks r =
     when (not (r .«has_id») && (r .«has_chapter» || r .«has_verse»)) (ofDocument missingIdMarker)
     ∷ when ((r .«has_id» || r .«has_verse») && (not (r .«has_chapter») && not (r .«front_matter»))) (ofDocument missingChapterMarker)
     ∷ []
 
 -- the open starts that are left are known, and there is room for what is said of them
-pub record Left (s t : List ℕ) (opens : List OpenStart) (r : Record) : Type 0 where
-  pub known : Opens s t opens (r .«open»)
-  pub room : Room (countsOf r) (unclosed (starts s t opens (r .«open»)))
+pub record Left (s t : List ℕ) (opens : List OpenStart) (r : State) : Type 0 where
+  pub known : Opens s t opens (r .«open_len»)
+  pub room : Room (countsOf r) (unclosed (starts s t opens (r .«open_len»)))
 
 -- what is said of one
 abbrev pub ofOpen : List ℕ → OpenStart → List Finding

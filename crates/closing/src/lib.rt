@@ -7,7 +7,7 @@ use findings::MISSING_CHAPTER_MARKER;
 use findings::MISSING_ID_MARKER;
 use findings::Severity;
 use findings::TEXT_BEFORE_ID;
-use state::Record;
+use state::State;
 ghost use mathlib.Core.Path.{_≡_};
 ghost use mathlib.Core.Bool.{not, _&&_, _||_};
 ghost use Prim.Native.Nat.{_≤_};
@@ -53,7 +53,7 @@ fn is_solid_text(source: &[u8], tape: &[u8], i: usize) -> bool
 }
 
 // Text before the `\id` marker: the first child of the root.
-pub fn text_before(source: &[u8], tape: &[u8], to: usize, rec: Record, list: &mut [u64]) -> Counts
+pub fn text_before(source: &[u8], tape: &[u8], to: usize, rec: State, list: &mut [u64]) -> Counts
     requires { ⌜ (Run (now source) (now tape) 1 to) × Room (countsOf rec) (textBefore (forest (now source) (now tape) 1 to)) ⌝ }
     ensures { λ r. ⌜ Wrote (textBefore (forest (now (source .entry)) (now (tape .entry)) 1 to)) (now (list .entry)) (countsOf rec) (now (list .exit)) r ⌝ }
 {
@@ -92,13 +92,13 @@ pub fn unclosed(
     source: &[u8],
     tape: &[u8],
     opens: &mut [OpenStart],
-    rec: Record,
+    rec: State,
     list: &mut [u64],
 ) -> Counts
     requires { ⌜ Left (now source) (now tape) (now opens) rec ⌝ }
-    ensures { λ r. ⌜ (now (opens .exit) ≡ now (opens .entry)) × Wrote (Document.unclosed (starts (now (source .entry)) (now (tape .entry)) (now (opens .entry)) (rec .«open»))) (now (list .entry)) (countsOf rec) (now (list .exit)) r ⌝ }
+    ensures { λ r. ⌜ (now (opens .exit) ≡ now (opens .entry)) × Wrote (Document.unclosed (starts (now (source .entry)) (now (tape .entry)) (now (opens .entry)) (rec .«open_len»))) (now (list .entry)) (countsOf rec) (now (list .exit)) r ⌝ }
 {
-    let n = rec.open;
+    let n = rec.open_len;
     let mut c = state::counts(rec);
     let mut k: usize = 0;
     while k < n {
@@ -110,7 +110,7 @@ pub fn unclosed(
 }
 
 // Numbers without a book, a book without chapters.
-pub fn missing(rec: Record, list: &mut [u64], c: Counts) -> Counts
+pub fn missing(rec: State, list: &mut [u64], c: Counts) -> Counts
     requires { ⌜ Room c (given (missingChecks rec)) ⌝ }
     ensures { λ r. ⌜ Wrote (given (missingChecks rec)) (now (list .entry)) c (now (list .exit)) r ⌝ }
 {

@@ -31,7 +31,7 @@ use Rattle.rows.specs.Cells.{Range}
 use Rattle.rows.specs.Row.{cellIn, outOfOrder, byColumns, rowFrom, rowFindings}
 use Rattle.numbers.specs.Verse.{Position, versePart, inSequence}
 use Rattle.numbers.specs.Label.{isGlued, labelOf}
-use Rattle.definition.specs.State.{State, initial, outside, Around, Anchor, past, Told}
+use Rattle.definition.specs.State.{WalkState, initial, outside, WalkContext, Anchor, past, Told}
 use Rattle.definition.specs.Checks.{error, warning, Check, given, entryOf, afterChapter, afterVerse, chapterChecks, verseChecks, leafTold, bookCode, idName, trName, idChecks, afterId, placeChecks, contentChecks}
 use Rattle.definition.specs.Milestones.{milestoneChecks, afterMilestone}
 use Rattle.definition.specs.Walk.{Walked, leafAnchor, openTold, inside, before, after, thenWalk, byEntry, walk}
@@ -157,7 +157,7 @@ unfolding given
 given-graded [] h = tt
 given-graded (c ∷ cs) h = graded-append (only (c .holds) (c .finding)) (given cs) (graded-only (c .holds) (c .finding) (h .0)) (given-graded cs (h .1))
 
-leaf-graded : (table : List ℕ) (o : Around) (st : State) (x : Node) → Graded (leafTold table o st x .findings)
+leaf-graded : (table : List ℕ) (o : WalkContext) (st : WalkState) (x : Node) → Graded (leafTold table o st x .findings)
 unfolding leafTold
 leaf-graded table o st x = given-graded _ (go (eqb (x .kind) chapterKind) (eqb (x .kind) verseKind))
   where
@@ -166,7 +166,7 @@ leaf-graded table o st x = given-graded _ (go (eqb (x .kind) chapterKind) (eqb (
     go false true = (omega arith, (omega arith, (omega arith, (omega arith, (omega arith, (omega arith, tt))))))
     go false false = tt
 
-open-graded : (table : List ℕ) (o : Around) (a : Option Anchor) (st : State) (e : Entry) (x : Node) (c f : Forest) → Graded (openTold table o a st e x c f .findings)
+open-graded : (table : List ℕ) (o : WalkContext) (a : Option Anchor) (st : WalkState) (e : Entry) (x : Node) (c f : Forest) → Graded (openTold table o a st e x c f .findings)
 unfolding openTold
 open-graded table o a st e x c f =
     let name = cut (e .name) table in
@@ -178,7 +178,7 @@ open-graded table o a st e x c f =
     (graded-append (given checks ++ row) attributes (graded-append (given checks) row (given-graded checks (omega arith, (omega arith, (omega arith, (omega arith, (omega arith, (omega arith, (omega arith, (omega arith, (omega arith, tt)))))))))) (graded-pick (equal name trName) (rowFindings c) [] (row-graded 1 c) tt)) (attributes-graded (x .number) (nameOf (x .text)) c))
     (given-graded (milestoneChecks e st₁ x) (omega arith, tt))
 
-walk-graded : (table : List ℕ) (o : Around) (a : Option Anchor) (f : Forest) (st : State) → Graded (walk table o a f st .findings)
+walk-graded : (table : List ℕ) (o : WalkContext) (a : Option Anchor) (f : Forest) (st : WalkState) → Graded (walk table o a f st .findings)
 unfolding walk
 walk-graded table o a end st = tt
 walk-graded table o a (leaf x r) st =
@@ -186,7 +186,7 @@ walk-graded table o a (leaf x r) st =
 walk-graded table o a (node x c r) st =
     go (entryOf table x) (λ p s. walk-graded table p none c s) (λ s. walk-graded table o (past a (node x c end)) r s)
   where
-    go : (q : Option Entry) → ((p : Around) (s : State) → Graded (walk table p none c s .findings)) → ((s : State) → Graded (walk table o (past a (node x c end)) r s .findings)) → Graded (byEntry q (walk table o (past a (node x c end)) r st) (λ e. after (openTold table o a st e x c (node x c r)) (λ st₁. thenWalk (walk table (inside o e) none c st₁) (walk table o (past a (node x c end)) r))) .findings)
+    go : (q : Option Entry) → ((p : WalkContext) (s : WalkState) → Graded (walk table p none c s .findings)) → ((s : WalkState) → Graded (walk table o (past a (node x c end)) r s .findings)) → Graded (byEntry q (walk table o (past a (node x c end)) r st) (λ e. after (openTold table o a st e x c (node x c r)) (λ st₁. thenWalk (walk table (inside o e) none c st₁) (walk table o (past a (node x c end)) r))) .findings)
     go none below later = later st
     go (some e) below later =
         let t = openTold table o a st e x c (node x c r) in
@@ -199,7 +199,7 @@ unfolding unclosed
 unclosed-graded [] = tt
 unclosed-graded (x ∷ xs) = graded-append (unclosed xs) (error x milestoneMismatch unclosedStart ∷ []) (unclosed-graded xs) (omega arith, tt)
 
-closing-graded : (st : State) → Graded (closing st)
+closing-graded : (st : WalkState) → Graded (closing st)
 unfolding closing
 closing-graded st = graded-append (unclosed (st .openStarts)) (given _) (unclosed-graded (st .openStarts)) (given-graded _ (omega arith, (omega arith, tt)))
 
@@ -225,7 +225,7 @@ severities (f ∷ fs) h = go (f .severity) (h .0 .0) (severities fs (h .1))
     go (suc (suc zero)) l q = omega arith
     go (suc (suc (suc n))) l q = absurd (omega arith)
 
-leaf-verses : (table : List ℕ) (o : Around) (st : State) (x : Node) → leafTold table o st x .state .verses ≤ st .verses + 1
+leaf-verses : (table : List ℕ) (o : WalkContext) (st : WalkState) (x : Node) → leafTold table o st x .state .verses ≤ st .verses + 1
 unfolding leafTold afterChapter afterVerse
 leaf-verses table o st x = go (eqb (x .kind) chapterKind) (eqb (x .kind) verseKind)
   where
@@ -234,11 +234,11 @@ leaf-verses table o st x = go (eqb (x .kind) chapterKind) (eqb (x .kind) verseKi
     go false true = le-refl (st .verses + 1)
     go false false = omega arith
 
-open-verses : (table : List ℕ) (o : Around) (a : Option Anchor) (st : State) (e : Entry) (x : Node) (c f : Forest) → openTold table o a st e x c f .state .verses ≡ st .verses
+open-verses : (table : List ℕ) (o : WalkContext) (a : Option Anchor) (st : WalkState) (e : Entry) (x : Node) (c f : Forest) → openTold table o a st e x c f .state .verses ≡ st .verses
 unfolding openTold afterMilestone afterId
 open-verses table o a st e x c f = refl
 
-walk-verses : (table : List ℕ) (o : Around) (a : Option Anchor) (f : Forest) (st : State) → walk table o a f st .state .verses ≤ st .verses + nodesIn f
+walk-verses : (table : List ℕ) (o : WalkContext) (a : Option Anchor) (f : Forest) (st : WalkState) → walk table o a f st .state .verses ≤ st .verses + nodesIn f
 unfolding walk nodesIn
 walk-verses table o a end st = omega arith
 walk-verses table o a (leaf x r) st =
@@ -248,7 +248,7 @@ walk-verses table o a (leaf x r) st =
 walk-verses table o a (node x c r) st =
     go (entryOf table x) (λ p s. walk-verses table p none c s) (λ s. walk-verses table o (past a (node x c end)) r s)
   where
-    go : (q : Option Entry) → ((p : Around) (s : State) → walk table p none c s .state .verses ≤ s .verses + nodesIn c) → ((s : State) → walk table o (past a (node x c end)) r s .state .verses ≤ s .verses + nodesIn r) → byEntry q (walk table o (past a (node x c end)) r st) (λ e. after (openTold table o a st e x c (node x c r)) (λ st₁. thenWalk (walk table (inside o e) none c st₁) (walk table o (past a (node x c end)) r))) .state .verses ≤ st .verses + (1 + nodesIn c + nodesIn r)
+    go : (q : Option Entry) → ((p : WalkContext) (s : WalkState) → walk table p none c s .state .verses ≤ s .verses + nodesIn c) → ((s : WalkState) → walk table o (past a (node x c end)) r s .state .verses ≤ s .verses + nodesIn r) → byEntry q (walk table o (past a (node x c end)) r st) (λ e. after (openTold table o a st e x c (node x c r)) (λ st₁. thenWalk (walk table (inside o e) none c st₁) (walk table o (past a (node x c end)) r))) .state .verses ≤ st .verses + (1 + nodesIn c + nodesIn r)
     go none below later = let k = later st in omega arith
     go (some e) below later =
         let t = openTold table o a st e x c (node x c r) in

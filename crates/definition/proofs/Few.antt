@@ -23,7 +23,7 @@ use Rattle.attributes.specs.Attributes.{attributesFindings}
 use Rattle.attributes.proofs.Few.{attributes-few}
 use Rattle.rows.specs.Row.{rowFindings}
 use Rattle.rows.proofs.Few.{only-few, row-few}
-use Rattle.definition.specs.State.{State, initial, outside, Around, Anchor, past, Told}
+use Rattle.definition.specs.State.{WalkState, initial, outside, WalkContext, Anchor, past, Told}
 use Rattle.definition.specs.Checks.{warning, Check, when, given, entryOf, chapterChecks, verseChecks, leafTold, bookCode, idName, trName, idChecks, afterId, placeChecks, contentChecks}
 use Rattle.definition.specs.Milestones.{milestoneChecks}
 use Rattle.definition.specs.Walk.{Walked, leafAnchor, openTold, inside, after, thenWalk, byEntry, walk}
@@ -39,7 +39,7 @@ given-few (c ∷ cs) = go (c .holds) (given-few cs)
     go true h = omega arith
     go false h = omega arith
 
-leaf-few : (table : List ℕ) (o : Around) (st : State) (x : Node) → length (leafTold table o st x .findings) ≤ 6
+leaf-few : (table : List ℕ) (o : WalkContext) (st : WalkState) (x : Node) → length (leafTold table o st x .findings) ≤ 6
 unfolding leafTold
 leaf-few table o st x = go (eqb (x .kind) chapterKind) (eqb (x .kind) verseKind)
   where
@@ -52,7 +52,7 @@ pick-few : (b : Bool) (fs : List Finding) (n : ℕ) → length fs ≤ n → leng
 pick-few true fs n h = h
 pick-few false fs n h = omega arith
 
-open-few : (table : List ℕ) (o : Around) (a : Option Anchor) (st : State) (e : Entry) (x : Node) (c f : Forest) → length (openTold table o a st e x c f .findings) ≤ 10 + 2 * breadth c
+open-few : (table : List ℕ) (o : WalkContext) (a : Option Anchor) (st : WalkState) (e : Entry) (x : Node) (c f : Forest) → length (openTold table o a st e x c f .findings) ≤ 10 + 2 * breadth c
 unfolding openTold
 open-few table o a st e x c f =
     let name = cut (e .name) table in
@@ -67,7 +67,7 @@ open-few table o a st e x c f =
     let m = given-few (milestoneChecks e st₁ x) in
     omega (arith, length-append (checks ++ row ++ attributes) last, length-append (checks ++ row) attributes, length-append checks row)
 
-pub walk-few : (table : List ℕ) (o : Around) (a : Option Anchor) (f : Forest) (st : State) → length (walk table o a f st .findings) + 2 * breadth f ≤ 16 * weight f
+pub walk-few : (table : List ℕ) (o : WalkContext) (a : Option Anchor) (f : Forest) (st : WalkState) → length (walk table o a f st .findings) + 2 * breadth f ≤ 16 * weight f
 unfolding walk breadth weight
 walk-few table o a end st = le-refl 0
 walk-few table o a (leaf x r) st =
@@ -78,7 +78,7 @@ walk-few table o a (leaf x r) st =
 walk-few table o a (node x c r) st =
     go (entryOf table x) (λ p s. walk-few table p none c s) (λ s. walk-few table o (past a (node x c end)) r s)
   where
-    go : (q : Option Entry) → ((p : Around) (s : State) → length (walk table p none c s .findings) + 2 * breadth c ≤ 16 * weight c) → ((s : State) → length (walk table o (past a (node x c end)) r s .findings) + 2 * breadth r ≤ 16 * weight r) → length (byEntry q (walk table o (past a (node x c end)) r st) (λ e. after (openTold table o a st e x c (node x c r)) (λ st₁. thenWalk (walk table (inside o e) none c st₁) (walk table o (past a (node x c end)) r))) .findings) + 2 * (amount x + breadth r) ≤ 16 * (amount x + weight c + weight r)
+    go : (q : Option Entry) → ((p : WalkContext) (s : WalkState) → length (walk table p none c s .findings) + 2 * breadth c ≤ 16 * weight c) → ((s : WalkState) → length (walk table o (past a (node x c end)) r s .findings) + 2 * breadth r ≤ 16 * weight r) → length (byEntry q (walk table o (past a (node x c end)) r st) (λ e. after (openTold table o a st e x c (node x c r)) (λ st₁. thenWalk (walk table (inside o e) none c st₁) (walk table o (past a (node x c end)) r))) .findings) + 2 * (amount x + breadth r) ≤ 16 * (amount x + weight c + weight r)
     go none below later = let k = later st in omega arith
     go (some e) below later =
         let t = openTold table o a st e x c (node x c r) in
@@ -100,7 +100,7 @@ unfolding unclosed
 unclosed-length [] = refl
 unclosed-length (x ∷ xs) = length-append (unclosed xs) _ ∙ (let h = unclosed-length xs in omega arith)
 
-closing-few : (st : State) → length (closing st) ≤ length (st .openStarts) + 2
+closing-few : (st : WalkState) → length (closing st) ≤ length (st .openStarts) + 2
 unfolding closing
 closing-few st =
     let checks = when (not (st .hasId) && (st .hasChapter || st .hasVerse)) (ofDocument missingIdMarker) ∷ when ((st .hasId || st .hasVerse) && (not (st .hasChapter) && not (st .frontMatter))) (ofDocument missingChapterMarker) ∷ [] in

@@ -13,7 +13,7 @@ use Rattle.text.specs.Pick.{pick}
 use Rattle.tape.specs.Nodes.{Node}
 use Rattle.tape.specs.Forest.{Forest, end, leaf, node, followed}
 use Rattle.findings.specs.Finding.{Finding}
-use Rattle.definition.specs.State.{State, initial, outside}
+use Rattle.definition.specs.State.{WalkState, initial, outside}
 use Rattle.definition.specs.Checks.{error}
 use Rattle.definition.specs.Milestones.{isStart, sameBase, visits, Mark, free, untaken, taking, met, marksFrom, marks, freeStarts, takerFrom, takenFrom}
 use Rattle.definition.specs.Walk.{Walked, walk}

@@ -13,7 +13,7 @@ use Rattle.table.specs.Entries.{Entry}
 use Rattle.cursor.specs.Names.{nameOf}
 use Rattle.findings.specs.Finding.{Finding}
 use Rattle.attachment.specs.Attached.{isAlternate, isPublished, claims, isBlank, plain, onlyIf, runOf, starts, among, isAttached}
-use Rattle.definition.specs.State.{State, Around, Anchor, past, Told}
+use Rattle.definition.specs.State.{WalkState, WalkContext, Anchor, past, Told}
 use Rattle.definition.specs.Checks.{entryOf, leafTold, attachedTo}
 use Rattle.definition.specs.Walk.{Walked, leafAnchor, openTold, inside, before, after, thenWalk, byEntry, walk}
 
@@ -43,18 +43,18 @@ settled none x c r = refl
 settled (some a) x c r = settled-run (a .kind) (x .start) false false (a .passed) x c r refl
 
 -- what is said of a marker does not depend on what stands after it
-pub open-settled : (table : List ℕ) (o : Around) (a : Option Anchor) (st : State) (e : Entry) (x : Node) (c r g : Forest) → openTold table o a st e x c (node x c (followed r g)) ≡ openTold table o a st e x c (node x c r)
+pub open-settled : (table : List ℕ) (o : WalkContext) (a : Option Anchor) (st : WalkState) (e : Entry) (x : Node) (c r g : Forest) → openTold table o a st e x c (node x c (followed r g)) ≡ openTold table o a st e x c (node x c r)
 unfolding openTold
 open-settled table o a st e x c r g = rw (settled a x c (followed r g), settled a x c r)
 
 -- the walk of a run, and then what the anchor and the record after it lead to
-abbrev pub thenRun : Walked → (Option Anchor → State → Walked) → Walked
+abbrev pub thenRun : Walked → (Option Anchor → WalkState → Walked) → Walked
 thenRun w rest = before (w .findings) (rest (w .anchor) (w .state))
 
 before-before : (fs gs : List Finding) (w : Walked) → before fs (before gs w) ≡ before (fs ++ gs) w
 before-before fs gs w = ap (λ (l : List Finding). record { findings = l; anchor = w .anchor; state = w .state }) (sym (append-assoc fs gs (w .findings)))
 
-pub walk-then : (table : List ℕ) (o : Around) (a : Option Anchor) (f g : Forest) (st : State) → walk table o a (followed f g) st ≡ thenRun (walk table o a f st) (λ b s. walk table o b g s)
+pub walk-then : (table : List ℕ) (o : WalkContext) (a : Option Anchor) (f g : Forest) (st : WalkState) → walk table o a (followed f g) st ≡ thenRun (walk table o a f st) (λ b s. walk table o b g s)
 unfolding walk followed
 walk-then table o a end g st = refl
 walk-then table o a (leaf x r) g st =
@@ -65,7 +65,7 @@ walk-then table o a (node x c r) g st =
     go (entryOf table x) (λ s. walk-then table o (past a (node x c end)) r g s)
   where
     go : (q : Option Entry)
-        → ((s : State) → walk table o (past a (node x c end)) (followed r g) s ≡ thenRun (walk table o (past a (node x c end)) r s) (λ b s′. walk table o b g s′))
+        → ((s : WalkState) → walk table o (past a (node x c end)) (followed r g) s ≡ thenRun (walk table o (past a (node x c end)) r s) (λ b s′. walk table o b g s′))
         → byEntry q (walk table o (past a (node x c end)) (followed r g) st) (λ e. after (openTold table o a st e x c (node x c (followed r g))) (λ st₁. thenWalk (walk table (inside o e) none c st₁) (walk table o (past a (node x c end)) (followed r g))))
         ≡ thenRun (byEntry q (walk table o (past a (node x c end)) r st) (λ e. after (openTold table o a st e x c (node x c r)) (λ st₁. thenWalk (walk table (inside o e) none c st₁) (walk table o (past a (node x c end)) r)))) (λ b s. walk table o b g s)
     go none later = later st

@@ -10,7 +10,7 @@ use Rattle.text.specs.Pick.{pick}
 use Rattle.tape.specs.Nodes.{Node, chapterKind, verseKind}
 use Rattle.tape.specs.Forest.{Forest, end, leaf, node, followed}
 use Rattle.table.specs.Entries.{Entry}
-use Rattle.definition.specs.State.{State, initial, Around, Anchor, past, Told}
+use Rattle.definition.specs.State.{WalkState, initial, WalkContext, Anchor, past, Told}
 use Rattle.definition.specs.Checks.{entryOf, afterChapter, afterVerse, leafTold, afterId}
 use Rattle.definition.specs.Milestones.{isStart, isMilestone, sameBase, without, openAfter, afterMilestone, visitOf, visits, Mark, free, untaken, taking, met, marksFrom, marks, freeStarts}
 use Rattle.definition.specs.Walk.{Walked, leafAnchor, openTold, inside, after, thenWalk, byEntry, walk}
@@ -51,7 +51,7 @@ met-open x ms = go (isStart x) refl
     go true p = refl
     go false p = taking-without x ms
 
-leaf-open : (table : List ℕ) (o : Around) (st : State) (x : Node) → leafTold table o st x .state .openStarts ≡ st .openStarts
+leaf-open : (table : List ℕ) (o : WalkContext) (st : WalkState) (x : Node) → leafTold table o st x .state .openStarts ≡ st .openStarts
 unfolding leafTold afterChapter afterVerse
 leaf-open table o st x = go (eqb (x .kind) chapterKind) (eqb (x .kind) verseKind)
   where
@@ -60,11 +60,11 @@ leaf-open table o st x = go (eqb (x .kind) chapterKind) (eqb (x .kind) verseKind
     go false true = refl
     go false false = refl
 
-open-open : (table : List ℕ) (o : Around) (a : Option Anchor) (st : State) (e : Entry) (x : Node) (c f : Forest) → openTold table o a st e x c f .state .openStarts ≡ pick (isMilestone e x) (openAfter (isStart x) x (st .openStarts)) (st .openStarts)
+open-open : (table : List ℕ) (o : WalkContext) (a : Option Anchor) (st : WalkState) (e : Entry) (x : Node) (c f : Forest) → openTold table o a st e x c f .state .openStarts ≡ pick (isMilestone e x) (openAfter (isStart x) x (st .openStarts)) (st .openStarts)
 unfolding openTold afterMilestone afterId
 open-open table o a st e x c f = refl
 
-pub walk-open : (table : List ℕ) (o : Around) (a : Option Anchor) (f : Forest) (st : State) (ms : List Mark) → st .openStarts ≡ freeStarts ms → walk table o a f st .state .openStarts ≡ freeStarts (marksFrom ms (visits table f))
+pub walk-open : (table : List ℕ) (o : WalkContext) (a : Option Anchor) (f : Forest) (st : WalkState) (ms : List Mark) → st .openStarts ≡ freeStarts ms → walk table o a f st .state .openStarts ≡ freeStarts (marksFrom ms (visits table f))
 unfolding walk visits marksFrom
 walk-open table o a end st ms h = h
 walk-open table o a (leaf x r) st ms h =
@@ -73,8 +73,8 @@ walk-open table o a (node x c r) st ms h =
     go (entryOf table x) (λ p s ks k. walk-open table p none c s ks k) (λ s ks k. walk-open table o (past a (node x c end)) r s ks k)
   where
     go : (q : Option Entry)
-        → ((p : Around) (s : State) (ks : List Mark) → s .openStarts ≡ freeStarts ks → walk table p none c s .state .openStarts ≡ freeStarts (marksFrom ks (visits table c)))
-        → ((s : State) (ks : List Mark) → s .openStarts ≡ freeStarts ks → walk table o (past a (node x c end)) r s .state .openStarts ≡ freeStarts (marksFrom ks (visits table r)))
+        → ((p : WalkContext) (s : WalkState) (ks : List Mark) → s .openStarts ≡ freeStarts ks → walk table p none c s .state .openStarts ≡ freeStarts (marksFrom ks (visits table c)))
+        → ((s : WalkState) (ks : List Mark) → s .openStarts ≡ freeStarts ks → walk table o (past a (node x c end)) r s .state .openStarts ≡ freeStarts (marksFrom ks (visits table r)))
         → byEntry q (walk table o (past a (node x c end)) r st) (λ e. after (openTold table o a st e x c (node x c r)) (λ st₁. thenWalk (walk table (inside o e) none c st₁) (walk table o (past a (node x c end)) r))) .state .openStarts ≡ freeStarts (marksFrom ms (visitOf q x (visits table c) (visits table r)))
     go none below later = later st ms h
     go (some e) below later =

@@ -20,7 +20,7 @@ use Rattle.findings.specs.Written.{only}
 use Rattle.numbers.specs.Label.{isGlued, labelOf, numbered}
 use Rattle.numbers.specs.Verse.{Position, versePart, verseEnd, next, inSequence}
 use Rattle.attachment.specs.Attached.{among, isAttached}
-use Rattle.definition.specs.State.{State, firstVerse, Around, Anchor, Told}
+use Rattle.definition.specs.State.{WalkState, firstVerse, WalkContext, Anchor, Told}
 use Rattle.findings.specs.Codes.{missingSpaceBeforeNumber, leadingZeros, missingChapterNumber, verseOutsideParagraph, charCrossesVerseBoundary, missingVerseNumber, duplicateId, invalidBookCode, noteSubmarkerOutsideNote, nonEmptyBlankLine, bodyParagraphBeforeChapter, misplacedNumberMarker, emptyFigure, emptyWordMarker, missingRequiredAttribute, duplicateChapter, invalidChapterSequence, invalidVerseSequence, chapterForm, verseForm, shouldBeUppercase, notValid}
 use Rattle.text.specs.Literal.{ascii}
 
@@ -75,23 +75,23 @@ numberForm form e x =
     ∷ []
 
 -- MissingChapterNumber, DuplicateChapter, InvalidChapterSequence; a chapter's number is its link
-abbrev pub chapterChecks : Option Entry → State → Node → List Check
+abbrev pub chapterChecks : Option Entry → WalkState → Node → List Check
 chapterChecks e st x =
     when (isEmpty (labelOf e (x .text))) (error x missingChapterNumber 0)
     ∷ when (among (x .link) (st .seen)) (about x warningSeverity duplicateChapter 0 (x .link) 0)
-    ∷ when (not (eqb (x .link) (st .chapter))) (about x warningSeverity invalidChapterSequence 0 (st .chapter) (x .link))
+    ∷ when (not (eqb (x .link) (st .expectedChapter))) (about x warningSeverity invalidChapterSequence 0 (st .expectedChapter) (x .link))
     ∷ numberForm chapterForm e x
 
-unfoldable pub afterChapter : State → Node → State
+unfoldable pub afterChapter : WalkState → Node → WalkState
 afterChapter st x =
     record {
       hasId = st .hasId;
       hasChapter = true;
       hasVerse = st .hasVerse;
       frontMatter = st .frontMatter;
-      outsideWarned = st .outsideWarned;
-      chapter = x .link + 1;
-      verse = firstVerse;
+      verseOutsideWarned = st .verseOutsideWarned;
+      expectedChapter = x .link + 1;
+      expectedVerse = firstVerse;
       seen = x .link ∷ st .seen;
       openStarts = st .openStarts;
       verses = st .verses;
@@ -117,31 +117,31 @@ nextBy none label expected = expected
 nextBy (some p) label expected = next (endOr (verseEnd label) p)
 
 -- VerseOutsideParagraph once, CharCrossesVerseBoundary, MissingVerseNumber, InvalidVerseSequence ("expected number, letter byte or 0")
-abbrev pub verseChecks : Option Entry → Around → State → Node → List Check
+abbrev pub verseChecks : Option Entry → WalkContext → WalkState → Node → List Check
 verseChecks e o st x =
-    when (not (o .body) && not (st .outsideWarned)) (warning x verseOutsideParagraph 0)
-    ∷ when (o .char) (error x charCrossesVerseBoundary 0)
+    when (not (o .inBodyPara) && not (st .verseOutsideWarned)) (warning x verseOutsideParagraph 0)
+    ∷ when (o .inChar) (error x charCrossesVerseBoundary 0)
     ∷ when (isEmpty (labelOf e (x .text))) (error x missingVerseNumber 0)
-    ∷ when (breaks (versePart (labelOf e (x .text))) (st .verse)) (about x warningSeverity invalidVerseSequence 0 (st .verse .number) (letterByte (st .verse .letter)))
+    ∷ when (breaks (versePart (labelOf e (x .text))) (st .expectedVerse)) (about x warningSeverity invalidVerseSequence 0 (st .expectedVerse .number) (letterByte (st .expectedVerse .letter)))
     ∷ numberForm verseForm e x
 
-unfoldable pub afterVerse : Option Entry → Around → State → Node → State
+unfoldable pub afterVerse : Option Entry → WalkContext → WalkState → Node → WalkState
 afterVerse e o st x =
     record {
       hasId = st .hasId;
       hasChapter = st .hasChapter;
       hasVerse = true;
       frontMatter = st .frontMatter;
-      outsideWarned = (st .outsideWarned || not (o .body));
-      chapter = st .chapter;
-      verse = nextBy (versePart (labelOf e (x .text))) (labelOf e (x .text)) (st .verse);
+      verseOutsideWarned = (st .verseOutsideWarned || not (o .inBodyPara));
+      expectedChapter = st .expectedChapter;
+      expectedVerse = nextBy (versePart (labelOf e (x .text))) (labelOf e (x .text)) (st .expectedVerse);
       seen = st .seen;
       openStarts = st .openStarts;
       verses = st .verses + 1;
     }
 
 -- a Chapter, a Verse, or any other leaf, of which nothing is said
-unfoldable pub leafTold : List ℕ → Around → State → Node → Told
+unfoldable pub leafTold : List ℕ → WalkContext → WalkState → Node → Told
 leafTold table o st x =
     record {
       findings = given (pick (eqb (x .kind) chapterKind) (chapterChecks (entryOf table x) st x) (pick (eqb (x .kind) verseKind) (verseChecks (entryOf table x) o st x) []));
@@ -162,7 +162,7 @@ upper [] = []
 upper (b ∷ s) = pick (within 0x61 0x7A b) (b - 32) b ∷ upper s
 
 -- `id`: DuplicateId, InvalidBookCode ("0 should be uppercase, 1 not valid")
-abbrev pub idChecks : Bool → State → List ℕ → Node → List Check
+abbrev pub idChecks : Bool → WalkState → List ℕ → Node → List Check
 idChecks named st code x =
     when (named && st .hasId) (error x duplicateId 0)
     ∷ when (named && (not (isEmpty code) && not (isBook code))) (warning x invalidBookCode (pick (isBook (upper code)) shouldBeUppercase notValid))
@@ -172,16 +172,16 @@ idChecks named st code x =
 abbrev pub frontBy : List ℕ → Bool → Bool
 frontBy code before = pick (isEmpty code) before (oneOf frontMatter code)
 
-unfoldable pub afterId : Bool → State → Forest → State
+unfoldable pub afterId : Bool → WalkState → Forest → WalkState
 afterId named st c =
     record {
       hasId = (named || st .hasId);
       hasChapter = st .hasChapter;
       hasVerse = st .hasVerse;
       frontMatter = pick named (frontBy (bookCode c) (st .frontMatter)) (st .frontMatter);
-      outsideWarned = st .outsideWarned;
-      chapter = st .chapter;
-      verse = st .verse;
+      verseOutsideWarned = st .verseOutsideWarned;
+      expectedChapter = st .expectedChapter;
+      expectedVerse = st .expectedVerse;
       seen = st .seen;
       openStarts = st .openStarts;
       verses = st .verses;
@@ -247,9 +247,9 @@ abbrev pub isBody : Entry → Bool
 isBody e = eqb (e .category) paragraphCategory && eqb (e .role) boundaryRole
 
 -- NoteSubmarkerOutsideNote, NonEmptyBlankLine, BodyParagraphBeforeChapter, MisplacedNumberMarker: of a marker with its table name, the record after `id`, the anchor, its children and the siblings from it on
-abbrev pub placeChecks : List ℕ → Entry → Around → Option Anchor → State → Node → Forest → Forest → List Check
+abbrev pub placeChecks : List ℕ → Entry → WalkContext → Option Anchor → WalkState → Node → Forest → Forest → List Check
 placeChecks name e o a st x c f =
-    when (eqb (e .category) characterCategory && (not (o .note) && oneOf noteOnly name)) (error x noteSubmarkerOutsideNote 0)
+    when (eqb (e .category) characterCategory && (not (o .inNote) && oneOf noteOnly name)) (error x noteSubmarkerOutsideNote 0)
     ∷ when (equal name bName && inlineContent c) (error x nonEmptyBlankLine 0)
     ∷ when (isBody e && (not (st .hasChapter) && not (st .frontMatter))) (error x bodyParagraphBeforeChapter 0)
     ∷ when (oneOf numberMarkers name && (oneOf numberMarkers (nameOf (x .text)) && not (attachedTo a f (x .start)))) (warning x misplacedNumberMarker 0)

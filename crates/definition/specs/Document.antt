@@ -11,7 +11,7 @@ use Rattle.tape.specs.Forest.{Forest, end, leaf, node}
 use Rattle.findings.specs.Finding.{Finding, errorSeverity}
 use Rattle.findings.specs.Written.{only}
 use mathlib.Core.Path.{_≡_}
-use Rattle.definition.specs.State.{State, initial, outside}
+use Rattle.definition.specs.State.{WalkState, initial, outside}
 use Rattle.definition.specs.Checks.{error, warning, when, given}
 use Rattle.definition.specs.Walk.{Walked, walk}
 use Rattle.findings.specs.Codes.{textBeforeId, milestoneMismatch, unclosedStart, missingIdMarker, missingChapterMarker}
@@ -32,7 +32,7 @@ abbrev pub ofDocument : ℕ → Finding
 ofDocument code = record { severity = errorSeverity; code = code; start = 0; len = 0; node = 0; form = 0; first = 0; second = 0 }
 
 -- "Unclosed starts in opening order, then MissingIdMarker, then MissingChapterMarker: these are the closing findings."
-unfoldable pub closing : State → List Finding
+unfoldable pub closing : WalkState → List Finding
 closing st =
     unclosed (st .openStarts)
     ++ given

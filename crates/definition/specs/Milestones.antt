@@ -11,7 +11,7 @@ use Rattle.tape.specs.Forest.{Forest, end, leaf, node}
 use Rattle.table.specs.Bytes.{equal}
 use Rattle.table.specs.Entries.{Entry, milestoneCategory}
 use Rattle.cursor.specs.Names.{nameOf}
-use Rattle.definition.specs.State.{State}
+use Rattle.definition.specs.State.{WalkState}
 use Rattle.definition.specs.Checks.{error, entryOf, Check, when}
 use Rattle.findings.specs.Codes.{milestoneMismatch, endAlone}
 
@@ -36,16 +36,16 @@ sameBase x y = equal (baseOf x) (baseOf y)
 abbrev pub isMilestone : Entry → Node → Bool
 isMilestone e x = eqb (e .category) milestoneCategory && (isStart x || isEnd x)
 
-abbrev pub withOpen : State → List Node → State
+abbrev pub withOpen : WalkState → List Node → WalkState
 withOpen st starts =
     record {
       hasId = st .hasId;
       hasChapter = st .hasChapter;
       hasVerse = st .hasVerse;
       frontMatter = st .frontMatter;
-      outsideWarned = st .outsideWarned;
-      chapter = st .chapter;
-      verse = st .verse;
+      verseOutsideWarned = st .verseOutsideWarned;
+      expectedChapter = st .expectedChapter;
+      expectedVerse = st .expectedVerse;
       seen = st .seen;
       openStarts = starts;
       verses = st .verses;
@@ -65,10 +65,10 @@ abbrev pub openAfter : Bool → Node → List Node → List Node
 openAfter begins x xs = pick begins (x ∷ xs) (without x xs)
 
 -- MilestoneMismatch: "1 end"
-abbrev pub milestoneChecks : Entry → State → Node → List Check
+abbrev pub milestoneChecks : Entry → WalkState → Node → List Check
 milestoneChecks e st x = when (isMilestone e x && (not (isStart x) && not (waits x (st .openStarts)))) (error x milestoneMismatch endAlone) ∷ []
 
-unfoldable pub afterMilestone : Entry → State → Node → State
+unfoldable pub afterMilestone : Entry → WalkState → Node → WalkState
 afterMilestone e st x = withOpen st (pick (isMilestone e x) (openAfter (isStart x) x (st .openStarts)) (st .openStarts))
 
 -- The order of visits: the milestones of a run that are visited, in order.

@@ -9,14 +9,14 @@ use Rattle.findings.specs.Finding.{Finding}
 use Rattle.numbers.specs.Verse.{Position}
 
 -- the running record. The open starts are the milestone starts that wait for their end, the latest first
-pub record State : Type 0 where
+pub record WalkState : Type 0 where
   pub hasId : Bool
   pub hasChapter : Bool
   pub hasVerse : Bool
   pub frontMatter : Bool
-  pub outsideWarned : Bool
-  pub chapter : ℕ
-  pub verse : Position
+  pub verseOutsideWarned : Bool
+  pub expectedChapter : ℕ
+  pub expectedVerse : Position
   pub seen : List ℕ
   pub openStarts : List Node
   pub verses : ℕ
@@ -24,29 +24,29 @@ pub record State : Type 0 where
 abbrev pub firstVerse : Position
 firstVerse = record { number = 1; letter = none }
 
-abbrev pub initial : State
+abbrev pub initial : WalkState
 initial =
     record {
       hasId = false;
       hasChapter = false;
       hasVerse = false;
       frontMatter = false;
-      outsideWarned = false;
-      chapter = 1;
-      verse = firstVerse;
+      verseOutsideWarned = false;
+      expectedChapter = 1;
+      expectedVerse = firstVerse;
       seen = [];
       openStarts = [];
       verses = 0;
     }
 
 -- whether a run of siblings stands in a body paragraph, in a note, in a character marker
-pub record Around : Type 0 where
-  pub body : Bool
-  pub note : Bool
-  pub char : Bool
+pub record WalkContext : Type 0 where
+  pub inBodyPara : Bool
+  pub inNote : Bool
+  pub inChar : Bool
 
-abbrev pub outside : Around
-outside = record { body = false; note = false; char = false }
+abbrev pub outside : WalkContext
+outside = record { inBodyPara = false; inNote = false; inChar = false }
 
 -- "The latest chapter/verse among these siblings": its kind, and the siblings that were passed since
 pub record Anchor : Type 0 where
@@ -61,4 +61,4 @@ past (some a) f = some (record { kind = a .kind; passed = followed (a .passed) f
 -- findings, and the record after them
 pub record Told : Type 0 where
   pub findings : List Finding
-  pub state : State
+  pub state : WalkState

@@ -14,7 +14,7 @@ use Rattle.findings.specs.Finding.{Finding}
 use Rattle.attributes.specs.Attributes.{attributesFindings}
 use Rattle.rows.specs.Row.{rowFindings}
 use Rattle.numbers.specs.Label.{numbered}
-use Rattle.definition.specs.State.{State, Around, Anchor, past, Told}
+use Rattle.definition.specs.State.{WalkState, WalkContext, Anchor, past, Told}
 use Rattle.definition.specs.Checks.{given, entryOf, leafTold, idName, trName, bookCode, idChecks, afterId, isBody, placeChecks, contentChecks}
 use Rattle.definition.specs.Milestones.{milestoneChecks, afterMilestone}
 
@@ -22,14 +22,14 @@ use Rattle.definition.specs.Milestones.{milestoneChecks, afterMilestone}
 pub record Walked : Type 0 where
   pub findings : List Finding
   pub anchor : Option Anchor
-  pub state : State
+  pub state : WalkState
 
 -- a Chapter or Verse is the new anchor; other leaves are passed
 abbrev pub leafAnchor : Option Anchor → Node → Option Anchor
 leafAnchor a x = pick (numbered (x .kind)) (some (record { kind = x .kind; passed = end })) (past a (leaf x end))
 
 -- by its table name, and the record after `id`; the row of a `tr` and the attributes stand before the milestone
-abbrev pub openBy : List ℕ → State → Around → Option Anchor → State → Entry → Node → Forest → Forest → Told
+abbrev pub openBy : List ℕ → WalkState → WalkContext → Option Anchor → WalkState → Entry → Node → Forest → Forest → Told
 openBy name st₁ o a st e x c f =
     record {
       findings =
@@ -41,25 +41,25 @@ openBy name st₁ o a st e x c f =
     }
 
 -- all that is said of a marker before its children are walked: `f` are the siblings from it on
-unfoldable pub openTold : List ℕ → Around → Option Anchor → State → Entry → Node → Forest → Forest → Told
+unfoldable pub openTold : List ℕ → WalkContext → Option Anchor → WalkState → Entry → Node → Forest → Forest → Told
 openTold table o a st e x c f = openBy (cut (e .name) table) (afterId (equal (cut (e .name) table) idName) st c) o a st e x c f
 
 -- what lies around the children of a marker
-abbrev pub inside : Around → Entry → Around
+abbrev pub inside : WalkContext → Entry → WalkContext
 inside o e =
     record {
-      body = (o .body || isBody e);
-      note = (o .note || eqb (e .category) noteCategory);
-      char = (o .char || eqb (e .category) characterCategory);
+      inBodyPara = (o .inBodyPara || isBody e);
+      inNote = (o .inNote || eqb (e .category) noteCategory);
+      inChar = (o .inChar || eqb (e .category) characterCategory);
     }
 
 abbrev pub before : List Finding → Walked → Walked
 before fs w = record { findings = fs ++ w .findings; anchor = w .anchor; state = w .state }
 
-abbrev pub after : Told → (State → Walked) → Walked
+abbrev pub after : Told → (WalkState → Walked) → Walked
 after t rest = before (t .findings) (rest (t .state))
 
-abbrev pub thenWalk : Walked → (State → Walked) → Walked
+abbrev pub thenWalk : Walked → (WalkState → Walked) → Walked
 thenWalk w rest = before (w .findings) (rest (w .state))
 
 -- "A MarkerOpen whose marker number has no table entry is passed over with all below it."
@@ -67,7 +67,7 @@ abbrev pub byEntry : Option Entry → Walked → (Entry → Walked) → Walked
 byEntry none passedOver visited = passedOver
 byEntry (some e) passedOver visited = visited e
 
-unfoldable pub walk : List ℕ → Around → Option Anchor → Forest → State → Walked
+unfoldable pub walk : List ℕ → WalkContext → Option Anchor → Forest → WalkState → Walked
 walk table o a end st = record { findings = []; anchor = a; state = st }
 walk table o a (leaf x r) st = after (leafTold table o st x) (walk table o (leafAnchor a x) r)
 walk table o a (node x c r) st =

@@ -17,10 +17,10 @@ use Rattle.attachment.specs.Attached.{among}
 use Rattle.findings.specs.declared.Counts.{Counts}
 use Rattle.findings.specs.Written.{Wrote}
 use Rattle.findings.proofs.Overlay.{wrote-none}
-use Rattle.definition.specs.State.{State, Anchor}
+use Rattle.definition.specs.State.{WalkState, Anchor}
 use Rattle.definition.specs.Checks.{given, idChecks, numberMarkers, frontBy, attachedTo}
 use Rattle.state.specs.Running.{startsFor}
-use Rattle.state.specs.declared.Record.{Record}
+use Rattle.state.specs.declared.State.{State}
 use Rattle.marker_checks.specs.Inner.{withId}
 use Rattle.text.specs.Literal.{ascii}
 
@@ -84,20 +84,20 @@ attached-is none f at = refl
 attached-is (some a) f at = refl
 
 -- the record after a marker
-pub with-none : (named : Bool) (code : List ℕ) (r : Record) → named ≡ false → r ≡ withId named code r
+pub with-none : (named : Bool) (code : List ℕ) (r : State) → named ≡ false → r ≡ withId named code r
 with-none named code r h = rw h refl
 
-pub with-code : (named : Bool) (code x : List ℕ) (r : Record) (front : Bool) → named ≡ true → x ≡ code → front ≡ frontBy x (r .«front_matter») →
+pub with-code : (named : Bool) (code x : List ℕ) (r : State) (front : Bool) → named ≡ true → x ≡ code → front ≡ frontBy x (r .«front_matter») →
     record {
       «has_id» = true;
       «has_chapter» = r .«has_chapter»;
       «has_verse» = r .«has_verse»;
       «front_matter» = front;
-      «outside_warned» = r .«outside_warned»;
-      chapter = r .chapter;
-      verse = r .verse;
-      seen = r .seen;
-      «open» = r .«open»;
+      «verse_outside_warned» = r .«verse_outside_warned»;
+      «expected_chapter» = r .«expected_chapter»;
+      «expected_verse» = r .«expected_verse»;
+      «seen_len» = r .«seen_len»;
+      «open_len» = r .«open_len»;
       verses = r .verses;
       anchor = r .anchor;
       errors = r .errors;
@@ -107,6 +107,6 @@ pub with-code : (named : Bool) (code x : List ℕ) (r : Record) (front : Bool) �
 with-code named code x r front h e f = rw (h, ← e, f) refl
 
 -- nothing is said of a marker that is no `id`
-pub id-none : (named : Bool) (st : State) (code : List ℕ) (x : Node) (l : List ℕ) (c : Counts) → named ≡ false → Wrote (given (idChecks named st code x)) l c l c
+pub id-none : (named : Bool) (st : WalkState) (code : List ℕ) (x : Node) (l : List ℕ) (c : Counts) → named ≡ false → Wrote (given (idChecks named st code x)) l c l c
 unfolding given
 id-none named st code x l c h = rw h (wrote-none l c)

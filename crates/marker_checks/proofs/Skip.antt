@@ -19,13 +19,13 @@ use Rattle.cursor.proofs.Runs.{forest-at-leaf, forest-at-open}
 use Rattle.findings.specs.Finding.{Finding}
 use Rattle.findings.proofs.Overlay.{wrote-none}
 use Rattle.attributes.specs.Attributes.{attributesFindings}
-use Rattle.definition.specs.State.{State, Anchor}
+use Rattle.definition.specs.State.{WalkState, Anchor}
 use Rattle.definition.specs.State as state
 use Rattle.table.specs.Names.{noteOnly}
 use Rattle.cursor.specs.Names.{nameOf}
 use Rattle.definition.specs.Checks.{given, afterId, isBody, numberMarkers, bName, figName, idName, rbName, trName, wName}
 use Rattle.state.specs.Running.{stateOf, countsOf}
-use Rattle.state.specs.declared.Record.{Record}
+use Rattle.state.specs.declared.State.{State}
 use Rattle.marker_checks.specs.Own.{ownFindings, ownAt, isId, childrenAt, Marked}
 use Rattle.marker_checks.specs.Skip.{onlyTexts, askedFor, placed, canSkipMarker, canSkipMarkerAt}
 use Rattle.text.proofs.Bool.{and-left, and-right, or-parts}
@@ -58,19 +58,19 @@ texts-attributes owner marker (leaf x r) h =
 texts-attributes owner marker (node x c r) h = absurd (false≢true h)
 
 -- a paragraph behind a chapter, or a character marker in a note
-data Placed (e : Entry) (o : state.Around) (chapter : Bool) : Type 0 where
+data Placed (e : Entry) (o : state.WalkContext) (chapter : Bool) : Type 0 where
   paragraph : e .category ≡ paragraphCategory → chapter ≡ true → Placed e o chapter
-  character : e .category ≡ characterCategory → o .note ≡ true → Placed e o chapter
+  character : e .category ≡ characterCategory → o .inNote ≡ true → Placed e o chapter
 
-is-placed : (e : Entry) (o : state.Around) (chapter : Bool) → placed e o chapter ≡ true → Placed e o chapter
+is-placed : (e : Entry) (o : state.WalkContext) (chapter : Bool) → placed e o chapter ≡ true → Placed e o chapter
 is-placed e o chapter = go (eqb (e .category) paragraphCategory) refl
   where
-    go : (v : Bool) → eqb (e .category) paragraphCategory ≡ v → pick v chapter (eqb (e .category) characterCategory && o .note) ≡ true → Placed e o chapter
+    go : (v : Bool) → eqb (e .category) paragraphCategory ≡ v → pick v chapter (eqb (e .category) characterCategory && o .inNote) ≡ true → Placed e o chapter
     go true k h = paragraph (eqb-true (e .category) paragraphCategory k) h
-    go false k h = character (eqb-true (e .category) characterCategory (and-left (eqb (e .category) characterCategory) (o .note) h)) (and-right (eqb (e .category) characterCategory) (o .note) h)
+    go false k h = character (eqb-true (e .category) characterCategory (and-left (eqb (e .category) characterCategory) (o .inNote) h)) (and-right (eqb (e .category) characterCategory) (o .inNote) h)
 
-module _ {e : Entry} {o : state.Around} {chapter : Bool} where
-  inside : Placed e o chapter → (y : Bool) → (eqb (e .category) characterCategory && (not (o .note) && y)) ≡ false
+module _ {e : Entry} {o : state.WalkContext} {chapter : Bool} where
+  inside : Placed e o chapter → (y : Bool) → (eqb (e .category) characterCategory && (not (o .inNote) && y)) ≡ false
   inside (paragraph k h) y = rw (ne-eqb (e .category) characterCategory (λ z. omega arith))
   inside (character k h) y = rw (h, and-false (eqb (e .category) characterCategory))
 
@@ -93,7 +93,7 @@ none-of a b d e f g k h =
     (x .0, x .1, y .0, y .1, z .0, z .1, r .1)
 
 -- the three parts of the test
-module _ (name : List ℕ) (e : Entry) (o : state.Around) (chapter : Bool) (c : Forest) (h : canSkipMarker name e o chapter c ≡ true) where
+module _ (name : List ℕ) (e : Entry) (o : state.WalkContext) (chapter : Bool) (c : Forest) (h : canSkipMarker name e o chapter c ≡ true) where
   place : Placed e o chapter
   place = is-placed e o chapter (and-left (placed e o chapter) _ h)
 
@@ -107,13 +107,13 @@ module _ (name : List ℕ) (e : Entry) (o : state.Around) (chapter : Bool) (c : 
   skipped-category = other place
 
   -- nothing is said of it
-  skipped-silent : (st st₁ : State) (a : Option Anchor) (x : Node) (f : Forest) → st₁ .hasChapter ≡ chapter → ownFindings name st₁ o a st e x c f ≡ []
+  skipped-silent : (st st₁ : WalkState) (a : Option Anchor) (x : Node) (f : Forest) → st₁ .hasChapter ≡ chapter → ownFindings name st₁ o a st e x c f ≡ []
   unfolding given
   skipped-silent st st₁ a x f k =
       rw (names .0, names .1, names .2, names .3, names .4, names .5, names .6, k, inside place (oneOf noteOnly name), late place (not (st₁ .frontMatter)), texts-attributes (x .number) (nameOf (x .text)) c skipped-texts)
 
 -- and a marker that is no `id` leaves the record as it is
-module _ (table s t : List ℕ) (o : state.Around) (a : Option Anchor) (e : Entry) (i to : ℕ) (r : Record) (h : canSkipMarkerAt table s t o e i (r .«has_chapter») ≡ true) where
+module _ (table s t : List ℕ) (o : state.WalkContext) (a : Option Anchor) (e : Entry) (i to : ℕ) (r : State) (h : canSkipMarkerAt table s t o e i (r .«has_chapter») ≡ true) where
   unnamed : isId table e ≡ false
   unnamed = names (cut (e .name) table) e o (r .«has_chapter») (childrenAt s t i) h .2
 

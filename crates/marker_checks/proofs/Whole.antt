@@ -18,10 +18,10 @@ use Rattle.findings.specs.Written.{total, Wrote, Room}
 use Rattle.findings.proofs.Overlay.{counted-total, wrote-append, room-first}
 use Rattle.attributes.specs.Attributes.{attributesFindings}
 use Rattle.rows.specs.Row.{rowFindings}
-use Rattle.definition.specs.State.{Around}
+use Rattle.definition.specs.State.{WalkContext}
 use Rattle.definition.specs.Checks.{Check, given, idName, trName, bookCode, idChecks, afterId, placeChecks, contentChecks}
 use Rattle.state.specs.Running.{stateOf, anchorOf, countsOf, withCounts}
-use Rattle.state.specs.declared.Record.{Record}
+use Rattle.state.specs.declared.State.{State}
 use Rattle.marker_checks.specs.Own.{ownAt, childrenAt, Marked}
 use Rattle.marker_checks.specs.Inner.{withId}
 use Rattle.definition.proofs.Givens.{given-append}
@@ -74,10 +74,10 @@ module _ (a p k : List Check) (r t : List Finding) where
             wrote-all l₅ c₅ w₅ = rw parts (wrote-append (wrote-append (wrote-append (wrote-append w₁ w₂) w₃) w₄) w₅)
 
 -- the parts of a marker, of its name in the table, where its children end, whether it is an `id`, and the record after that
-abbrev pub idPart : List ℕ → List ℕ → ℕ → Record → ℕ → Bool → List Check
+abbrev pub idPart : List ℕ → List ℕ → ℕ → State → ℕ → Bool → List Check
 idPart s t i r link named = idChecks named (stateOf s t [] [] r) (bookCode (forest s t (i + 1) link)) (nodeAt s t i)
 
-abbrev pub placePart : List ℕ → List ℕ → ℕ → ℕ → Around → Entry → List ℕ → Record → List Check
+abbrev pub placePart : List ℕ → List ℕ → ℕ → ℕ → WalkContext → Entry → List ℕ → State → List Check
 placePart s t i to o e name after = placeChecks name e o (anchorOf s t (after .anchor) i) (stateOf s t [] [] after) (nodeAt s t i) (childrenAt s t i) (forest s t i to)
 
 abbrev pub contentPart : List ℕ → List ℕ → ℕ → List ℕ → ℕ → List Check
@@ -89,11 +89,11 @@ rowPart s t i name link = pick (equal name trName) (rowFindings (forest s t (i +
 abbrev pub attributePart : List ℕ → List ℕ → ℕ → ℕ → List Finding
 attributePart s t i link = attributesFindings i (nameOf (cut (span t i) s)) (forest s t (i + 1) link)
 
-abbrev pub saidOf : List ℕ → List ℕ → ℕ → ℕ → Around → Entry → Record → List ℕ → ℕ → Bool → Record → List Finding
+abbrev pub saidOf : List ℕ → List ℕ → ℕ → ℕ → WalkContext → Entry → State → List ℕ → ℕ → Bool → State → List Finding
 saidOf s t i to o e r name link named after =
     given (idPart s t i r link named ++ placePart s t i to o e name after ++ contentPart s t i name link) ++ rowPart s t i name link ++ attributePart s t i link
 
-module _ (table s t : List ℕ) (i to : ℕ) (o : Around) (e : Entry) (r : Record) (name : List ℕ) (link : ℕ) (named : Bool) (after : Record) (name-is : name ≡ cut (e .name) table) (link-is : link ≡ linkAt t i) (named-is : named ≡ equal name idName) (after-is : after ≡ withId named (bookCode (forest s t (i + 1) link)) r) where
+module _ (table s t : List ℕ) (i to : ℕ) (o : WalkContext) (e : Entry) (r : State) (name : List ℕ) (link : ℕ) (named : Bool) (after : State) (name-is : name ≡ cut (e .name) table) (link-is : link ≡ linkAt t i) (named-is : named ≡ equal name idName) (after-is : after ≡ withId named (bookCode (forest s t (i + 1) link)) r) where
   own-is : saidOf s t i to o e r name link named after ≡ ownAt table s t o (anchorOf s t (r .anchor) i) e i to r
   unfolding afterId
   own-is = rw (after-is, named-is, name-is, link-is) refl
@@ -101,13 +101,13 @@ module _ (table s t : List ℕ) (i to : ℕ) (o : Around) (e : Entry) (r : Recor
   pub own-room : (c : Counts) → c ≡ countsOf r → Room (countsOf r) (ownAt table s t o (anchorOf s t (r .anchor) i) e i to r) → Room c (saidOf s t i to o e r name link named after)
   own-room c e h = rw (e, own-is) h
 
-  pub marked : (l l′ : List ℕ) (c d : Counts) (q : Record) → c ≡ countsOf r → q ≡ withCounts after d → Wrote (saidOf s t i to o e r name link named after) l c l′ d → Marked table s t o (anchorOf s t (r .anchor) i) e i to l r l′ q
+  pub marked : (l l′ : List ℕ) (c d : Counts) (q : State) → c ≡ countsOf r → q ≡ withCounts after d → Wrote (saidOf s t i to o e r name link named after) l c l′ d → Marked table s t o (anchorOf s t (r .anchor) i) e i to l r l′ q
   unfolding afterId
   marked l l′ c d q c-is q-is w =
       rw q-is
       (record {
         wrote = rw (c-is, own-is) at w;
         state = λ seen opens. rw (after-is, named-is, name-is, link-is) refl;
-        same = record { seen = ap (λ (x : Record). x .seen) after-is; opens = ap (λ (x : Record). x .«open») after-is; verses = ap (λ (x : Record). x .verses) after-is; anchor = ap (λ (x : Record). x .anchor) after-is };
-        verse = ap (λ (x : Record). x .verse) after-is;
+        same = record { seen = ap (λ (x : State). x .«seen_len») after-is; opens = ap (λ (x : State). x .«open_len») after-is; verses = ap (λ (x : State). x .verses) after-is; anchor = ap (λ (x : State). x .anchor) after-is };
+        verse = ap (λ (x : State). x .«expected_verse») after-is;
       })

@@ -24,13 +24,13 @@ askedFor name =
     (equal name bName || equal name wName) || ((equal name idName || equal name rbName) || ((equal name trName || equal name figName) || oneOf numberMarkers name))
 
 -- a paragraph behind a chapter, or a character marker in a note
-abbrev pub placed : Entry → state.Around → Bool → Bool
-placed e o chapter = pick (eqb (e .category) paragraphCategory) chapter (eqb (e .category) characterCategory && o .note)
+abbrev pub placed : Entry → state.WalkContext → Bool → Bool
+placed e o chapter = pick (eqb (e .category) paragraphCategory) chapter (eqb (e .category) characterCategory && o .inNote)
 
 -- by its name in the table, what lies around it, whether a chapter stands before it, and its children
-abbrev pub canSkipMarker : List ℕ → Entry → state.Around → Bool → Forest → Bool
+abbrev pub canSkipMarker : List ℕ → Entry → state.WalkContext → Bool → Forest → Bool
 canSkipMarker name e o chapter c = placed e o chapter && (onlyTexts c && not (askedFor name))
 
 -- of node i with its table entry
-abbrev pub canSkipMarkerAt : List ℕ → List ℕ → List ℕ → state.Around → Entry → ℕ → Bool → Bool
+abbrev pub canSkipMarkerAt : List ℕ → List ℕ → List ℕ → state.WalkContext → Entry → ℕ → Bool → Bool
 canSkipMarkerAt table s t o e i chapter = canSkipMarker (cut (e .name) table) e o chapter (childrenAt s t i)

@@ -11,8 +11,8 @@ use findings::MISSING_REQUIRED_ATTRIBUTE;
 use findings::NON_EMPTY_BLANK_LINE;
 use findings::NOTE_SUBMARKER_OUTSIDE_NOTE;
 use findings::Severity;
-use state::Around;
-use state::Record;
+use state::Context;
+use state::State;
 use table::Book;
 use table::BookId;
 use table::MarkerInfo;
@@ -36,7 +36,7 @@ ghost use Rattle.attachment.specs.Attached.{startsOf, among};
 ghost use Rattle.rows.specs.Row.{rowFindings};
 ghost use Rattle.definition.specs.Checks;
 ghost use Rattle.definition.specs.Checks.{given, idChecks, placeChecks, contentChecks, bookCode, isBook, upper, frontBy, inlineContent, hasText, hasAttribute, hasMarkers, numberMarkers, bName, figName, wName, rbName, trName, isBody};
-ghost use Rattle.state.specs.Running.{aroundOf, anchorOf, startsFor, stateOf, countsOf};
+ghost use Rattle.state.specs.Running.{contextOf, anchorOf, startsFor, stateOf, countsOf};
 ghost use Rattle.marker_checks.specs.Skip.{onlyTexts, askedFor, placed, canSkipMarkerAt};
 ghost use Rattle.marker_checks.specs.Own.{ownAt, Marked, childrenAt};
 ghost use Rattle.marker_checks.specs.Inner.{isText, hasContent, withId};
@@ -215,7 +215,7 @@ fn id_findings(
     tape: &[u8],
     i: usize,
     link: usize,
-    rec: Record,
+    rec: State,
     list: &mut [u64],
     c: Counts,
 ) -> Counts
@@ -245,7 +245,7 @@ fn front_after(code: &[u8], before: bool) -> bool
 }
 
 // The record after a marker with the children from one node up to another.
-fn after_id(named: bool, source: &[u8], tape: &[u8], from: usize, to: usize, rec: Record) -> Record
+fn after_id(named: bool, source: &[u8], tape: &[u8], from: usize, to: usize, rec: State) -> State
     requires { ⌜ Run (now source) (now tape) from to ⌝ }
     ensures { λ r. ⌜ r ≡ withId named (bookCode (forest (now (source .entry)) (now (tape .entry)) from to)) rec ⌝ }
 {
@@ -253,23 +253,10 @@ fn after_id(named: bool, source: &[u8], tape: &[u8], from: usize, to: usize, rec
         return rec;
     }
     let front = front_after(book_code(source, tape, from, to), rec.front_matter);
-    let verse = rec.verse;
-    Record {
-        has_id: true,
-        has_chapter: rec.has_chapter,
-        has_verse: rec.has_verse,
-        front_matter: front,
-        outside_warned: rec.outside_warned,
-        chapter: rec.chapter,
-        verse: verse,
-        seen: rec.seen,
-        open: rec.open,
-        verses: rec.verses,
-        anchor: rec.anchor,
-        errors: rec.errors,
-        warnings: rec.warnings,
-        infos: rec.infos,
-    }
+    let mut after = rec;
+    after.has_id = true;
+    after.front_matter = front;
+    after
 }
 
 pub fn is_number_marker(name: &[u8]) -> bool
@@ -311,7 +298,7 @@ fn filled_blank_line(name: &[u8], source: &[u8], tape: &[u8], from: usize, to: u
     false
 }
 
-fn before_chapter(m: MarkerInfo, rec: Record) -> bool
+fn before_chapter(m: MarkerInfo, rec: State) -> bool
     ensures { λ r. ⌜ r ≡ (isBody (entryOfInfo m) && (not (rec .«has_chapter») && not (rec .«front_matter»))) ⌝ }
 {
     if rec.has_chapter {
@@ -345,17 +332,17 @@ fn place_findings(
     tape: &[u8],
     i: usize,
     to: usize,
-    around: Around,
+    context: Context,
     numbers: Attached,
-    rec: Record,
+    rec: State,
     list: &mut [u64],
     c: Counts,
 ) -> Counts
-    requires { ⌜ (Run (now source) (now tape) i to) × (i < to) × (isOpen (kindAt (now tape) i) ≡ true) × (startsOf numbers ≡ startsFor (anchorOf (now source) (now tape) (rec .anchor) i) (forest (now source) (now tape) i to)) × Room c (given (placeChecks (now name) (entryOfInfo m) (aroundOf around) (anchorOf (now source) (now tape) (rec .anchor) i) (stateOf (now source) (now tape) [] [] rec) (nodeAt (now source) (now tape) i) (childrenAt (now source) (now tape) i) (forest (now source) (now tape) i to))) ⌝ }
-    ensures { λ r. ⌜ Wrote (given (placeChecks (now (name .entry)) (entryOfInfo m) (aroundOf around) (anchorOf (now (source .entry)) (now (tape .entry)) (rec .anchor) i) (stateOf (now (source .entry)) (now (tape .entry)) [] [] rec) (nodeAt (now (source .entry)) (now (tape .entry)) i) (childrenAt (now (source .entry)) (now (tape .entry)) i) (forest (now (source .entry)) (now (tape .entry)) i to))) (now (list .entry)) c (now (list .exit)) r ⌝ }
+    requires { ⌜ (Run (now source) (now tape) i to) × (i < to) × (isOpen (kindAt (now tape) i) ≡ true) × (startsOf numbers ≡ startsFor (anchorOf (now source) (now tape) (rec .anchor) i) (forest (now source) (now tape) i to)) × Room c (given (placeChecks (now name) (entryOfInfo m) (contextOf context) (anchorOf (now source) (now tape) (rec .anchor) i) (stateOf (now source) (now tape) [] [] rec) (nodeAt (now source) (now tape) i) (childrenAt (now source) (now tape) i) (forest (now source) (now tape) i to))) ⌝ }
+    ensures { λ r. ⌜ Wrote (given (placeChecks (now (name .entry)) (entryOfInfo m) (contextOf context) (anchorOf (now (source .entry)) (now (tape .entry)) (rec .anchor) i) (stateOf (now (source .entry)) (now (tape .entry)) [] [] rec) (nodeAt (now (source .entry)) (now (tape .entry)) i) (childrenAt (now (source .entry)) (now (tape .entry)) i) (forest (now (source .entry)) (now (tape .entry)) i to))) (now (list .entry)) c (now (list .exit)) r ⌝ }
 {
     let link = tape::link_at(tape, i) as usize;
-    let outside = outside_note(m, around.note, name);
+    let outside = outside_note(m, context.in_note, name);
     let filled = filled_blank_line(name, source, tape, i + 1, link);
     let early = before_chapter(m, rec);
     let misplaced = is_misplaced(name, source, tape, i, numbers);
@@ -469,13 +456,13 @@ pub fn visit_marker(
     tape: &[u8],
     i: usize,
     to: usize,
-    around: Around,
+    context: Context,
     numbers: Attached,
-    rec: Record,
+    rec: State,
     list: &mut [u64],
-) -> Record
-    requires { ⌜ (m .«name_start» + m .«name_len» ≤ length (now table)) × (Run (now source) (now tape) i to) × (i < to) × (isOpen (kindAt (now tape) i) ≡ true) × (startsOf numbers ≡ startsFor (anchorOf (now source) (now tape) (rec .anchor) i) (forest (now source) (now tape) i to)) × Room (countsOf rec) (ownAt (now table) (now source) (now tape) (aroundOf around) (anchorOf (now source) (now tape) (rec .anchor) i) (entryOfInfo m) i to rec) ⌝ }
-    ensures { λ r. ⌜ Marked (now (table .entry)) (now (source .entry)) (now (tape .entry)) (aroundOf around) (anchorOf (now (source .entry)) (now (tape .entry)) (rec .anchor) i) (entryOfInfo m) i to (now (list .entry)) rec (now (list .exit)) r ⌝ }
+) -> State
+    requires { ⌜ (m .«name_start» + m .«name_len» ≤ length (now table)) × (Run (now source) (now tape) i to) × (i < to) × (isOpen (kindAt (now tape) i) ≡ true) × (startsOf numbers ≡ startsFor (anchorOf (now source) (now tape) (rec .anchor) i) (forest (now source) (now tape) i to)) × Room (countsOf rec) (ownAt (now table) (now source) (now tape) (contextOf context) (anchorOf (now source) (now tape) (rec .anchor) i) (entryOfInfo m) i to rec) ⌝ }
+    ensures { λ r. ⌜ Marked (now (table .entry)) (now (source .entry)) (now (tape .entry)) (contextOf context) (anchorOf (now (source .entry)) (now (tape .entry)) (rec .anchor) i) (entryOfInfo m) i to (now (list .entry)) rec (now (list .exit)) r ⌝ }
 {
     let name = table::name(table, m);
     let link = tape::link_at(tape, i) as usize;
@@ -484,7 +471,19 @@ pub fn visit_marker(
     let next = after_id(named, source, tape, from, link, rec);
     let mut c = state::counts(rec);
     c = id_findings(named, source, tape, i, link, rec, list, c);
-    c = place_findings(name, m, source, tape, i, to, around, numbers, next, list, c);
+    c = place_findings(
+        name,
+        m,
+        source,
+        tape,
+        i,
+        to,
+        context,
+        numbers,
+        next,
+        list,
+        c,
+    );
     c = content_findings(name, source, tape, i, link, list, c);
     c = row_findings(name, source, tape, from, link, list, c);
     c = attributes::validate_attributes(source, tape, from, link, i, list, c);
@@ -531,14 +530,14 @@ fn is_asked_for(name: &[u8]) -> bool
     is_number_marker(name)
 }
 
-fn is_placed(m: MarkerInfo, around: Around, chapter: bool) -> bool
-    ensures { λ r. ⌜ r ≡ placed (entryOfInfo m) (aroundOf around) chapter ⌝ }
+fn is_placed(m: MarkerInfo, context: Context, chapter: bool) -> bool
+    ensures { λ r. ⌜ r ≡ placed (entryOfInfo m) (contextOf context) chapter ⌝ }
 {
     if state::is_of(m, table::PARAGRAPH) {
         return chapter;
     }
     if state::is_of(m, table::CHARACTER) {
-        return around.note;
+        return context.in_note;
     }
     false
 }
@@ -551,13 +550,13 @@ pub fn can_skip_marker(
     source: &[u8],
     tape: &[u8],
     i: usize,
-    around: Around,
+    context: Context,
     chapter: bool,
 ) -> bool
     requires { ⌜ (m .«name_start» + m .«name_len» ≤ length (now table)) × (i < count (now tape)) × (Run (now source) (now tape) (i + 1) (linkAt (now tape) i)) ⌝ }
-    ensures { λ r. ⌜ r ≡ canSkipMarkerAt (now (table .entry)) (now (source .entry)) (now (tape .entry)) (aroundOf around) (entryOfInfo m) i chapter ⌝ }
+    ensures { λ r. ⌜ r ≡ canSkipMarkerAt (now (table .entry)) (now (source .entry)) (now (tape .entry)) (contextOf context) (entryOfInfo m) i chapter ⌝ }
 {
-    if !is_placed(m, around, chapter) {
+    if !is_placed(m, context, chapter) {
         return false;
     }
     let link = tape::link_at(tape, i) as usize;

@@ -25,7 +25,7 @@ use Rattle.numbers.specs.Label.{labelOf, numbered}
 use Rattle.attributes.specs.Attributes.{attributeKinds, findingsAt, attributeFindings, attributesFindings}
 use Rattle.rows.specs.Cells.{Range}
 use Rattle.rows.specs.Row.{cellIn, outOfOrder, byColumns, rowFrom, rowFindings}
-use Rattle.definition.specs.State.{State, initial, outside, Around, Anchor, past}
+use Rattle.definition.specs.State.{WalkState, initial, outside, WalkContext, Anchor, past}
 use Rattle.definition.specs.Checks.{about, error, warning, given, entryOf, letterByte, afterChapter, afterVerse, numberForm, chapterChecks, verseChecks, leafTold, bookCode, isBook, upper, numberMarkers, idName, trName, idChecks, afterId, attachedTo, placeChecks, contentChecks}
 use Rattle.definition.specs.Milestones.{isStart, isEnd, isMilestone, waits, openAfter, milestoneChecks, afterMilestone}
 use Rattle.definition.specs.Walk.{Walked, leafAnchor, openTold, inside, before, after, thenWalk, byEntry, walk}
@@ -61,8 +61,8 @@ longer-some : (n : ℕ) (b : Bool) → (ltb 1 n && b) ≡ true → not (eqb n 0)
 longer-some n b h = let l = ltb-true 1 n (and-left (ltb 1 n) b h) in rw (ne-eqb n 0 (omega arith))
 
 -- what the walk's record hands on to later findings: the letter of the expected verse, and the starts that may stay unclosed
-record Fit (table s t : List ℕ) (st : State) : Type 0 where
-  letter : letterByte (st .verse .letter) ≤ 127
+record Fit (table s t : List ℕ) (st : WalkState) : Type 0 where
+  letter : letterByte (st .expectedVerse .letter) ≤ 127
   starts : AllOf (λ x. HasMessage table s t (error x milestoneMismatch unclosedStart)) (st .openStarts)
 
 -- findings that all have their texts, and a record that goes on so
@@ -97,18 +97,18 @@ module _ (table s t : List ℕ) where
         zeros true h = said 15 0 0 0 (rw (k, h))
         zeros false h = said 15 1 0 0 (rw (k, h))
 
-    chapter-checks : numbered (kindAt t i) ≡ true → (st : State) → AllOf (WhenHeld Has) (chapterChecks e st x)
+    chapter-checks : numbered (kindAt t i) ≡ true → (st : WalkState) → AllOf (WhenHeld Has) (chapterChecks e st x)
     unfolding allTexts documentTexts numberTexts codeOf formOf shownOf
     chapter-checks k st =
-        (λ h. said 18 0 0 0 refl, (λ h. said 10 0 (x .link) 0 refl, (λ h. said 9 0 (st .chapter) (x .link) refl, number-checks k true)))
+        (λ h. said 18 0 0 0 refl, (λ h. said 10 0 (x .link) 0 refl, (λ h. said 9 0 (st .expectedChapter) (x .link) refl, number-checks k true)))
 
-    verse-checks : numbered (kindAt t i) ≡ true → (o : Around) (st : State) → letterByte (st .verse .letter) ≤ 127 → AllOf (WhenHeld Has) (verseChecks e o st x)
+    verse-checks : numbered (kindAt t i) ≡ true → (o : WalkContext) (st : WalkState) → letterByte (st .expectedVerse .letter) ≤ 127 → AllOf (WhenHeld Has) (verseChecks e o st x)
     unfolding allTexts documentTexts numberTexts codeOf formOf shownOf
     verse-checks k o st l =
-        (λ h. said 12 0 0 0 refl, (λ h. said 20 0 0 0 refl, (λ h. said 19 0 0 0 refl, (λ h. sequence (breaks-some label (st .verse) h), number-checks k false))))
+        (λ h. said 12 0 0 0 refl, (λ h. said 20 0 0 0 refl, (λ h. said 19 0 0 0 refl, (λ h. sequence (breaks-some label (st .expectedVerse) h), number-checks k false))))
       where
-        sequence : not (eqb (length label) 0) ≡ true → Has (about x warningSeverity invalidVerseSequence 0 (st .verse .number) (letterByte (st .verse .letter)))
-        sequence h = said 11 0 (st .verse .number) (letterByte (st .verse .letter)) (rw (le-leb (letterByte (st .verse .letter)) 127 l, k, h))
+        sequence : not (eqb (length label) 0) ≡ true → Has (about x warningSeverity invalidVerseSequence 0 (st .expectedVerse .number) (letterByte (st .expectedVerse .letter)))
+        sequence h = said 11 0 (st .expectedVerse .number) (letterByte (st .expectedVerse .letter)) (rw (le-leb (letterByte (st .expectedVerse .letter)) 127 l, k, h))
 
     text-said : Has (warning x textBeforeId 0)
     unfolding allTexts documentTexts codeOf formOf shownOf
@@ -177,7 +177,7 @@ module _ (table s t : List ℕ) where
   attributes-all {d} {a} {b} (inner h z c r) l owner from low marker = rw (forest-node s t h z c r) (attributes-all r l owner from low marker)
 
   -- a leaf
-  leaf-all : (o : Around) (st : State) (i : ℕ) → i < count t → Fit table s t st → AllOf Has (leafTold table o st (nodeAt s t i) .findings)
+  leaf-all : (o : WalkContext) (st : WalkState) (i : ℕ) → i < count t → Fit table s t st → AllOf Has (leafTold table o st (nodeAt s t i) .findings)
   unfolding leafTold
   leaf-all o st i l fit = all-given Has _ (go (eqb (kindAt t i) chapterKind) (eqb (kindAt t i) verseKind) refl refl)
     where
@@ -189,13 +189,13 @@ module _ (table s t : List ℕ) where
       go false true p q = verse-checks i l (entryOf table x) (entry-is i) (rw (p, q)) o st (fit .letter)
       go false false p q = tt
 
-  leaf-fit : (o : Around) (st : State) (x : Node) → Fit table s t st → Fit table s t (leafTold table o st x .state)
+  leaf-fit : (o : WalkContext) (st : WalkState) (x : Node) → Fit table s t st → Fit table s t (leafTold table o st x .state)
   unfolding leafTold afterChapter afterVerse
   leaf-fit o st x fit = go (eqb (x .kind) chapterKind) (eqb (x .kind) verseKind)
     where
       go : (b v : Bool) → Fit table s t (pick b (afterChapter st x) (pick v (afterVerse (entryOf table x) o st x) st))
       go true v = record { letter = omega arith; starts = fit .starts }
-      go false true = record { letter = next-low (labelOf (entryOf table x) (x .text)) (st .verse) (fit .letter); starts = fit .starts }
+      go false true = record { letter = next-low (labelOf (entryOf table x) (x .text)) (st .expectedVerse) (fit .letter); starts = fit .starts }
       go false false = fit
 
   -- an open node with its entry
@@ -209,7 +209,7 @@ module _ (table s t : List ℕ) where
     known : infoAt table t i ≡ some e
     known = entry-is i ∙ entry
 
-    open-checks : (name : List ℕ) (o : Around) (a : Option Anchor) (st st₁ : State) (f : Forest) → AllOf (WhenHeld Has) (idChecks (equal name idName) st (bookCode below) y ++ placeChecks name e o a st₁ y below f ++ contentChecks name y below)
+    open-checks : (name : List ℕ) (o : WalkContext) (a : Option Anchor) (st st₁ : WalkState) (f : Forest) → AllOf (WhenHeld Has) (idChecks (equal name idName) st (bookCode below) y ++ placeChecks name e o a st₁ y below f ++ contentChecks name y below)
     unfolding allTexts documentTexts numberTexts markerTexts codeOf formOf shownOf
     open-checks name o a st st₁ f =
         (λ h. said-here 6 0 refl, (book (isBook (upper code)), (λ h. said-here 13 0 refl, (λ h. said-here 14 0 refl, (λ h. said-here 24 0 refl, (number, (λ h. said-here 21 0 refl, (λ h. said-here 25 0 refl, (λ h. said-here 23 0 refl, tt)))))))))
@@ -231,11 +231,11 @@ module _ (table s t : List ℕ) where
         number : (oneOf numberMarkers name && (oneOf numberMarkers written && not (attachedTo a f (y .start)))) ≡ true → Has (warning y misplacedNumberMarker 0)
         number h = said-here 33 0 (rw (ne-eqb i 0 (omega arith), middle (oneOf numberMarkers name) (oneOf numberMarkers written) (not (attachedTo a f (y .start))) h))
 
-    milestone-checks : (st : State) → AllOf (WhenHeld Has) (milestoneChecks e st y)
+    milestone-checks : (st : WalkState) → AllOf (WhenHeld Has) (milestoneChecks e st y)
     milestone-checks st =
         (λ h. milestone-said i low (some e) known from (and-right (eqb (e .category) milestoneCategory) (isStart y || isEnd y) (and-left (isMilestone e y) (not (isStart y) && not (waits y (st .openStarts))) h)) .1, tt)
 
-    open-all : {d : ℕ} → Nested t d (i + 1) (linkAt t i) → linkAt t i ≤ count t → (o : Around) (a : Option Anchor) (st : State) (f : Forest) → AllOf Has (openTold table o a st e y below f .findings)
+    open-all : {d : ℕ} → Nested t d (i + 1) (linkAt t i) → linkAt t i ≤ count t → (o : WalkContext) (a : Option Anchor) (st : WalkState) (f : Forest) → AllOf Has (openTold table o a st e y below f .findings)
     unfolding openTold
     open-all n l o a st f =
         let name = cut (e .name) table in
@@ -247,7 +247,7 @@ module _ (table s t : List ℕ) where
         (all-append Has (given checks ++ row) attributes (all-append Has (given checks) row (all-given Has checks (open-checks name o a st st₁ f)) (all-pick Has (equal name trName) (rowFindings below) (row-all n l 1))) (attributes-all n l i from low (nameOf (y .text))))
         (all-given Has (milestoneChecks e st₁ y) (milestone-checks st₁))
 
-    open-fit : (o : Around) (a : Option Anchor) (st : State) (c f : Forest) → Fit table s t st → Fit table s t (openTold table o a st e y c f .state)
+    open-fit : (o : WalkContext) (a : Option Anchor) (st : WalkState) (c f : Forest) → Fit table s t st → Fit table s t (openTold table o a st e y c f .state)
     unfolding openTold afterMilestone afterId
     open-fit o a st c f fit = record { letter = fit .letter; starts = go (isMilestone e y) (isStart y) refl }
       where
@@ -262,7 +262,7 @@ module _ (table s t : List ℕ) where
   good-before : (fs : List Finding) (w : Walked) → AllOf Has fs → Good table s t w → Good table s t (before fs w)
   good-before fs w h g = record { findings = all-append Has fs (w .findings) h (g .findings); state = g .state }
 
-  walk-all : {d a b : ℕ} → Nested t d a b → 1 ≤ a → b ≤ count t → (o : Around) (p : Option Anchor) (st : State) → Fit table s t st → Good table s t (walk table o p (forest s t a b) st)
+  walk-all : {d a b : ℕ} → Nested t d a b → 1 ≤ a → b ≤ count t → (o : WalkContext) (p : Option Anchor) (st : WalkState) → Fit table s t st → Good table s t (walk table o p (forest s t a b) st)
   unfolding walk
   walk-all {d} {a} {b} (done e) from l o p st fit = rw (forest-done s t a b (omega arith)) (record { findings = tt; state = fit })
   walk-all {d} {a} {b} (one h z r) from l o p st fit =
@@ -290,8 +290,8 @@ module _ (table s t : List ℕ) where
       passed = past p (node x children end)
 
       go : (q : Option Entry) → entryOf table x ≡ q → a < count t → linkAt t a ≤ count t
-          → ((q : Around) (st₁ : State) → Fit table s t st₁ → Good table s t (walk table q none children st₁))
-          → ((st₁ : State) → Fit table s t st₁ → Good table s t (walk table o passed rest st₁))
+          → ((q : WalkContext) (st₁ : WalkState) → Fit table s t st₁ → Good table s t (walk table q none children st₁))
+          → ((st₁ : WalkState) → Fit table s t st₁ → Good table s t (walk table o passed rest st₁))
           → Good table s t (byEntry q (walk table o passed rest st) (λ e. after (openTold table o p st e x children (node x children rest)) (λ st₁. thenWalk (walk table (inside o e) none children st₁) (walk table o passed rest))))
       go none e low m below later = later st fit
       go (some e) entry low m below later =
@@ -317,7 +317,7 @@ module _ (table s t : List ℕ) where
   unclosed-all [] h = tt
   unclosed-all (x ∷ xs) h = all-append Has (unclosed xs) (error x milestoneMismatch unclosedStart ∷ []) (unclosed-all xs (h .1)) (h .0, tt)
 
-  closing-all : 0 < count t → (st : State) → Fit table s t st → AllOf Has (closing st)
+  closing-all : 0 < count t → (st : WalkState) → Fit table s t st → AllOf Has (closing st)
   unfolding closing allTexts documentTexts codeOf formOf shownOf
   closing-all l st fit =
       all-append Has (unclosed (st .openStarts)) (given _) (unclosed-all (st .openStarts) (fit .starts))

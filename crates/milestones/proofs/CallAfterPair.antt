@@ -5,12 +5,12 @@ use Prim.Native.Nat.{_<_}
 use Rattle.tape.specs.Nodes.{count}
 use Rattle.milestones.specs.Inner.{Counted, Countable}
 use Rattle.milestones.proofs.Paired as Paired-T
-use Rattle.state.proofs.Record as Record-T
+use Rattle.state.proofs.State as State-T
 use Rattle.milestones.proofs.after_pair as after-pair-F
 
 abbrev pub terms : Terms
-terms = stated-as after-pair-F.Symbol.name (of-struct Record-T.the-type Record-T.Laws.the-laws Record-T.Laws.the-plain)
-    (shr u8 ∷ val (of-number w64) ∷ val (of-enum Paired-T.the-type Paired-T.Laws.the-laws Paired-T.Laws.the-plain tt) ∷ val (of-struct Record-T.the-type Record-T.Laws.the-laws Record-T.Laws.the-plain) ∷ mut u64 ∷ [])
+terms = stated-as after-pair-F.Symbol.name (of-struct State-T.the-type State-T.Laws.the-laws State-T.Laws.the-plain)
+    (shr u8 ∷ val (of-number w64) ∷ val (of-enum Paired-T.the-type Paired-T.Laws.the-laws Paired-T.Laws.the-plain tt) ∷ val (of-struct State-T.the-type State-T.Laws.the-laws State-T.Laws.the-plain) ∷ mut u64 ∷ [])
     (λ tape₀ i₀ p₀ rec₀ list₀. ((i₀ < count tape₀) × Countable tape₀ i₀ p₀ rec₀) ∷ [])
     (λ tape₀ i₀ p₀ rec₀ list₀ r z. (Counted tape₀ i₀ p₀ list₀ rec₀ (z .0) r) ∷ [])
 

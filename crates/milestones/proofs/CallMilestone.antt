@@ -5,12 +5,12 @@ use Rattle.table.specs.Entries.{entryOfInfo}
 use Rattle.milestones.specs.Steps.{Milestoned, Steppable}
 use Rattle.table.proofs.MarkerInfo as MarkerInfo-T
 use Rattle.definition.proofs.OpenStart as OpenStart-T
-use Rattle.state.proofs.Record as Record-T
+use Rattle.state.proofs.State as State-T
 use Rattle.milestones.proofs.milestone as milestone-F
 
 abbrev pub terms : Terms
-terms = stated-as milestone-F.Symbol.name (of-struct Record-T.the-type Record-T.Laws.the-laws Record-T.Laws.the-plain)
-    (val (of-struct MarkerInfo-T.the-type MarkerInfo-T.Laws.the-laws MarkerInfo-T.Laws.the-plain) ∷ shr u8 ∷ shr u8 ∷ val (of-number w64) ∷ mut OpenStart-T.the-row ∷ val (of-struct Record-T.the-type Record-T.Laws.the-laws Record-T.Laws.the-plain) ∷ mut u64 ∷ [])
+terms = stated-as milestone-F.Symbol.name (of-struct State-T.the-type State-T.Laws.the-laws State-T.Laws.the-plain)
+    (val (of-struct MarkerInfo-T.the-type MarkerInfo-T.Laws.the-laws MarkerInfo-T.Laws.the-plain) ∷ shr u8 ∷ shr u8 ∷ val (of-number w64) ∷ mut OpenStart-T.the-row ∷ val (of-struct State-T.the-type State-T.Laws.the-laws State-T.Laws.the-plain) ∷ mut u64 ∷ [])
     (λ m₀ source₀ tape₀ i₀ opens₀ rec₀ list₀. (Steppable (entryOfInfo m₀) source₀ tape₀ i₀ opens₀ rec₀) ∷ [])
     (λ m₀ source₀ tape₀ i₀ opens₀ rec₀ list₀ r z. (Milestoned (entryOfInfo m₀) source₀ tape₀ i₀ opens₀ list₀ rec₀ (z .0) (z .1 .0) r) ∷ [])
 

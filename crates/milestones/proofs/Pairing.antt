@@ -14,7 +14,7 @@ use Rattle.definition.specs.Milestones.{baseOf}
 use Rattle.definition.specs.Outcome.{noStart}
 use Rattle.definition.specs.declared.OpenStart.{OpenStart}
 use Rattle.state.specs.Running.{Opens}
-use Rattle.state.specs.declared.Record.{Record}
+use Rattle.state.specs.declared.State.{State}
 use Rattle.milestones.specs.Inner.{Measured, Read, Placed, baseAt, nearestIn, removed, takenBy, opensBy, pairedBy, Counted, Countable}
 use Rattle.milestones.specs.Steps.{Milestoned, Steppable}
 use Rattle.milestones.specs.declared.Step.{Step}

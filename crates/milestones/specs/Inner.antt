@@ -16,7 +16,7 @@ use Rattle.definition.specs.Milestones.{endsIn, isStart, isMilestone, baseOf}
 use Rattle.definition.specs.Outcome.{noStart}
 use Rattle.definition.specs.declared.OpenStart.{OpenStart}
 use Rattle.state.specs.Running.{countsOf, withCounts}
-use Rattle.state.specs.declared.Record.{Record}
+use Rattle.state.specs.declared.State.{State}
 use Rattle.milestones.specs.declared.Step.{Step}
 use Rattle.milestones.specs.declared.Step.the-variants as step
 use Rattle.milestones.specs.declared.Paired.{Paired}
@@ -85,18 +85,18 @@ pairedBy (step.End at len) (At j) k = paired.Now (k - 1)
 pairedBy (step.End at len) Nothing k = paired.Alone
 
 -- the record with another number of open starts
-abbrev pub withOpens : Record → ℕ → Record
+abbrev pub withOpens : State → ℕ → State
 withOpens r n =
     record {
       «has_id» = r .«has_id»;
       «has_chapter» = r .«has_chapter»;
       «has_verse» = r .«has_verse»;
       «front_matter» = r .«front_matter»;
-      «outside_warned» = r .«outside_warned»;
-      chapter = r .chapter;
-      verse = r .verse;
-      seen = r .seen;
-      «open» = n;
+      «verse_outside_warned» = r .«verse_outside_warned»;
+      «expected_chapter» = r .«expected_chapter»;
+      «expected_verse» = r .«expected_verse»;
+      «seen_len» = r .«seen_len»;
+      «open_len» = n;
       verses = r .verses;
       anchor = r .anchor;
       errors = r .errors;
@@ -105,16 +105,16 @@ withOpens r n =
     }
 
 -- the finding of an end that nothing waits for is written, and nothing but the counts is another
-pub record ToldAlone (t : List ℕ) (i : ℕ) (l : List ℕ) (r : Record) (l′ : List ℕ) (q : Record) : Type 0 where
+pub record ToldAlone (t : List ℕ) (i : ℕ) (l : List ℕ) (r : State) (l′ : List ℕ) (q : State) : Type 0 where
   pub wrote : Wrote (error (nodeAt [] t i) milestoneMismatch endAlone ∷ []) l (countsOf r) l′ (countsOf q)
   pub same : q ≡ withCounts r (countsOf q)
 
 -- the record after a marker, by how many open starts there are now: an end that stands alone is told
-abbrev pub Counted : List ℕ → ℕ → Paired → List ℕ → Record → List ℕ → Record → Type 0
+abbrev pub Counted : List ℕ → ℕ → Paired → List ℕ → State → List ℕ → State → Type 0
 Counted t i (paired.Now n) l r l′ q = (q ≡ withOpens r n) × (l′ ≡ l)
 Counted t i paired.Alone l r l′ q = ToldAlone t i l r l′ q
 
 -- there is room for what is told
-abbrev pub Countable : List ℕ → ℕ → Paired → Record → Type 0
+abbrev pub Countable : List ℕ → ℕ → Paired → State → Type 0
 Countable t i (paired.Now n) r = Unit {0}
 Countable t i paired.Alone r = Room (countsOf r) (error (nodeAt [] t i) milestoneMismatch endAlone ∷ [])

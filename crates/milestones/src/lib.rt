@@ -1,7 +1,7 @@
 // Milestones: starts and ends by their names, and the open starts, a lent list of records.
 use definition::OpenStart;
 use findings::Severity;
-use state::Record;
+use state::State;
 use table::MarkerInfo;
 ghost use mathlib.Core.Path.{_≡_};
 ghost use mathlib.Core.List.{[], _∷_};
@@ -117,30 +117,16 @@ fn has_base(source: &[u8], tape: &[u8], o: OpenStart, at: usize, len: usize) -> 
     table::same(&source[from..end], &source[at..to])
 }
 
-fn with_open(r: Record, n: usize) -> Record
+fn with_open(r: State, n: usize) -> State
     ensures { λ q. ⌜ q ≡ withOpens r n ⌝ }
 {
-    let verse = r.verse;
-    Record {
-        has_id: r.has_id,
-        has_chapter: r.has_chapter,
-        has_verse: r.has_verse,
-        front_matter: r.front_matter,
-        outside_warned: r.outside_warned,
-        chapter: r.chapter,
-        verse: verse,
-        seen: r.seen,
-        open: n,
-        verses: r.verses,
-        anchor: r.anchor,
-        errors: r.errors,
-        warnings: r.warnings,
-        infos: r.infos,
-    }
+    let mut q = r;
+    q.open_len = n;
+    q
 }
 
 // The finding of an end that no open start waits for.
-fn tell_alone(tape: &[u8], i: usize, rec: Record, list: &mut [u64]) -> Record
+fn tell_alone(tape: &[u8], i: usize, rec: State, list: &mut [u64]) -> State
     requires { ⌜ (i < count (now tape)) × Room (countsOf rec) (error (nodeAt [] (now tape) i) milestoneMismatch endAlone ∷ []) ⌝ }
     ensures { λ r. ⌜ ToldAlone (now (tape .entry)) i (now (list .entry)) rec (now (list .exit)) r ⌝ }
 {
@@ -223,7 +209,7 @@ fn pair(source: &[u8], tape: &[u8], step: Step, opens: &mut [OpenStart], k: usiz
 }
 
 // The record after a marker, by how many open starts there are now.
-pub fn after_pair(tape: &[u8], i: usize, p: Paired, rec: Record, list: &mut [u64]) -> Record
+pub fn after_pair(tape: &[u8], i: usize, p: Paired, rec: State, list: &mut [u64]) -> State
     requires { ⌜ (i < count (now tape)) × Countable (now tape) i p rec ⌝ }
     ensures { λ r. ⌜ Counted (now (tape .entry)) i p (now (list .entry)) rec (now (list .exit)) r ⌝ }
 {
@@ -240,13 +226,13 @@ pub fn milestone(
     tape: &[u8],
     i: usize,
     opens: &mut [OpenStart],
-    rec: Record,
+    rec: State,
     list: &mut [u64],
-) -> Record
+) -> State
     requires { ⌜ Steppable (entryOfInfo m) (now source) (now tape) i (now opens) rec ⌝ }
     ensures { λ r. ⌜ Milestoned (entryOfInfo m) (now (source .entry)) (now (tape .entry)) i (now (opens .entry)) (now (list .entry)) rec (now (opens .exit)) (now (list .exit)) r ⌝ }
 {
     let step = step_of(m, source, tape, i);
-    let p = pair(source, tape, step, opens, rec.open);
+    let p = pair(source, tape, step, opens, rec.open_len);
     after_pair(tape, i, p, rec, list)
 }

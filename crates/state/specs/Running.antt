@@ -17,8 +17,8 @@ use Rattle.definition.specs.State as state
 use Rattle.definition.specs.Milestones.{baseOf}
 use Rattle.definition.specs.Outcome.{noStart}
 use Rattle.definition.specs.declared.OpenStart.{OpenStart}
-use Rattle.state.specs.declared.Record.{Record}
-use Rattle.state.specs.declared.Around.{Around}
+use Rattle.state.specs.declared.State.{State}
+use Rattle.state.specs.declared.Context.{Context}
 
 -- the first k words of a list, the last of them first
 unfoldable pub latest : List ℕ → ℕ → List ℕ
@@ -31,39 +31,39 @@ starts s t opens zero = []
 starts s t opens (suc k) = nodeAt s t (getD opens k noStart .node) ∷ starts s t opens k
 
 -- the definition's record
-abbrev pub stateOf : List ℕ → List ℕ → List ℕ → List OpenStart → Record → state.State
+abbrev pub stateOf : List ℕ → List ℕ → List ℕ → List OpenStart → State → state.WalkState
 stateOf s t seen opens r =
     record {
       hasId = r .«has_id»;
       hasChapter = r .«has_chapter»;
       hasVerse = r .«has_verse»;
       frontMatter = r .«front_matter»;
-      outsideWarned = r .«outside_warned»;
-      chapter = r .chapter;
-      verse = positionOf (r .verse);
-      seen = latest seen (r .seen);
-      openStarts = starts s t opens (r .«open»);
+      verseOutsideWarned = r .«verse_outside_warned»;
+      expectedChapter = r .«expected_chapter»;
+      expectedVerse = positionOf (r .«expected_verse»);
+      seen = latest seen (r .«seen_len»);
+      openStarts = starts s t opens (r .«open_len»);
       verses = r .verses;
     }
 
-abbrev pub aroundOf : Around → state.Around
-aroundOf o = record { body = o .body; note = o .note; char = o .char }
+abbrev pub contextOf : Context → state.WalkContext
+contextOf o = record { inBodyPara = o .«in_body_para»; inNote = o .«in_note»; inChar = o .«in_char» }
 
-abbrev pub countsOf : Record → Counts
+abbrev pub countsOf : State → Counts
 countsOf r = record { errors = r .errors; warnings = r .warnings; infos = r .infos }
 
-abbrev pub withCounts : Record → Counts → Record
+abbrev pub withCounts : State → Counts → State
 withCounts r c =
     record {
       «has_id» = r .«has_id»;
       «has_chapter» = r .«has_chapter»;
       «has_verse» = r .«has_verse»;
       «front_matter» = r .«front_matter»;
-      «outside_warned» = r .«outside_warned»;
-      chapter = r .chapter;
-      verse = r .verse;
-      seen = r .seen;
-      «open» = r .«open»;
+      «verse_outside_warned» = r .«verse_outside_warned»;
+      «expected_chapter» = r .«expected_chapter»;
+      «expected_verse» = r .«expected_verse»;
+      «seen_len» = r .«seen_len»;
+      «open_len» = r .«open_len»;
       verses = r .verses;
       anchor = r .anchor;
       errors = c .errors;
@@ -88,28 +88,28 @@ startsFor none f = []
 startsFor (some a) f = attached.starts (attachedNumbers (a .kind) (followed (a .passed) f))
 
 -- what holds of the running record in every step: the expected verse is one that a label can lead to
-abbrev pub Sane : Record → Type 0
-Sane r = r .verse .num ≤ 4294967296
+abbrev pub Sane : State → Type 0
+Sane r = r .«expected_verse» .num ≤ 4294967296
 
 -- fields that a step leaves as they were
-pub record SameLists (r q : Record) : Type 0 where
-  pub seen : q .seen ≡ r .seen
-  pub opens : q .«open» ≡ r .«open»
+pub record SameLists (r q : State) : Type 0 where
+  pub seen : q .«seen_len» ≡ r .«seen_len»
+  pub opens : q .«open_len» ≡ r .«open_len»
   pub verses : q .verses ≡ r .verses
   pub anchor : q .anchor ≡ r .anchor
 
-abbrev pub withAnchor : Record → ℕ → Record
+abbrev pub withAnchor : State → ℕ → State
 withAnchor r n =
     record {
       «has_id» = r .«has_id»;
       «has_chapter» = r .«has_chapter»;
       «has_verse» = r .«has_verse»;
       «front_matter» = r .«front_matter»;
-      «outside_warned» = r .«outside_warned»;
-      chapter = r .chapter;
-      verse = r .verse;
-      seen = r .seen;
-      «open» = r .«open»;
+      «verse_outside_warned» = r .«verse_outside_warned»;
+      «expected_chapter» = r .«expected_chapter»;
+      «expected_verse» = r .«expected_verse»;
+      «seen_len» = r .«seen_len»;
+      «open_len» = r .«open_len»;
       verses = r .verses;
       anchor = n;
       errors = r .errors;

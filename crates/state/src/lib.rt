@@ -15,19 +15,19 @@ ghost use Rattle.table.specs.Entries.{entryOfInfo};
 ghost use Rattle.definition.specs.Checks;
 ghost use Rattle.definition.specs.Checks.{isBody};
 ghost use Rattle.definition.specs.Walk;
-ghost use Rattle.state.specs.Running.{countsOf, withCounts, withAnchor, aroundOf};
+ghost use Rattle.state.specs.Running.{countsOf, withCounts, withAnchor, contextOf};
 
 // The running record: flags, what is expected next, how long the two working lists are, the verses visited, the node of the latest anchor or 0, and the counts of findings.
-pub struct Record {
+pub struct State {
     pub has_id: bool,
     pub has_chapter: bool,
     pub has_verse: bool,
     pub front_matter: bool,
-    pub outside_warned: bool,
-    pub chapter: u64,
-    pub verse: VersePart,
-    pub seen: usize,
-    pub open: usize,
+    pub verse_outside_warned: bool,
+    pub expected_chapter: u64,
+    pub expected_verse: VersePart,
+    pub seen_len: usize,
+    pub open_len: usize,
     pub verses: u64,
     pub anchor: usize,
     pub errors: u64,
@@ -36,13 +36,13 @@ pub struct Record {
 }
 
 // Whether a run of siblings stands in a body paragraph, in a note, in a character marker.
-pub struct Around {
-    pub body: bool,
-    pub note: bool,
-    pub char: bool,
+pub struct Context {
+    pub in_body_para: bool,
+    pub in_note: bool,
+    pub in_char: bool,
 }
 
-pub fn counts(r: Record) -> Counts
+pub fn counts(r: State) -> Counts
     ensures { λ c. ⌜ c ≡ countsOf r ⌝ }
 {
     Counts {
@@ -53,26 +53,14 @@ pub fn counts(r: Record) -> Counts
 }
 
 // The record with other counts.
-pub fn with_counts(r: Record, c: Counts) -> Record
+pub fn with_counts(r: State, c: Counts) -> State
     ensures { λ q. ⌜ q ≡ withCounts r c ⌝ }
 {
-    let verse = r.verse;
-    Record {
-        has_id: r.has_id,
-        has_chapter: r.has_chapter,
-        has_verse: r.has_verse,
-        front_matter: r.front_matter,
-        outside_warned: r.outside_warned,
-        chapter: r.chapter,
-        verse: verse,
-        seen: r.seen,
-        open: r.open,
-        verses: r.verses,
-        anchor: r.anchor,
-        errors: c.errors,
-        warnings: c.warnings,
-        infos: c.infos,
-    }
+    let mut q = r;
+    q.errors = c.errors;
+    q.warnings = c.warnings;
+    q.infos = c.infos;
+    q
 }
 
 // A finding with the span of a node.
@@ -101,26 +89,12 @@ pub fn about(
 }
 
 // The record with another anchor.
-pub fn with_anchor(r: Record, n: usize) -> Record
+pub fn with_anchor(r: State, n: usize) -> State
     ensures { λ q. ⌜ q ≡ withAnchor r n ⌝ }
 {
-    let verse = r.verse;
-    Record {
-        has_id: r.has_id,
-        has_chapter: r.has_chapter,
-        has_verse: r.has_verse,
-        front_matter: r.front_matter,
-        outside_warned: r.outside_warned,
-        chapter: r.chapter,
-        verse: verse,
-        seen: r.seen,
-        open: r.open,
-        verses: r.verses,
-        anchor: n,
-        errors: r.errors,
-        warnings: r.warnings,
-        infos: r.infos,
-    }
+    let mut q = r;
+    q.anchor = n;
+    q
 }
 
 // Whether an entry is of the category, by its number.
@@ -150,12 +124,12 @@ fn or(a: bool, b: bool) -> bool
 }
 
 // What lies around the children of a marker.
-pub fn inside(o: Around, m: MarkerInfo) -> Around
-    ensures { λ r. ⌜ aroundOf r ≡ Walk.inside (aroundOf o) (entryOfInfo m) ⌝ }
+pub fn inside(o: Context, m: MarkerInfo) -> Context
+    ensures { λ r. ⌜ contextOf r ≡ Walk.inside (contextOf o) (entryOfInfo m) ⌝ }
 {
-    Around {
-        body: or(o.body, is_body(m)),
-        note: or(o.note, is_of(m, table::NOTE)),
-        char: or(o.char, is_of(m, table::CHARACTER)),
+    Context {
+        in_body_para: or(o.in_body_para, is_body(m)),
+        in_note: or(o.in_note, is_of(m, table::NOTE)),
+        in_char: or(o.in_char, is_of(m, table::CHARACTER)),
     }
 }

@@ -5,11 +5,11 @@ use mathlib.Core.Path.{_≡_}
 use Rattle.tape.specs.Nodes.{linkAt}
 use Rattle.cursor.specs.Inner.{Run}
 use Rattle.validate.specs.Entry.{Begun}
-use Rattle.state.proofs.Record as Record-T
+use Rattle.state.proofs.State as State-T
 use Rattle.validate.proofs.begun as begun-F
 
 abbrev pub terms : Terms
-terms = stated-as begun-F.Symbol.name (of-struct Record-T.the-type Record-T.Laws.the-laws Record-T.Laws.the-plain)
+terms = stated-as begun-F.Symbol.name (of-struct State-T.the-type State-T.Laws.the-laws State-T.Laws.the-plain)
     (shr u8 ∷ shr u8 ∷ val (of-number w64) ∷ mut u64 ∷ [])
     (λ source₀ tape₀ to₀ list₀. ((Run source₀ tape₀ 1 to₀) × (to₀ ≡ linkAt tape₀ 0)) ∷ [])
     (λ source₀ tape₀ to₀ list₀ r z. (Begun source₀ tape₀ list₀ (z .0) r) ∷ [])

@@ -3,12 +3,12 @@
 use Rattle.reference_laws.proofs.Call.{Terms, stated-as, val, mut, of-struct, u64, [], _∷_, Known, bound-at, rule-of, cited}
 use Rattle.validate.specs.Entry.{Endable, Ended}
 use Rattle.findings.proofs.Counts as Counts-T
-use Rattle.state.proofs.Record as Record-T
+use Rattle.state.proofs.State as State-T
 use Rattle.validate.proofs.ended as ended-F
 
 abbrev pub terms : Terms
-terms = stated-as ended-F.Symbol.name (of-struct Record-T.the-type Record-T.Laws.the-laws Record-T.Laws.the-plain)
-    (val (of-struct Record-T.the-type Record-T.Laws.the-laws Record-T.Laws.the-plain) ∷ mut u64 ∷ val (of-struct Counts-T.the-type Counts-T.Laws.the-laws Counts-T.Laws.the-plain) ∷ [])
+terms = stated-as ended-F.Symbol.name (of-struct State-T.the-type State-T.Laws.the-laws State-T.Laws.the-plain)
+    (val (of-struct State-T.the-type State-T.Laws.the-laws State-T.Laws.the-plain) ∷ mut u64 ∷ val (of-struct Counts-T.the-type Counts-T.Laws.the-laws Counts-T.Laws.the-plain) ∷ [])
     (λ rec₀ list₀ left₀. (Endable rec₀ left₀) ∷ [])
     (λ rec₀ list₀ left₀ r z. (Ended rec₀ left₀ list₀ (z .0) r) ∷ [])
 

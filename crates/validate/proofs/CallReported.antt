@@ -7,12 +7,12 @@ use Rattle.findings.specs.Written.{total, limit}
 use Rattle.state.specs.Running.{countsOf}
 use Rattle.validate.specs.Entry.{answerOf, reported}
 use Rattle.validate.proofs.Answer as Answer-T
-use Rattle.state.proofs.Record as Record-T
+use Rattle.state.proofs.State as State-T
 use Rattle.validate.proofs.reported as reported-F
 
 abbrev pub terms : Terms
 terms = stated-as reported-F.Symbol.name (of-enum Answer-T.the-type Answer-T.Laws.the-laws Answer-T.Laws.the-plain tt)
-    (val (of-struct Record-T.the-type Record-T.Laws.the-laws Record-T.Laws.the-plain) ∷ val (of-number w64) ∷ [])
+    (val (of-struct State-T.the-type State-T.Laws.the-laws State-T.Laws.the-plain) ∷ val (of-number w64) ∷ [])
     (λ r₀ len₀. (total (countsOf r₀) ≤ limit) ∷ [])
     (λ r₀ len₀ r z. (answerOf r ≡ reported r₀ (len₀ / 8)) ∷ [])
 

@@ -3,11 +3,11 @@
 use Rattle.reference_laws.proofs.Call.{Terms, stated-as, val, shr, mut, of-number, of-struct, w64, u8, u32, u64, [], _∷_, Known, bound-at, rule-of, cited}
 use Rattle.validate.specs.Entry.{Ran, Fit}
 use Rattle.definition.proofs.OpenStart as OpenStart-T
-use Rattle.state.proofs.Record as Record-T
+use Rattle.state.proofs.State as State-T
 use Rattle.validate.proofs.run as run-F
 
 abbrev pub terms : Terms
-terms = stated-as run-F.Symbol.name (of-struct Record-T.the-type Record-T.Laws.the-laws Record-T.Laws.the-plain)
+terms = stated-as run-F.Symbol.name (of-struct State-T.the-type State-T.Laws.the-laws State-T.Laws.the-plain)
     (shr u8 ∷ shr u64 ∷ val (of-number w64) ∷ shr u8 ∷ shr u8 ∷ mut u32 ∷ mut OpenStart-T.the-row ∷ mut u64 ∷ [])
     (λ table₀ words₀ count₀ source₀ tape₀ seen₀ opens₀ list₀. (Fit table₀ words₀ count₀ source₀ tape₀ seen₀ opens₀) ∷ [])
     (λ table₀ words₀ count₀ source₀ tape₀ seen₀ opens₀ list₀ r z. (Ran table₀ source₀ tape₀ list₀ (z .1 .1 .0) r) ∷ [])

@@ -19,7 +19,7 @@ use Rattle.findings.specs.Finding.{Finding}
 use Rattle.findings.specs.declared.Counts.{Counts}
 use Rattle.findings.specs.Written.{Wrote, Room, room, total, limit, bySeverity, counted, overlay}
 use Rattle.findings.proofs.Overlay.{counted-total, wrote-append}
-use Rattle.definition.specs.State.{State, outside, initial}
+use Rattle.definition.specs.State.{WalkState, outside, initial}
 use Rattle.definition.specs.State as state
 use Rattle.definition.specs.Checks.{given}
 use Rattle.definition.specs.Walk.{walk}
@@ -30,7 +30,7 @@ use Rattle.definition.proofs.Few.{text-few, walk-few, given-few, unclosed-lengt
 use Rattle.definition.proofs.Counted.{Graded, graded}
 use Rattle.definition.specs.declared.OpenStart.{OpenStart}
 use Rattle.state.specs.Running.{latest, starts, stateOf, countsOf, withCounts, Opens}
-use Rattle.state.specs.declared.Record.{Record}
+use Rattle.state.specs.declared.State.{State}
 use Rattle.state.proofs.Opened.{starts-length}
 use Rattle.closing.specs.Ends.{missingChecks}
 use Rattle.walk.specs.Walking.{nowhere, walkAt, Ready, Walked}
@@ -90,33 +90,33 @@ module _ {table words : List ℕ} {entries : ℕ} {s t seen : List ℕ} {opens :
     walk-room = let o = one in let h = heavy in omega arith
 
     -- after the walk
-    module _ (seen′ : List ℕ) (opens′ : List OpenStart) (l₂ : List ℕ) (r : Record) (walked-so : Walked s t (walkAt table s t outside 1 to seen opens (withCounts fresh c)) 64 1 to l₁ (withCounts fresh c) seen′ opens′ l₂ r) where
+    module _ (seen′ : List ℕ) (opens′ : List OpenStart) (l₂ : List ℕ) (r : State) (walked-so : Walked s t (walkAt table s t outside 1 to seen opens (withCounts fresh c)) 64 1 to l₁ (withCounts fresh c) seen′ opens′ l₂ r) where
       total-after : total (countsOf r) ≤ 1 + 16777232 * 65535
       total-after =
           let o = one in
           let h = heavy in
           omega (arith, ap total (walked-so .went .wrote .counts) ∙ counted-total c (walkAt table s t outside 1 to seen opens (withCounts fresh c) .findings))
 
-      open-low : r .«open» ≤ 65535
+      open-low : r .«open_len» ≤ 65535
       open-low = let k = walked-so .went .open-few in let f = few in omega arith
 
-      left-is : length (unclosed (starts s t opens′ (r .«open»))) ≡ r .«open»
-      left-is = unclosed-length (starts s t opens′ (r .«open»)) ∙ starts-length s t opens′ (r .«open»)
+      left-is : length (unclosed (starts s t opens′ (r .«open_len»))) ≡ r .«open_len»
+      left-is = unclosed-length (starts s t opens′ (r .«open_len»)) ∙ starts-length s t opens′ (r .«open_len»)
 
-      pub unclosed-room : Room (countsOf r) (unclosed (starts s t opens′ (r .«open»)))
+      pub unclosed-room : Room (countsOf r) (unclosed (starts s t opens′ (r .«open_len»)))
       unclosed-room = let a = total-after in let b = open-low in let e = left-is in omega arith
 
       -- after the unclosed starts
-      module _ (l₃ : List ℕ) (c₃ : Counts) (left : Wrote (unclosed (starts s t opens′ (r .«open»))) l₂ (countsOf r) l₃ c₃) where
+      module _ (l₃ : List ℕ) (c₃ : Counts) (left : Wrote (unclosed (starts s t opens′ (r .«open_len»))) l₂ (countsOf r) l₃ c₃) where
         pub missing-room : Room c₃ (given (missingChecks r))
         missing-room =
             let a = total-after in
             let b = open-low in
             let e = left-is in
             let g = given-few (missingChecks r) in
-            omega (arith, ap total (left .counts) ∙ counted-total (countsOf r) (unclosed (starts s t opens′ (r .«open»))))
+            omega (arith, ap total (left .counts) ∙ counted-total (countsOf r) (unclosed (starts s t opens′ (r .«open_len»))))
 
-        closing-is : closing (walked table (top s t) .state) ≡ unclosed (starts s t opens′ (r .«open»)) ++ given (missingChecks r)
+        closing-is : closing (walked table (top s t) .state) ≡ unclosed (starts s t opens′ (r .«open_len»)) ++ given (missingChecks r)
         unfolding closing
         closing-is = ap closing (sym (walked-so .went .state ∙ ap (λ (x : def.Walked). x .state) walk-is))
 
@@ -126,7 +126,7 @@ module _ {table words : List ℕ} {entries : ℕ} {s t seen : List ℕ} {opens :
             record {
               wrote = rw closing-is (wrote-append (wrote-append text body) (wrote-append left last));
               low = (let m = missing-room in omega (arith, ap total (last .counts) ∙ counted-total c₃ (given (missingChecks r))));
-              verses = ap (λ (x : State). x .verses) (walked-so .went .state) ∙ ap (λ (x : def.Walked). x .state .verses) walk-is;
+              verses = ap (λ (x : WalkState). x .verses) (walked-so .went .state) ∙ ap (λ (x : def.Walked). x .state .verses) walk-is;
             }
 
 -- The counts of the whole list are those of the definition.
@@ -141,7 +141,7 @@ by-severity c (f ∷ fs) h = go (f .severity) (h .0 .0) (λ d. by-severity d fs 
     go (suc (suc zero)) l k = let q = k (bySeverity 2 c) in (omega (arith, q .0), omega (arith, q .1), omega (arith, q .2))
     go (suc (suc (suc n))) l k = absurd (omega arith)
 
-module _ {table words : List ℕ} {entries : ℕ} {s t seen : List ℕ} {opens : List OpenStart} (fit : Fit table words entries s t seen opens) (l l′ : List ℕ) (q : Record) (ran-so : Ran table s t l l′ q) where
+module _ {table words : List ℕ} {entries : ℕ} {s t seen : List ℕ} {opens : List OpenStart} (fit : Fit table words entries s t seen opens) (l l′ : List ℕ) (q : State) (ran-so : Ran table s t l l′ q) where
   abbrev fs : List Finding
   fs = findings table (top s t)
 

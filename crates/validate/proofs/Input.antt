@@ -17,7 +17,7 @@ use Rattle.tape.proofs.OneNumber.{accepted}
 use Rattle.findings.specs.Written.{total}
 use Rattle.definition.specs.Outcome.{smaller, atPlace, checked}
 use Rattle.state.specs.Running.{countsOf}
-use Rattle.state.specs.declared.Record.{Record}
+use Rattle.state.specs.declared.State.{State}
 use Rattle.validate.specs.declared.Report.{Report}
 use Rattle.validate.specs.declared.Answer.the-variants as answer
 use Rattle.validate.specs.declared.InputCheck.{InputCheck}
@@ -57,7 +57,7 @@ pub tape-accepted : (s t : List ℕ) (g : InputCheck) (n : ℕ) → checkRefusal
 tape-accepted s t g n e h = accepted s t .0 (accepted-none g n (tapeRefusal s t) e h)
 
 -- whether the list is cut
-module _ (r : Record) (room : ℕ) where
+module _ (r : State) (room : ℕ) where
   pub cut-short : room < total (countsOf r) → answerOf (answer.Cut (record { total = total (countsOf r); written = room; verses = r .verses; errors = r .errors; warnings = r .warnings; infos = r .infos })) ≡ reported r room
   cut-short h = rw (le-ltb (total (countsOf r)) room (omega arith), lt-ltb room (total (countsOf r)) h)
 

@@ -25,7 +25,7 @@ use Rattle.definition.specs.Outcome as outcome
 use Rattle.definition.specs.declared.OpenStart.{OpenStart}
 use Rattle.state.specs.Running.{countsOf, withCounts}
 use Rattle.closing.specs.Ends.{missingChecks}
-use Rattle.state.specs.declared.Record.{Record}
+use Rattle.state.specs.declared.State.{State}
 use Rattle.validate.specs.declared.Report.{Report}
 use Rattle.validate.specs.declared.Answer.{Answer}
 use Rattle.validate.specs.declared.Answer.the-variants as answer
@@ -87,18 +87,18 @@ fromTable table s t seen opens = orElse (atPlace badTableLayout (badTable table)
 abbrev pub none-yet : Counts
 none-yet = record { errors = 0; warnings = 0; infos = 0 }
 
-abbrev pub fresh : Record
+abbrev pub fresh : State
 fresh =
     record {
       «has_id» = false;
       «has_chapter» = false;
       «has_verse» = false;
       «front_matter» = false;
-      «outside_warned» = false;
-      chapter = 1;
-      verse = record { num = 1; suffix = suffix.None };
-      seen = 0;
-      «open» = 0;
+      «verse_outside_warned» = false;
+      «expected_chapter» = 1;
+      «expected_verse» = record { num = 1; suffix = suffix.None };
+      «seen_len» = 0;
+      «open_len» = 0;
       verses = 0;
       anchor = 0;
       errors = 0;
@@ -107,7 +107,7 @@ fresh =
     }
 
 -- the whole list is written and counted, and the verses are those visited
-pub record Ran (table s t l l′ : List ℕ) (q : Record) : Type 0 where
+pub record Ran (table s t l l′ : List ℕ) (q : State) : Type 0 where
   pub wrote : Wrote (findings table (top s t)) l none-yet l′ (countsOf q)
   pub verses : q .verses ≡ versesVisited table (top s t)
   pub low : total (countsOf q) ≤ limit
@@ -121,7 +121,7 @@ pub record Fit (table words : List ℕ) (entries : ℕ) (s t seen : List ℕ) (o
   pub open-room : length opens ≡ count t
 
 -- the answer of a record whose counts are those of the whole list, with room for so many findings
-abbrev pub reported : Record → ℕ → outcome.Answer
+abbrev pub reported : State → ℕ → outcome.Answer
 reported r room =
     checked
     (record {
@@ -145,15 +145,15 @@ pub record Finished (table s t seen : List ℕ) (opens : List OpenStart) (l seen
   pub opens-zero : opens′ ≡ blanks noStart (count t)
 
 -- the record before the walk: the text before `\\id` is written and counted
-pub record Begun (s t l l′ : List ℕ) (q : Record) : Type 0 where
+pub record Begun (s t l l′ : List ℕ) (q : State) : Type 0 where
   pub text : Wrote (textBefore (forest s t 1 (linkAt t 0))) l none-yet l′ (countsOf q)
   pub record-is : q ≡ withCounts fresh (countsOf q)
 
 -- what is told after the walk has room
-pub record Endable (r : Record) (c : Counts) : Type 0 where
+pub record Endable (r : State) (c : Counts) : Type 0 where
   pub room : Room c (given (missingChecks r))
 
 -- the record with the last findings counted
-pub record Ended (r : Record) (c : Counts) (l l′ : List ℕ) (q : Record) : Type 0 where
+pub record Ended (r : State) (c : Counts) (l l′ : List ℕ) (q : State) : Type 0 where
   pub wrote : Wrote (given (missingChecks r)) l c l′ (countsOf q)
   pub record-is : q ≡ withCounts r (countsOf q)

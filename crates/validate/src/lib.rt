@@ -4,8 +4,8 @@ use findings::Counts;
 use numbers::LabelCheck;
 use numbers::Suffix;
 use numbers::VersePart;
-use state::Around;
-use state::Record;
+use state::Context;
+use state::State;
 use table::Layout;
 use tape::TapeCheck;
 use text::Utf8;
@@ -24,22 +24,22 @@ ghost use Rattle.definition.specs.Outcome.{answer, listAfter, seenAfter, openAf
 ghost use Rattle.state.specs.Running.{countsOf};
 ghost use Rattle.validate.specs.Entry.{answerOf, checkRefusal, sourceRefusal, listsRefusal, fromLabels, fromTape, fromSource, fromTable, Opened, Passed, fresh, Begun, Endable, Ended, Ran, Fit, reported, Finished, lent};
 
-fn initial() -> Record
+fn initial() -> State
     ensures { λ r. ⌜ r ≡ fresh ⌝ }
 {
-    Record {
+    State {
         has_id: false,
         has_chapter: false,
         has_verse: false,
         front_matter: false,
-        outside_warned: false,
-        chapter: 1,
-        verse: VersePart {
+        verse_outside_warned: false,
+        expected_chapter: 1,
+        expected_verse: VersePart {
             num: 1,
             suffix: Suffix::None,
         },
-        seen: 0,
-        open: 0,
+        seen_len: 0,
+        open_len: 0,
         verses: 0,
         anchor: 0,
         errors: 0,
@@ -49,7 +49,7 @@ fn initial() -> Record
 }
 
 // The record before the walk.
-fn begun(source: &[u8], tape: &[u8], to: usize, list: &mut [u64]) -> Record
+fn begun(source: &[u8], tape: &[u8], to: usize, list: &mut [u64]) -> State
     requires { ⌜ (Run (now source) (now tape) 1 to) × (to ≡ linkAt (now tape) 0) ⌝ }
     ensures { λ r. ⌜ Begun (now (source .entry)) (now (tape .entry)) (now (list .entry)) (now (list .exit)) r ⌝ }
 {
@@ -58,7 +58,7 @@ fn begun(source: &[u8], tape: &[u8], to: usize, list: &mut [u64]) -> Record
 }
 
 // The record after the open starts that are left are told.
-fn ended(rec: Record, list: &mut [u64], left: Counts) -> Record
+fn ended(rec: State, list: &mut [u64], left: Counts) -> State
     requires { ⌜ Endable rec left ⌝ }
     ensures { λ r. ⌜ Ended rec left (now (list .entry)) (now (list .exit)) r ⌝ }
 {
@@ -75,16 +75,16 @@ fn run(
     seen: &mut [u32],
     opens: &mut [OpenStart],
     list: &mut [u64],
-) -> Record
+) -> State
     requires { ⌜ Fit (now table) (now words) count (now source) (now tape) (now seen) (now opens) ⌝ }
     ensures { λ r. ⌜ Ran (now (table .entry)) (now (source .entry)) (now (tape .entry)) (now (list .entry)) (now (list .exit)) r ⌝ }
 {
     let to = tape::link_at(tape, 0) as usize;
     let mut rec = begun(source, tape, to, list);
-    let outside = Around {
-        body: false,
-        note: false,
-        char: false,
+    let outside = Context {
+        in_body_para: false,
+        in_note: false,
+        in_char: false,
     };
     walk::walk(
         table,
@@ -274,7 +274,7 @@ fn node_count(tape: &[u8]) -> usize
 }
 
 // The answer of a document that was walked, by the length of the findings list.
-fn reported(r: Record, len: usize) -> Answer
+fn reported(r: State, len: usize) -> Answer
     requires { ⌜ total (countsOf r) ≤ limit ⌝ }
     ensures { λ q. ⌜ answerOf q ≡ reported r (len / 8) ⌝ }
 {

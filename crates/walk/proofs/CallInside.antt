@@ -3,17 +3,17 @@
 use Rattle.reference_laws.proofs.Call.{Terms, stated-as, val, of-struct, [], _∷_, Known, bound-at, rule-of, cited}
 use mathlib.Core.Path.{_≡_}
 use Rattle.table.specs.Entries.{entryOfInfo}
-use Rattle.state.specs.Running.{aroundOf}
+use Rattle.state.specs.Running.{contextOf}
 use Rattle.definition.specs.Walk as Walk
-use Rattle.state.proofs.Around as Around-T
+use Rattle.state.proofs.Context as Context-T
 use Rattle.table.proofs.MarkerInfo as MarkerInfo-T
 use Rattle.state.proofs.inside as inside-F
 
 abbrev pub terms : Terms
-terms = stated-as inside-F.Symbol.name (of-struct Around-T.the-type Around-T.Laws.the-laws Around-T.Laws.the-plain)
-    (val (of-struct Around-T.the-type Around-T.Laws.the-laws Around-T.Laws.the-plain) ∷ val (of-struct MarkerInfo-T.the-type MarkerInfo-T.Laws.the-laws MarkerInfo-T.Laws.the-plain) ∷ [])
+terms = stated-as inside-F.Symbol.name (of-struct Context-T.the-type Context-T.Laws.the-laws Context-T.Laws.the-plain)
+    (val (of-struct Context-T.the-type Context-T.Laws.the-laws Context-T.Laws.the-plain) ∷ val (of-struct MarkerInfo-T.the-type MarkerInfo-T.Laws.the-laws MarkerInfo-T.Laws.the-plain) ∷ [])
     (λ o₀ m₀. [])
-    (λ o₀ m₀ r z. (aroundOf r ≡ Walk.inside (aroundOf o₀) (entryOfInfo m₀)) ∷ [])
+    (λ o₀ m₀ r z. (contextOf r ≡ Walk.inside (contextOf o₀) (entryOfInfo m₀)) ∷ [])
 
 pub known : Known terms inside-F.signature (λ M 𝓤 H A at-mem run. inside-F.spec 𝓤 H A at-mem run)
 known M 𝓤 H 𝓜 𝓖 𝓡 γ r at met x cs = cited 𝓤 H _ 𝓜 𝓡 γ (terms .name) r at met (bound-at (rule-of terms x .pars) cs)

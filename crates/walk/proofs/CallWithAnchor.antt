@@ -3,12 +3,12 @@
 use Rattle.reference_laws.proofs.Call.{Terms, stated-as, val, of-number, of-struct, w64, [], _∷_, Known, bound-at, rule-of, cited}
 use mathlib.Core.Path.{_≡_}
 use Rattle.state.specs.Running.{withAnchor}
-use Rattle.state.proofs.Record as Record-T
+use Rattle.state.proofs.State as State-T
 use Rattle.state.proofs.with_anchor as with-anchor-F
 
 abbrev pub terms : Terms
-terms = stated-as with-anchor-F.Symbol.name (of-struct Record-T.the-type Record-T.Laws.the-laws Record-T.Laws.the-plain)
-    (val (of-struct Record-T.the-type Record-T.Laws.the-laws Record-T.Laws.the-plain) ∷ val (of-number w64) ∷ [])
+terms = stated-as with-anchor-F.Symbol.name (of-struct State-T.the-type State-T.Laws.the-laws State-T.Laws.the-plain)
+    (val (of-struct State-T.the-type State-T.Laws.the-laws State-T.Laws.the-plain) ∷ val (of-number w64) ∷ [])
     (λ r₀ n₀. [])
     (λ r₀ n₀ r z. (r ≡ withAnchor r₀ n₀) ∷ [])
 

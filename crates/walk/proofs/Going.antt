@@ -27,7 +27,7 @@ use Rattle.findings.specs.Written.{Wrote, Room}
 use Rattle.findings.proofs.Overlay.{wrote-none, Left, left-start, left-wrote, left-end, left-room, room-first}
 use Rattle.attachment.specs.Attached.{startsOf}
 use Rattle.attachment.specs.declared.Attached.{Attached}
-use Rattle.definition.specs.State.{State, Anchor}
+use Rattle.definition.specs.State.{WalkState, Anchor}
 use Rattle.definition.specs.State as state
 use Rattle.numbers.specs.Label.{numbered}
 use Rattle.definition.specs.Checks.{entryOf, leafTold, given}
@@ -35,14 +35,14 @@ use Rattle.definition.specs.Walk.{walk, before}
 use Rattle.definition.specs.Walk as def
 use Rattle.definition.specs.declared.OpenStart.{OpenStart}
 use Rattle.state.specs.Running.{stateOf, countsOf, anchorOf, startsFor, Sane, Opens}
-use Rattle.state.specs.declared.Record.{Record}
+use Rattle.state.specs.declared.State.{State}
 use Rattle.walk.specs.Walking.{onlyOpen, Leafy, Unchanged, Passable, PassedBy, Anchored, walkAt, Ready, Went, Walked, toldAt, below, visitFindings, visitState, Visited, Visitable, anchorAfter, LeafPassed, numbersAfter}
 use Rattle.walk.proofs.Entries.{entry-read, entry-inside}
 use Rattle.walk.proofs.Steps.{next-later, anchored-past, starts-past, leaf-anchored, leaf-starts, walk-leaf, walk-skip, walk-open}
 use Rattle.text.proofs.Bool.{or-parts}
 
 -- the run from i on, of the run that began at `from` with the definition's walk w₀, the list l₀ and the record r₀
-pub record Going (table words : List ℕ) (entries : ℕ) (s t : List ℕ) (depth : ℕ) (o : state.Around) (from to : ℕ) (w₀ : def.Walked) (l₀ : List ℕ) (r₀ : Record) (seen : List ℕ) (opens : List OpenStart) (l : List ℕ) (r : Record) (numbers : Attached) (i : ℕ) : Type 0 where
+pub record Going (table words : List ℕ) (entries : ℕ) (s t : List ℕ) (depth : ℕ) (o : state.WalkContext) (from to : ℕ) (w₀ : def.Walked) (l₀ : List ℕ) (r₀ : State) (seen : List ℕ) (opens : List OpenStart) (l : List ℕ) (r : State) (numbers : Attached) (i : ℕ) : Type 0 where
   pub ready : Ready table words entries s t depth i to seen opens r
   pub left : Left (w₀ .findings) l₀ (countsOf r₀) (walkAt table s t o i to seen opens r .findings) l (countsOf r)
   pub state : walkAt table s t o i to seen opens r .state ≡ w₀ .state
@@ -51,11 +51,11 @@ pub record Going (table words : List ℕ) (entries : ℕ) (s t : List ℕ) (dept
   pub room : Room (countsOf r₀) (w₀ .findings)
   pub begun : from ≤ i
   pub within : i ≤ to
-  pub seen-few : r .seen + (to - i) ≤ r₀ .seen + (to - from)
-  pub open-few : r .«open» + (to - i) ≤ r₀ .«open» + (to - from)
+  pub seen-few : r .«seen_len» + (to - i) ≤ r₀ .«seen_len» + (to - from)
+  pub open-few : r .«open_len» + (to - i) ≤ r₀ .«open_len» + (to - from)
   pub verses-few : r .verses + (to - i) ≤ r₀ .verses + (to - from)
 
-pub going-start : (table words : List ℕ) (entries : ℕ) (s t : List ℕ) (depth : ℕ) (o : state.Around) (from to : ℕ) (seen : List ℕ) (opens : List OpenStart) (l : List ℕ) (r : Record) (numbers : Attached) → Ready table words entries s t depth from to seen opens r → Room (countsOf r) (walkAt table s t o from to seen opens r .findings) → startsOf numbers ≡ startsFor (anchorOf s t (r .anchor) from) (forest s t from to) → Going table words entries s t depth o from to (walkAt table s t o from to seen opens r) l r seen opens l r numbers from
+pub going-start : (table words : List ℕ) (entries : ℕ) (s t : List ℕ) (depth : ℕ) (o : state.WalkContext) (from to : ℕ) (seen : List ℕ) (opens : List OpenStart) (l : List ℕ) (r : State) (numbers : Attached) → Ready table words entries s t depth from to seen opens r → Room (countsOf r) (walkAt table s t o from to seen opens r .findings) → startsOf numbers ≡ startsFor (anchorOf s t (r .anchor) from) (forest s t from to) → Going table words entries s t depth o from to (walkAt table s t o from to seen opens r) l r seen opens l r numbers from
 going-start table words entries s t depth o from to seen opens l r numbers ready room h =
     let k = nested-le (ready .nested) in
     record {
@@ -72,7 +72,7 @@ going-start table words entries s t depth o from to seen opens l r numbers ready
       verses-few = omega arith;
     }
 
-module _ {table words : List ℕ} {entries : ℕ} {s t : List ℕ} {depth : ℕ} {o : state.Around} {from to : ℕ} {w₀ : def.Walked} {l₀ : List ℕ} {r₀ : Record} {seen : List ℕ} {opens : List OpenStart} {l : List ℕ} {r : Record} {numbers : Attached} {i : ℕ} (g : Going table words entries s t depth o from to w₀ l₀ r₀ seen opens l r numbers i) where
+module _ {table words : List ℕ} {entries : ℕ} {s t : List ℕ} {depth : ℕ} {o : state.WalkContext} {from to : ℕ} {w₀ : def.Walked} {l₀ : List ℕ} {r₀ : State} {seen : List ℕ} {opens : List OpenStart} {l : List ℕ} {r : State} {numbers : Attached} {i : ℕ} (g : Going table words entries s t depth o from to w₀ l₀ r₀ seen opens l r numbers i) where
   -- at the end of the run
   pub going-end : to ≤ i → Walked s t w₀ depth from to l₀ r₀ seen opens l r
   unfolding walk
@@ -124,14 +124,14 @@ module _ {table words : List ℕ} {entries : ℕ} {s t : List ℕ} {depth : ℕ}
         }
 
     -- the step to the next node, from what the step gives
-    stepped : (seen′ : List ℕ) (opens′ : List OpenStart) (l′ : List ℕ) (q : Record) (numbers′ : Attached) (fs : List Finding) (st : State) → length seen′ ≡ length seen → length opens′ ≡ length opens
+    stepped : (seen′ : List ℕ) (opens′ : List OpenStart) (l′ : List ℕ) (q : State) (numbers′ : Attached) (fs : List Finding) (st : WalkState) → length seen′ ≡ length seen → length opens′ ≡ length opens
         → walkAt table s t o i to seen opens r ≡ before fs (walk table o (anchorOf s t (q .anchor) next) (forest s t next to) st)
         → stateOf s t seen′ opens′ q ≡ st
         → Wrote fs l (countsOf r) l′ (countsOf q)
-        → Opens s t opens′ (q .«open»)
+        → Opens s t opens′ (q .«open_len»)
         → Sane q
-        → q .seen ≤ r .seen + (next - i)
-        → q .«open» ≤ r .«open» + (next - i)
+        → q .«seen_len» ≤ r .«seen_len» + (next - i)
+        → q .«open_len» ≤ r .«open_len» + (next - i)
         → q .verses ≤ r .verses + (next - i)
         → Anchored t depth (q .anchor) next
         → startsOf numbers′ ≡ startsFor (anchorOf s t (q .anchor) next) (forest s t next to)
@@ -182,7 +182,7 @@ module _ {table words : List ℕ} {entries : ℕ} {s t : List ℕ} {depth : ℕ}
       unfolding leafTold
       leaf-room = room-first (countsOf r) (leafTold table o (stateOf s t seen opens r) (nodeAt s t i) .findings) _ (left-room (rw leaf-is at (g .left)) (g .room))
 
-      pub leaf-seen : r .seen < length seen
+      pub leaf-seen : r .«seen_len» < length seen
       leaf-seen = let k = g .ready .seen-room in omega arith
 
       pub leaf-verses : r .verses < 4611686018427387904
@@ -192,7 +192,7 @@ module _ {table words : List ℕ} {entries : ℕ} {s t : List ℕ} {depth : ℕ}
       unfolding leafTold
       leaf-same = refl
 
-      pub going-leaf : (seen′ l′ : List ℕ) (q : Record) (numbers′ : Attached) → length seen′ ≡ length seen → LeafPassed table s t o i seen l r seen′ l′ q → startsOf numbers′ ≡ numbersAfter s t i next to (startsOf numbers) → Going table words entries s t depth o from to w₀ l₀ r₀ seen′ opens l′ q numbers′ next
+      pub going-leaf : (seen′ l′ : List ℕ) (q : State) (numbers′ : Attached) → length seen′ ≡ length seen → LeafPassed table s t o i seen l r seen′ l′ q → startsOf numbers′ ≡ numbersAfter s t i next to (startsOf numbers) → Going table words entries s t depth o from to w₀ l₀ r₀ seen′ opens l′ q numbers′ next
       going-leaf seen′ l′ q numbers′ ls p h =
           let lt = going-later in
           let sf = p .seen-few in
@@ -227,7 +227,7 @@ module _ {table words : List ℕ} {entries : ℕ} {s t : List ℕ} {depth : ℕ}
         pub visit-able : Visitable s t i to numbers r
         visit-able = record { more = more; opened = opened; attached = g .attached }
 
-        pub going-open : (seen′ : List ℕ) (opens′ : List OpenStart) (l′ : List ℕ) (q : Record) → length seen′ ≡ length seen → length opens′ ≡ length opens → Visited table s t o e i to seen opens l r seen′ opens′ l′ q → Going table words entries s t depth o from to w₀ l₀ r₀ seen′ opens′ l′ q numbers next
+        pub going-open : (seen′ : List ℕ) (opens′ : List OpenStart) (l′ : List ℕ) (q : State) → length seen′ ≡ length seen → length opens′ ≡ length opens → Visited table s t o e i to seen opens l r seen′ opens′ l′ q → Going table words entries s t depth o from to w₀ l₀ r₀ seen′ opens′ l′ q numbers next
         going-open seen′ opens′ l′ q ls lo v =
             let w = v .went in
             let a = v .anchor in
@@ -279,7 +279,7 @@ module _ {table words : List ℕ} {entries : ℕ} {s t : List ℕ} {depth : ℕ}
     going-nearer = let lt = going-later more in rw past (omega (arith, lt .0, lt .1))
 
     -- after the visit of a leaf
-    module _ (seen′ l′ : List ℕ) (q : Record) (numbers′ : Attached) (ls : length seen′ ≡ length seen) (by : PassedBy table s t o i after to numbers seen l r seen′ l′ q numbers′) where
+    module _ (seen′ l′ : List ℕ) (q : State) (numbers′ : Attached) (ls : length seen′ ≡ length seen) (by : PassedBy table s t o i after to numbers seen l r seen′ l′ q numbers′) where
       abbrev Now : Type 0
       Now = Going table words entries s t depth o from to w₀ l₀ r₀ seen′ opens l′ q numbers′ after
 
@@ -316,7 +316,7 @@ module _ {table words : List ℕ} {entries : ℕ} {s t : List ℕ} {depth : ℕ}
               rw (u .same-seen, u .same-record, u .same-numbers)
               (g .ready, visit-able more opened-by (entryOfInfo m) entry-by, entry-inside table words entries s t i m (g .ready .indexed) entry-by, visit-room more opened-by (entryOfInfo m) entry-by)
 
-          pub going-visited : (seen″ : List ℕ) (opens″ : List OpenStart) (l″ : List ℕ) (q″ : Record) → length seen″ ≡ length seen′ → length opens″ ≡ length opens → Visited table s t o (entryOfInfo m) i to seen′ opens l′ q seen″ opens″ l″ q″ → Going table words entries s t depth o from to w₀ l₀ r₀ seen″ opens″ l″ q″ numbers′ after
+          pub going-visited : (seen″ : List ℕ) (opens″ : List OpenStart) (l″ : List ℕ) (q″ : State) → length seen″ ≡ length seen′ → length opens″ ≡ length opens → Visited table s t o (entryOfInfo m) i to seen′ opens l′ q seen″ opens″ l″ q″ → Going table words entries s t depth o from to w₀ l₀ r₀ seen″ opens″ l″ q″ numbers′ after
           going-visited seen″ opens″ l″ q″ ls″ lo v =
               let u = left-so in
               rw (u .same-numbers, past) (going-open more opened-by (entryOfInfo m) entry-by seen″ opens″ l″ q″ (ls″ ∙ ls) lo (rw (u .same-seen, u .same-list, u .same-record) at v))

@@ -23,18 +23,18 @@ use Rattle.findings.specs.Finding.{Finding}
 use Rattle.findings.specs.Written.{Room}
 use Rattle.attachment.specs.Attached.{starts, attachedNumbers}
 use Rattle.attachment.specs.declared.Attached.{Attached}
-use Rattle.definition.specs.State.{State, Anchor, past, Told}
+use Rattle.definition.specs.State.{WalkState, Anchor, past, Told}
 use Rattle.definition.specs.State as state
 use Rattle.definition.specs.Checks.{entryOf, leafTold}
 use Rattle.definition.specs.Walk.{leafAnchor, openTold, inside, before, after, thenWalk, byEntry, walk}
 use Rattle.definition.specs.Walk as def
 use Rattle.state.specs.Running.{stateOf, countsOf, anchorOf, startsFor, withAnchor, Sane}
-use Rattle.state.specs.declared.Record.{Record}
+use Rattle.state.specs.declared.State.{State}
 use Rattle.walk.specs.Walking.{Anchored, nowhere, behind, anchorAfter, numbersAfter, LeafPassed, Leafy, Leaved, Unchanged, PassedBy}
 use Rattle.chapter_verse.specs.Leaves.{LeafVisited}
 
 -- a marker with its entry, its children and what follows it
-open-walk : (table : List ℕ) (o : state.Around) (a : Option Anchor) (x : Node) (c r : Forest) (st : State) (e : Entry) → entryOf table x ≡ some e → walk table o a (node x c r) st ≡ before (openTold table o a st e x c (node x c r) .findings ++ walk table (inside o e) none c (openTold table o a st e x c (node x c r) .state) .findings) (walk table o (past a (node x c end)) r (walk table (inside o e) none c (openTold table o a st e x c (node x c r) .state) .state))
+open-walk : (table : List ℕ) (o : state.WalkContext) (a : Option Anchor) (x : Node) (c r : Forest) (st : WalkState) (e : Entry) → entryOf table x ≡ some e → walk table o a (node x c r) st ≡ before (openTold table o a st e x c (node x c r) .findings ++ walk table (inside o e) none c (openTold table o a st e x c (node x c r) .state) .findings) (walk table o (past a (node x c end)) r (walk table (inside o e) none c (openTold table o a st e x c (node x c r) .state) .state))
 unfolding walk
 open-walk table o a x c r st e h =
     let t = openTold table o a st e x c (node x c r) in
@@ -104,7 +104,7 @@ module _ (s t : List ℕ) (d i to : ℕ) (ok : Accepted s t) (nested : Nested t 
         go false = h ∙ starts-past n a
 
     -- the walk from a leaf on
-    pub walk-leaf : (table : List ℕ) (o : state.Around) (n : ℕ) (st : State) → Anchored t d n i → walk table o (anchorOf s t n i) (forest s t i to) st ≡ before (leafTold table o st (nodeAt s t i) .findings) (walk table o (anchorOf s t (anchorAfter t i n) next) (forest s t next to) (leafTold table o st (nodeAt s t i) .state))
+    pub walk-leaf : (table : List ℕ) (o : state.WalkContext) (n : ℕ) (st : WalkState) → Anchored t d n i → walk table o (anchorOf s t n i) (forest s t i to) st ≡ before (leafTold table o st (nodeAt s t i) .findings) (walk table o (anchorOf s t (anchorAfter t i n) next) (forest s t next to) (leafTold table o st (nodeAt s t i) .state))
     unfolding walk
     walk-leaf table o n st a = rw (forest-at-leaf s t i to run more leafy, leaf-anchor n a)
 
@@ -120,11 +120,11 @@ module _ (s t : List ℕ) (d i to : ℕ) (ok : Accepted s t) (nested : Nested t 
     open-anchor n a = ap (past (anchorOf s t n i)) (sym (one-open s t d i to ok nested from within more opened)) ∙ anchor-past n a
 
     -- without a table entry it is passed over
-    pub walk-skip : (table : List ℕ) (o : state.Around) (n : ℕ) (st : State) → Anchored t d n i → entryOf table x ≡ none → walk table o (anchorOf s t n i) (forest s t i to) st ≡ walk table o (anchorOf s t n next) (forest s t next to) st
+    pub walk-skip : (table : List ℕ) (o : state.WalkContext) (n : ℕ) (st : WalkState) → Anchored t d n i → entryOf table x ≡ none → walk table o (anchorOf s t n i) (forest s t i to) st ≡ walk table o (anchorOf s t n next) (forest s t next to) st
     unfolding walk
     walk-skip table o n st a e = rw (forest-at-open s t i to run more opened, e, open-anchor n a)
 
-    pub walk-open : (table : List ℕ) (o : state.Around) (n : ℕ) (st : State) (e : Entry) → Anchored t d n i → entryOf table x ≡ some e → walk table o (anchorOf s t n i) (forest s t i to) st ≡ before (openTold table o (anchorOf s t n i) st e x c (forest s t i to) .findings ++ walk table (inside o e) none c (openTold table o (anchorOf s t n i) st e x c (forest s t i to) .state) .findings) (walk table o (anchorOf s t n next) (forest s t next to) (walk table (inside o e) none c (openTold table o (anchorOf s t n i) st e x c (forest s t i to) .state) .state))
+    pub walk-open : (table : List ℕ) (o : state.WalkContext) (n : ℕ) (st : WalkState) (e : Entry) → Anchored t d n i → entryOf table x ≡ some e → walk table o (anchorOf s t n i) (forest s t i to) st ≡ before (openTold table o (anchorOf s t n i) st e x c (forest s t i to) .findings ++ walk table (inside o e) none c (openTold table o (anchorOf s t n i) st e x c (forest s t i to) .state) .findings) (walk table o (anchorOf s t n next) (forest s t next to) (walk table (inside o e) none c (openTold table o (anchorOf s t n i) st e x c (forest s t i to) .state) .state))
     unfolding walk
     walk-open table o n st e a h =
         rw (forest-at-open s t i to run more opened) (open-walk table o (anchorOf s t n i) x c (forest s t next to) st e h ∙ rw (open-anchor n a))
@@ -178,20 +178,20 @@ module _ (s t : List ℕ) (i next to : ℕ) (given : List ℕ) where
   same-numbers h = rw h
 
 -- the leaf with its anchor
-module _ {table s t : List ℕ} {o : state.Around} {i : ℕ} {seen l : List ℕ} {r : Record} {seen′ l′ : List ℕ} {q : Record} (v : LeafVisited table s t o i seen l r seen′ l′ q) where
-  pub leaf-new : (q′ : Record) → q′ ≡ withAnchor q i → numbered (kindAt t i) ≡ true → LeafPassed table s t o i seen l r seen′ l′ q′
+module _ {table s t : List ℕ} {o : state.WalkContext} {i : ℕ} {seen l : List ℕ} {r : State} {seen′ l′ : List ℕ} {q : State} (v : LeafVisited table s t o i seen l r seen′ l′ q) where
+  pub leaf-new : (q′ : State) → q′ ≡ withAnchor q i → numbered (kindAt t i) ≡ true → LeafPassed table s t o i seen l r seen′ l′ q′
   leaf-new q′ e h = rw e (record { wrote = v .wrote; state = v .state; sane = v .sane; seen-few = v .seen-few; verses-few = v .verses-few; opens = v .opens; anchor = rw h })
 
   pub leaf-old : numbered (kindAt t i) ≡ false → LeafPassed table s t o i seen l r seen′ l′ q
   leaf-old h = record { wrote = v .wrote; state = v .state; sane = v .sane; seen-few = v .seen-few; verses-few = v .verses-few; opens = v .opens; anchor = v .anchor ∙ rw h }
 
 -- what a Chapter or Verse asks for, one by one
-pub leafy-asks : {table words : List ℕ} {entries : ℕ} {s t : List ℕ} {o : state.Around} {i next to : ℕ} {seen : List ℕ} {r : Record} → Leafy table words entries s t o i next to seen r → Indexed table words entries × Spanned s t i × Sane r × (r .seen < length seen) × (r .verses < 4611686018427387904) × Room (countsOf r) (leafTold table o (stateOf s t seen [] r) (nodeAt s t i) .findings)
+pub leafy-asks : {table words : List ℕ} {entries : ℕ} {s t : List ℕ} {o : state.WalkContext} {i next to : ℕ} {seen : List ℕ} {r : State} → Leafy table words entries s t o i next to seen r → Indexed table words entries × Spanned s t i × Sane r × (r .«seen_len» < length seen) × (r .verses < 4611686018427387904) × Room (countsOf r) (leafTold table o (stateOf s t seen [] r) (nodeAt s t i) .findings)
 leafy-asks a = (a .indexed, a .spanned, a .sane, a .seen-room, a .verses-room, a .room)
 
 -- the visit of a leaf, by what it is
-module _ {table s t : List ℕ} {o : state.Around} {i next to : ℕ} {numbers : Attached} {seen l : List ℕ} {r : Record} where
-  pub was-number : {seen′ l′ : List ℕ} {q : Record} {after : Attached} → numbered (kindAt t i) ≡ true → Leaved table s t o i next to numbers seen l r seen′ l′ q after → PassedBy table s t o i next to numbers seen l r seen′ l′ q after
+module _ {table s t : List ℕ} {o : state.WalkContext} {i next to : ℕ} {numbers : Attached} {seen l : List ℕ} {r : State} where
+  pub was-number : {seen′ l′ : List ℕ} {q : State} {after : Attached} → numbered (kindAt t i) ≡ true → Leaved table s t o i next to numbers seen l r seen′ l′ q after → PassedBy table s t o i next to numbers seen l r seen′ l′ q after
   was-number h v = record { number = λ _. v; other = λ e. absurd (false≢true (sym e ∙ h)) }
 
   pub was-other : numbered (kindAt t i) ≡ false → PassedBy table s t o i next to numbers seen l r seen l r numbers

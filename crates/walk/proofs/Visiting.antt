@@ -23,7 +23,7 @@ use Rattle.findings.specs.Written.{Wrote, Room}
 use Rattle.findings.proofs.Overlay.{Left, left-start, left-wrote, left-room, room-first, wrote-append}
 use Rattle.attachment.specs.Attached.{startsOf}
 use Rattle.attachment.specs.declared.Attached.{Attached}
-use Rattle.definition.specs.State.{State, Anchor, Told}
+use Rattle.definition.specs.State.{WalkState, Anchor, Told}
 use Rattle.definition.specs.State as state
 use Rattle.definition.specs.Checks.{given, afterId}
 use Rattle.definition.specs.Milestones.{milestoneChecks, afterMilestone}
@@ -31,7 +31,7 @@ use Rattle.definition.specs.Walk.{walk, openTold, inside}
 use Rattle.definition.specs.Walk as def
 use Rattle.definition.specs.declared.OpenStart.{OpenStart}
 use Rattle.state.specs.Running.{stateOf, countsOf, anchorOf, withCounts, withAnchor, Sane, Opens}
-use Rattle.state.specs.declared.Record.{Record}
+use Rattle.state.specs.declared.State.{State}
 use Rattle.marker_checks.specs.Own.{isId, childrenAt, ownAt, Marked}
 use Rattle.milestones.specs.Steps.{Stepped, Milestoned, Steppable}
 use Rattle.walk.specs.Walking.{Anchored, nowhere, walkAt, Ready, Went, Walked, toldAt, below, visitFindings, visitState, Visited, Visitable, canSkipChildren}
@@ -48,12 +48,12 @@ count-low s t ok =
     ltb-false 65535 (count t) (or-parts (not (eqb (length t % 16) 0)) _ (a .1) .1)
 
 -- what a visit begins with
-pub record Visit (table words : List ℕ) (entries : ℕ) (s t : List ℕ) (depth : ℕ) (o : state.Around) (i to : ℕ) (e : Entry) (numbers : Attached) (seen : List ℕ) (opens : List OpenStart) (l : List ℕ) (r : Record) : Type 0 where
+pub record Visit (table words : List ℕ) (entries : ℕ) (s t : List ℕ) (depth : ℕ) (o : state.WalkContext) (i to : ℕ) (e : Entry) (numbers : Attached) (seen : List ℕ) (opens : List OpenStart) (l : List ℕ) (r : State) : Type 0 where
   pub ready : Ready table words entries s t depth i to seen opens r
   pub able : Visitable s t i to numbers r
   pub room : Room (countsOf r) (visitFindings table s t o e i to seen opens r)
 
-module _ {table words : List ℕ} {entries : ℕ} {s t : List ℕ} {depth : ℕ} {o : state.Around} {i to : ℕ} {e : Entry} {numbers : Attached} {seen : List ℕ} {opens : List OpenStart} {l : List ℕ} {r : Record} (v : Visit table words entries s t depth o i to e numbers seen opens l r) where
+module _ {table words : List ℕ} {entries : ℕ} {s t : List ℕ} {depth : ℕ} {o : state.WalkContext} {i to : ℕ} {e : Entry} {numbers : Attached} {seen : List ℕ} {opens : List OpenStart} {l : List ℕ} {r : State} (v : Visit table words entries s t depth o i to e numbers seen opens l r) where
   abbrev x : Node
   x = nodeAt s t i
 
@@ -61,7 +61,7 @@ module _ {table words : List ℕ} {entries : ℕ} {s t : List ℕ} {depth : ℕ}
   c = childrenAt s t i
 
   -- the record after `id`
-  abbrev st₁ : State
+  abbrev st₁ : WalkState
   st₁ = afterId (isId table e) (stateOf s t seen opens r) c
 
   abbrev own : List Finding
@@ -116,15 +116,15 @@ module _ {table words : List ℕ} {entries : ℕ} {s t : List ℕ} {depth : ℕ}
   link-later = open-later s t i to visit-run (v .able .more) (v .able .opened)
 
   -- after the checks of the marker
-  module _ (l₁ : List ℕ) (r₁ : Record) (marked : Marked table s t o (anchorOf s t (r .anchor) i) e i to l r l₁ r₁) where
-    same-open : r₁ .«open» ≡ r .«open»
+  module _ (l₁ : List ℕ) (r₁ : State) (marked : Marked table s t o (anchorOf s t (r .anchor) i) e i to l r l₁ r₁) where
+    same-open : r₁ .«open_len» ≡ r .«open_len»
     same-open = marked .same .opens
 
     milestone-same : given (milestoneChecks e (stateOf s t [] opens r₁) x) ≡ milestone
     unfolding afterId
     milestone-same = rw same-open
 
-    pub milestone-opens : Opens s t opens (r₁ .«open»)
+    pub milestone-opens : Opens s t opens (r₁ .«open_len»)
     milestone-opens = rw same-open (v .ready .starts)
 
     after-own : Left (own ++ milestone) l (countsOf r) milestone l₁ (countsOf r₁)
@@ -133,14 +133,14 @@ module _ {table words : List ℕ} {entries : ℕ} {s t : List ℕ} {depth : ℕ}
     pub milestone-room : Room (countsOf r₁) (given (milestoneChecks e (stateOf s t [] opens r₁) x))
     milestone-room = rw milestone-same (left-room after-own (room-first (countsOf r) (own ++ milestone) children roomy))
 
-    pub milestone-more : r₁ .«open» < length opens
+    pub milestone-more : r₁ .«open_len» < length opens
     milestone-more =
         let a = v .ready .open-room in
         let b = v .able .more in
         rw same-open (omega arith)
 
     -- after the milestone
-    module _ (l₂ : List ℕ) (opens₂ : List OpenStart) (r₂ : Record) (lo : length opens₂ ≡ length opens) (done : Milestoned e s t i opens l₁ r₁ opens₂ l₂ r₂) where
+    module _ (l₂ : List ℕ) (opens₂ : List OpenStart) (r₂ : State) (lo : length opens₂ ≡ length opens) (done : Milestoned e s t i opens l₁ r₁ opens₂ l₂ r₂) where
       stepped : Stepped e s t i opens (withCounts r₁ (countsOf r₂)) opens₂ r₂
       stepped = done .step
 
@@ -148,9 +148,9 @@ module _ {table words : List ℕ} {entries : ℕ} {s t : List ℕ} {depth : ℕ}
       both-wrote = wrote-append (marked .wrote) (rw milestone-same at (done .wrote))
 
       state-now : stateOf s t seen opens₂ (withAnchor r₂ 0) ≡ toldAt table s t o e i to seen opens r .state
-      state-now = stepped .state seen ∙ ap (λ (z : State). afterMilestone e z x) (marked .state seen opens) ∙ sym told-state
+      state-now = stepped .state seen ∙ ap (λ (z : WalkState). afterMilestone e z x) (marked .state seen opens) ∙ sym told-state
 
-      seen-now : r₂ .seen ≡ r .seen
+      seen-now : r₂ .«seen_len» ≡ r .«seen_len»
       seen-now = stepped .seen ∙ marked .same .seen
 
       verses-now : r₂ .verses ≡ r .verses
@@ -181,14 +181,14 @@ module _ {table words : List ℕ} {entries : ℕ} {s t : List ℕ} {depth : ℕ}
             anchored = nowhere;
           }
 
-      walk-same : (o′ : state.Around) → o′ ≡ inside o e → walkAt table s t o′ (i + 1) (linkAt t i) seen opens₂ (withAnchor r₂ 0) ≡ below table s t o e i (toldAt table s t o e i to seen opens r)
-      walk-same o′ h = ap₂ (λ (z : state.Around) (y : State). walk table z none (forest s t (i + 1) (linkAt t i)) y) h state-now
+      walk-same : (o′ : state.WalkContext) → o′ ≡ inside o e → walkAt table s t o′ (i + 1) (linkAt t i) seen opens₂ (withAnchor r₂ 0) ≡ below table s t o e i (toldAt table s t o e i to seen opens r)
+      walk-same o′ h = ap₂ (λ (z : state.WalkContext) (y : WalkState). walk table z none (forest s t (i + 1) (linkAt t i)) y) h state-now
 
-      pub children-room : (o′ : state.Around) → o′ ≡ inside o e → Room (countsOf (withAnchor r₂ 0)) (walkAt table s t o′ (i + 1) (linkAt t i) seen opens₂ (withAnchor r₂ 0) .findings)
+      pub children-room : (o′ : state.WalkContext) → o′ ≡ inside o e → Room (countsOf (withAnchor r₂ 0)) (walkAt table s t o′ (i + 1) (linkAt t i) seen opens₂ (withAnchor r₂ 0) .findings)
       children-room o′ h =
           subst (λ (w : def.Walked). Room (countsOf r₂) (w .findings)) (sym (walk-same o′ h)) (left-room (left-wrote {gs = own ++ milestone} {fs = children} whole both-wrote) roomy)
 
-      pub visited : (o′ : state.Around) (seen′ : List ℕ) (opens′ : List OpenStart) (l′ : List ℕ) (r₃ : Record) → o′ ≡ inside o e → Walked s t (walkAt table s t o′ (i + 1) (linkAt t i) seen opens₂ (withAnchor r₂ 0)) (depth - 1) (i + 1) (linkAt t i) l₂ (withAnchor r₂ 0) seen′ opens′ l′ r₃ → Visited table s t o e i to seen opens l r seen′ opens′ l′ (withAnchor r₃ (r .anchor))
+      pub visited : (o′ : state.WalkContext) (seen′ : List ℕ) (opens′ : List OpenStart) (l′ : List ℕ) (r₃ : State) → o′ ≡ inside o e → Walked s t (walkAt table s t o′ (i + 1) (linkAt t i) seen opens₂ (withAnchor r₂ 0)) (depth - 1) (i + 1) (linkAt t i) l₂ (withAnchor r₂ 0) seen′ opens′ l′ r₃ → Visited table s t o e i to seen opens l r seen′ opens′ l′ (withAnchor r₃ (r .anchor))
       visited o′ seen′ opens′ l′ r₃ h walked =
           let w = walked .went in
           let same = walk-same o′ h in
@@ -220,30 +220,30 @@ module _ {table words : List ℕ} {entries : ℕ} {s t : List ℕ} {depth : ℕ}
       pub visited-without-children : canSkipChildren c ≡ true → Visited table s t o e i to seen opens l r seen opens₂ l₂ (withAnchor r₂ (r .anchor))
       visited-without-children h = visited (inside o e) seen opens₂ l₂ (withAnchor r₂ 0) refl (skipped-walked (inside o e) l₂ children-ready refl h)
 
-pub visit-with : {table words : List ℕ} {entries : ℕ} {s t : List ℕ} {depth i to : ℕ} {numbers : Attached} {seen : List ℕ} {opens : List OpenStart} {r : Record} (o : state.Around) (e : Entry) (l : List ℕ) → Ready table words entries s t depth i to seen opens r → Visitable s t i to numbers r → Room (countsOf r) (visitFindings table s t o e i to seen opens r) → Visit table words entries s t depth o i to e numbers seen opens l r
+pub visit-with : {table words : List ℕ} {entries : ℕ} {s t : List ℕ} {depth i to : ℕ} {numbers : Attached} {seen : List ℕ} {opens : List OpenStart} {r : State} (o : state.WalkContext) (e : Entry) (l : List ℕ) → Ready table words entries s t depth i to seen opens r → Visitable s t i to numbers r → Room (countsOf r) (visitFindings table s t o e i to seen opens r) → Visit table words entries s t depth o i to e numbers seen opens l r
 visit-with o e l ready able room = record { ready = ready; able = able; room = room }
 
 -- the marker checked and its milestone paired: the list, the open starts and the record before its children
-pub record Entered (table words : List ℕ) (entries : ℕ) (s t : List ℕ) (depth : ℕ) (o : state.Around) (i to : ℕ) (e : Entry) (numbers : Attached) (seen : List ℕ) (opens : List OpenStart) (l : List ℕ) (r : Record) (l₂ : List ℕ) (opens₂ : List OpenStart) (r₂ : Record) : Type 0 where
+pub record Entered (table words : List ℕ) (entries : ℕ) (s t : List ℕ) (depth : ℕ) (o : state.WalkContext) (i to : ℕ) (e : Entry) (numbers : Attached) (seen : List ℕ) (opens : List OpenStart) (l : List ℕ) (r : State) (l₂ : List ℕ) (opens₂ : List OpenStart) (r₂ : State) : Type 0 where
   pub visit : Visit table words entries s t depth o i to e numbers seen opens l r
   pub l₁ : List ℕ
-  pub r₁ : Record
+  pub r₁ : State
   pub marked : Marked table s t o (anchorOf s t (r .anchor) i) e i to l r l₁ r₁
   pub long : length opens₂ ≡ length opens
   pub done : Milestoned e s t i opens l₁ r₁ opens₂ l₂ r₂
 
 -- the walk of the children
-pub record Inner (table words : List ℕ) (entries : ℕ) (s t : List ℕ) (depth : ℕ) (o : state.Around) (i to : ℕ) (e : Entry) (numbers : Attached) (seen : List ℕ) (opens : List OpenStart) (l : List ℕ) (r : Record) (l₂ : List ℕ) (opens₂ : List OpenStart) (r₂ b q : Record) (from link d : ℕ) (o′ : state.Around) : Type 0 where
+pub record Inner (table words : List ℕ) (entries : ℕ) (s t : List ℕ) (depth : ℕ) (o : state.WalkContext) (i to : ℕ) (e : Entry) (numbers : Attached) (seen : List ℕ) (opens : List OpenStart) (l : List ℕ) (r : State) (l₂ : List ℕ) (opens₂ : List OpenStart) (r₂ b q : State) (from link d : ℕ) (o′ : state.WalkContext) : Type 0 where
   pub whole : Entered table words entries s t depth o i to e numbers seen opens l r l₂ opens₂ r₂
   pub before : b ≡ r
   pub now-is : q ≡ withAnchor r₂ 0
   pub from-is : from ≡ i + 1
   pub link-is : link ≡ linkAt t i
   pub deeper : d ≡ depth - 1
-  pub around : o′ ≡ inside o e
+  pub context : o′ ≡ inside o e
 
-module _ {table words : List ℕ} {entries : ℕ} {s t : List ℕ} {depth : ℕ} {o : state.Around} {i to : ℕ} {e : Entry} {numbers : Attached} {seen : List ℕ} {opens : List OpenStart} {l : List ℕ} {r : Record} where
-  pub steppable : (v : Visit table words entries s t depth o i to e numbers seen opens l r) (l₁ : List ℕ) (r₁ : Record) → Marked table s t o (anchorOf s t (r .anchor) i) e i to l r l₁ r₁ → Steppable e s t i opens r₁
+module _ {table words : List ℕ} {entries : ℕ} {s t : List ℕ} {depth : ℕ} {o : state.WalkContext} {i to : ℕ} {e : Entry} {numbers : Attached} {seen : List ℕ} {opens : List OpenStart} {l : List ℕ} {r : State} where
+  pub steppable : (v : Visit table words entries s t depth o i to e numbers seen opens l r) (l₁ : List ℕ) (r₁ : State) → Marked table s t o (anchorOf s t (r .anchor) i) e i to l r l₁ r₁ → Steppable e s t i opens r₁
   steppable v l₁ r₁ marked =
       let low = visit-low v in
       record {
@@ -262,33 +262,33 @@ module _ {table words : List ℕ} {entries : ℕ} {s t : List ℕ} {depth : ℕ}
       let m = skipped-marked table s t o (anchorOf s t (r .anchor) i) e i to r k l in
       visited-without-children v l r m l opens r refl (no-milestone e s t i opens l r (v .ready .starts) (rw q)) (texts-skipped (childrenAt s t i) (skipped-texts (cut (e .name) table) e o (r .«has_chapter») (childrenAt s t i) k))
 
-  pub enters : (v : Visit table words entries s t depth o i to e numbers seen opens l r) (l₁ : List ℕ) (r₁ : Record) → Marked table s t o (anchorOf s t (r .anchor) i) e i to l r l₁ r₁ → (l₂ : List ℕ) (opens₂ : List OpenStart) (r₂ : Record) → length opens₂ ≡ length opens → Milestoned e s t i opens l₁ r₁ opens₂ l₂ r₂ → Entered table words entries s t depth o i to e numbers seen opens l r l₂ opens₂ r₂
+  pub enters : (v : Visit table words entries s t depth o i to e numbers seen opens l r) (l₁ : List ℕ) (r₁ : State) → Marked table s t o (anchorOf s t (r .anchor) i) e i to l r l₁ r₁ → (l₂ : List ℕ) (opens₂ : List OpenStart) (r₂ : State) → length opens₂ ≡ length opens → Milestoned e s t i opens l₁ r₁ opens₂ l₂ r₂ → Entered table words entries s t depth o i to e numbers seen opens l r l₂ opens₂ r₂
   enters v l₁ r₁ marked l₂ opens₂ r₂ long done = record { visit = v; l₁ = l₁; r₁ = r₁; marked = marked; long = long; done = done }
 
-  module _ {l₂ : List ℕ} {opens₂ : List OpenStart} {r₂ : Record} (x : Entered table words entries s t depth o i to e numbers seen opens l r l₂ opens₂ r₂) (link : ℕ) (link-is : link ≡ linkAt t i) where
+  module _ {l₂ : List ℕ} {opens₂ : List OpenStart} {r₂ : State} (x : Entered table words entries s t depth o i to e numbers seen opens l r l₂ opens₂ r₂) (link : ℕ) (link-is : link ≡ linkAt t i) where
     pub inner-run : Run s t (i + 1) link
     inner-run = rw link-is (visit-children (x .visit))
 
-    pub visited-still : (q : Bool) → q ≡ canSkipChildren (forest s t (i + 1) link) → q ≡ true → (b p : Record) → b ≡ r → p ≡ withAnchor r₂ (b .anchor) → Visited table s t o e i to seen opens l r seen opens₂ l₂ p
+    pub visited-still : (q : Bool) → q ≡ canSkipChildren (forest s t (i + 1) link) → q ≡ true → (b p : State) → b ≡ r → p ≡ withAnchor r₂ (b .anchor) → Visited table s t o e i to seen opens l r seen opens₂ l₂ p
     visited-still q q-is h b p b-is p-is = rw (p-is, b-is) (visited-without-children (x .visit) (x .l₁) (x .r₁) (x .marked) l₂ opens₂ r₂ (x .long) (x .done) (rw link-is at (sym q-is ∙ h)))
 
-  module _ {l₂ : List ℕ} {opens₂ : List OpenStart} {r₂ b q : Record} {from link d : ℕ} {o′ : state.Around} (y : Inner table words entries s t depth o i to e numbers seen opens l r l₂ opens₂ r₂ b q from link d o′) where
+  module _ {l₂ : List ℕ} {opens₂ : List OpenStart} {r₂ b q : State} {from link d : ℕ} {o′ : state.WalkContext} (y : Inner table words entries s t depth o i to e numbers seen opens l r l₂ opens₂ r₂ b q from link d o′) where
     pub inner-asks : Ready table words entries s t d from link seen opens₂ q × Room (countsOf q) (walkAt table s t o′ from link seen opens₂ q .findings)
     inner-asks =
         let x = y .whole in
         rw (y .from-is, y .link-is, y .now-is, y .deeper)
-        (children-ready (x .visit) (x .l₁) (x .r₁) (x .marked) l₂ opens₂ r₂ (x .long) (x .done), children-room (x .visit) (x .l₁) (x .r₁) (x .marked) l₂ opens₂ r₂ (x .long) (x .done) o′ (y .around))
+        (children-ready (x .visit) (x .l₁) (x .r₁) (x .marked) l₂ opens₂ r₂ (x .long) (x .done), children-room (x .visit) (x .l₁) (x .r₁) (x .marked) l₂ opens₂ r₂ (x .long) (x .done) o′ (y .context))
 
     pub inner-less : 2 * d + 1 < 2 * depth
     inner-less = let e = y .deeper in let h = visit-deep (y .whole .visit) in omega arith
 
-    pub visited-whole : (seen′ : List ℕ) (opens′ : List OpenStart) (l′ : List ℕ) (r₃ : Record) → Walked s t (walkAt table s t o′ from link seen opens₂ q) d from link l₂ q seen′ opens′ l′ r₃ → (p : Record) → p ≡ withAnchor r₃ (b .anchor) → Visited table s t o e i to seen opens l r seen′ opens′ l′ p
+    pub visited-whole : (seen′ : List ℕ) (opens′ : List OpenStart) (l′ : List ℕ) (r₃ : State) → Walked s t (walkAt table s t o′ from link seen opens₂ q) d from link l₂ q seen′ opens′ l′ r₃ → (p : State) → p ≡ withAnchor r₃ (b .anchor) → Visited table s t o e i to seen opens l r seen′ opens′ l′ p
     visited-whole seen′ opens′ l′ r₃ w p p-is =
         let x = y .whole in
-        rw (p-is, y .before) (visited (x .visit) (x .l₁) (x .r₁) (x .marked) l₂ opens₂ r₂ (x .long) (x .done) o′ seen′ opens′ l′ r₃ (y .around) (rw (y .from-is, y .link-is, y .now-is, y .deeper) at w))
+        rw (p-is, y .before) (visited (x .visit) (x .l₁) (x .r₁) (x .marked) l₂ opens₂ r₂ (x .long) (x .done) o′ seen′ opens′ l′ r₃ (y .context) (rw (y .from-is, y .link-is, y .now-is, y .deeper) at w))
 
 -- numbers of a visit
-pub next-fits : {table words : List ℕ} {entries : ℕ} {s t : List ℕ} {depth : ℕ} {o : state.Around} {i to : ℕ} {e : Entry} {numbers : Attached} {seen : List ℕ} {opens : List OpenStart} {l : List ℕ} {r : Record} → Visit table words entries s t depth o i to e numbers seen opens l r → i + 1 < 2 ^ 64
+pub next-fits : {table words : List ℕ} {entries : ℕ} {s t : List ℕ} {depth : ℕ} {o : state.WalkContext} {i to : ℕ} {e : Entry} {numbers : Attached} {seen : List ℕ} {opens : List OpenStart} {l : List ℕ} {r : State} → Visit table words entries s t depth o i to e numbers seen opens l r → i + 1 < 2 ^ 64
 next-fits v = let low = visit-low v in omega arith
 
 pub same-depth : (d : ℕ) → 2 * d < 2 * d + 1

@@ -16,13 +16,13 @@ use Rattle.numbers.specs.Label.{numbered}
 use Rattle.definition.specs.Checks.{leafTold}
 use Rattle.attachment.specs.Attached.{startsOf, starts, attachedNumbers}
 use Rattle.attachment.specs.declared.Attached.{Attached}
-use Rattle.definition.specs.State.{State, Anchor, Told}
+use Rattle.definition.specs.State.{WalkState, Anchor, Told}
 use Rattle.definition.specs.State as state
 use Rattle.definition.specs.Walk.{openTold, inside, walk}
 use Rattle.definition.specs.Walk as def
 use Rattle.definition.specs.declared.OpenStart.{OpenStart}
 use Rattle.state.specs.Running.{stateOf, countsOf, anchorOf, startsFor, Sane, Opens}
-use Rattle.state.specs.declared.Record.{Record}
+use Rattle.state.specs.declared.State.{State}
 use Rattle.text.specs.Pick.{pick}
 
 -- the anchor of a run stands before it among its siblings, which nest at most d deep, or there is none
@@ -31,61 +31,61 @@ pub data Anchored (t : List ℕ) (d : ℕ) : ℕ → ℕ → Type 0 where
   behind : {n at : ℕ} → suc n < count t → Nested t d (pastNode t (suc n)) at → Anchored t d (suc n) at
 
 -- the walk of the nodes from one up to another, from a record with its lists
-abbrev pub walkAt : List ℕ → List ℕ → List ℕ → state.Around → ℕ → ℕ → List ℕ → List OpenStart → Record → def.Walked
+abbrev pub walkAt : List ℕ → List ℕ → List ℕ → state.WalkContext → ℕ → ℕ → List ℕ → List OpenStart → State → def.Walked
 walkAt table s t o from to seen opens r = walk table o (anchorOf s t (r .anchor) from) (forest s t from to) (stateOf s t seen opens r)
 
 -- the nodes from one up to another, with the lists long enough for what they can add
-pub record Ready (table words : List ℕ) (entries : ℕ) (s t : List ℕ) (depth from to : ℕ) (seen : List ℕ) (opens : List OpenStart) (r : Record) : Type 0 where
+pub record Ready (table words : List ℕ) (entries : ℕ) (s t : List ℕ) (depth from to : ℕ) (seen : List ℕ) (opens : List OpenStart) (r : State) : Type 0 where
   pub indexed : Indexed table words entries
   pub accepted : Accepted s t
   pub nested : Nested t depth from to
   pub start : 1 ≤ from
   pub within : to ≤ count t
-  pub starts : Opens s t opens (r .«open»)
+  pub starts : Opens s t opens (r .«open_len»)
   pub sane : Sane r
-  pub seen-room : r .seen + (to - from) ≤ length seen
-  pub open-room : r .«open» + (to - from) ≤ length opens
+  pub seen-room : r .«seen_len» + (to - from) ≤ length seen
+  pub open-room : r .«open_len» + (to - from) ≤ length opens
   pub verses-room : r .verses + (to - from) ≤ 4611686018427387904
   pub anchored : Anchored t depth (r .anchor) from
 
 -- the findings are written and counted, and record and lists are those that the definition gives
-pub record Went (s t : List ℕ) (fs : List Finding) (st : State) (n : ℕ) (l : List ℕ) (r : Record) (seen : List ℕ) (opens : List OpenStart) (l′ : List ℕ) (q : Record) : Type 0 where
+pub record Went (s t : List ℕ) (fs : List Finding) (st : WalkState) (n : ℕ) (l : List ℕ) (r : State) (seen : List ℕ) (opens : List OpenStart) (l′ : List ℕ) (q : State) : Type 0 where
   pub wrote : Wrote fs l (countsOf r) l′ (countsOf q)
   pub state : stateOf s t seen opens q ≡ st
-  pub starts : Opens s t opens (q .«open»)
+  pub starts : Opens s t opens (q .«open_len»)
   pub sane : Sane q
-  pub seen-few : q .seen ≤ r .seen + n
-  pub open-few : q .«open» ≤ r .«open» + n
+  pub seen-few : q .«seen_len» ≤ r .«seen_len» + n
+  pub open-few : q .«open_len» ≤ r .«open_len» + n
   pub verses-few : q .verses ≤ r .verses + n
 
 -- and so is the last anchor, to what follows the run
-pub record Walked (s t : List ℕ) (w : def.Walked) (depth from to : ℕ) (l : List ℕ) (r : Record) (seen : List ℕ) (opens : List OpenStart) (l′ : List ℕ) (q : Record) : Type 0 where
+pub record Walked (s t : List ℕ) (w : def.Walked) (depth from to : ℕ) (l : List ℕ) (r : State) (seen : List ℕ) (opens : List OpenStart) (l′ : List ℕ) (q : State) : Type 0 where
   pub went : Went s t (w .findings) (w .state) (to - from) l r seen opens l′ q
   pub anchor : anchorOf s t (q .anchor) to ≡ w .anchor
   pub anchored : Anchored t depth (q .anchor) to
 
 -- a marker with its table entry, and its children
-abbrev pub toldAt : List ℕ → List ℕ → List ℕ → state.Around → Entry → ℕ → ℕ → List ℕ → List OpenStart → Record → Told
+abbrev pub toldAt : List ℕ → List ℕ → List ℕ → state.WalkContext → Entry → ℕ → ℕ → List ℕ → List OpenStart → State → Told
 toldAt table s t o e i to seen opens r =
     openTold table o (anchorOf s t (r .anchor) i) (stateOf s t seen opens r) e (nodeAt s t i) (forest s t (i + 1) (linkAt t i)) (forest s t i to)
 
-abbrev pub below : List ℕ → List ℕ → List ℕ → state.Around → Entry → ℕ → Told → def.Walked
+abbrev pub below : List ℕ → List ℕ → List ℕ → state.WalkContext → Entry → ℕ → Told → def.Walked
 below table s t o e i w = walk table (inside o e) none (forest s t (i + 1) (linkAt t i)) (w .state)
 
 -- the visit of a marker: what is said of it, and the walk of its children; the anchor of its run stays
-abbrev pub visitFindings : List ℕ → List ℕ → List ℕ → state.Around → Entry → ℕ → ℕ → List ℕ → List OpenStart → Record → List Finding
+abbrev pub visitFindings : List ℕ → List ℕ → List ℕ → state.WalkContext → Entry → ℕ → ℕ → List ℕ → List OpenStart → State → List Finding
 visitFindings table s t o e i to seen opens r =
     toldAt table s t o e i to seen opens r .findings ++ below table s t o e i (toldAt table s t o e i to seen opens r) .findings
 
-abbrev pub visitState : List ℕ → List ℕ → List ℕ → state.Around → Entry → ℕ → ℕ → List ℕ → List OpenStart → Record → State
+abbrev pub visitState : List ℕ → List ℕ → List ℕ → state.WalkContext → Entry → ℕ → ℕ → List ℕ → List OpenStart → State → WalkState
 visitState table s t o e i to seen opens r = below table s t o e i (toldAt table s t o e i to seen opens r) .state
 
-pub record Visited (table s t : List ℕ) (o : state.Around) (e : Entry) (i to : ℕ) (seen : List ℕ) (opens : List OpenStart) (l : List ℕ) (r : Record) (seen′ : List ℕ) (opens′ : List OpenStart) (l′ : List ℕ) (q : Record) : Type 0 where
+pub record Visited (table s t : List ℕ) (o : state.WalkContext) (e : Entry) (i to : ℕ) (seen : List ℕ) (opens : List OpenStart) (l : List ℕ) (r : State) (seen′ : List ℕ) (opens′ : List OpenStart) (l′ : List ℕ) (q : State) : Type 0 where
   pub went : Went s t (visitFindings table s t o e i to seen opens r) (visitState table s t o e i to seen opens r) (pastNode t i - i) l r seen′ opens′ l′ q
   pub anchor : q .anchor ≡ r .anchor
 
 -- what a visit asks for besides
-pub record Visitable (s t : List ℕ) (i to : ℕ) (numbers : Attached) (r : Record) : Type 0 where
+pub record Visitable (s t : List ℕ) (i to : ℕ) (numbers : Attached) (r : State) : Type 0 where
   pub more : i < to
   pub opened : isOpen (kindAt t i) ≡ true
   pub attached : startsOf numbers ≡ startsFor (anchorOf s t (r .anchor) i) (forest s t i to)
@@ -94,13 +94,13 @@ pub record Visitable (s t : List ℕ) (i to : ℕ) (numbers : Attached) (r : Rec
 abbrev pub anchorAfter : List ℕ → ℕ → ℕ → ℕ
 anchorAfter t i n = pick (numbered (kindAt t i)) i n
 
-pub record LeafPassed (table s t : List ℕ) (o : state.Around) (i : ℕ) (seen l : List ℕ) (r : Record) (seen′ l′ : List ℕ) (q : Record) : Type 0 where
+pub record LeafPassed (table s t : List ℕ) (o : state.WalkContext) (i : ℕ) (seen l : List ℕ) (r : State) (seen′ l′ : List ℕ) (q : State) : Type 0 where
   pub wrote : Wrote (leafTold table o (stateOf s t seen [] r) (nodeAt s t i) .findings) l (countsOf r) l′ (countsOf q)
   pub state : (opens : List OpenStart) → stateOf s t seen′ opens q ≡ leafTold table o (stateOf s t seen opens r) (nodeAt s t i) .state
   pub sane : Sane q
-  pub seen-few : q .seen ≤ r .seen + 1
+  pub seen-few : q .«seen_len» ≤ r .«seen_len» + 1
   pub verses-few : q .verses ≤ r .verses + 1
-  pub opens : q .«open» ≡ r .«open»
+  pub opens : q .«open_len» ≡ r .«open_len»
   pub anchor : q .anchor ≡ anchorAfter t i (r .anchor)
 
 -- the numbers attached after a leaf
@@ -113,33 +113,33 @@ onlyOpen true e = e
 onlyOpen false e = none
 
 -- a Chapter or Verse with what follows it
-pub record Leafy (table words : List ℕ) (entries : ℕ) (s t : List ℕ) (o : state.Around) (i next to : ℕ) (seen : List ℕ) (r : Record) : Type 0 where
+pub record Leafy (table words : List ℕ) (entries : ℕ) (s t : List ℕ) (o : state.WalkContext) (i next to : ℕ) (seen : List ℕ) (r : State) : Type 0 where
   pub indexed : Indexed table words entries
   pub spanned : Spanned s t i
   pub sane : Sane r
-  pub seen-room : r .seen < length seen
+  pub seen-room : r .«seen_len» < length seen
   pub verses-room : r .verses < 4611686018427387904
   pub room : Room (countsOf r) (leafTold table o (stateOf s t seen [] r) (nodeAt s t i) .findings)
   pub rest : Run s t next to
 
 -- a node, which may be one
-pub record Passable (table words : List ℕ) (entries : ℕ) (s t : List ℕ) (o : state.Around) (i next to : ℕ) (seen : List ℕ) (r : Record) : Type 0 where
+pub record Passable (table words : List ℕ) (entries : ℕ) (s t : List ℕ) (o : state.WalkContext) (i next to : ℕ) (seen : List ℕ) (r : State) : Type 0 where
   pub inside : i < count t
   pub leafy : numbered (kindAt t i) ≡ true → Leafy table words entries s t o i next to seen r
 
 -- the record after a Chapter or Verse, and the numbers attached to what follows
-pub record Leaved (table s t : List ℕ) (o : state.Around) (i next to : ℕ) (numbers : Attached) (seen l : List ℕ) (r : Record) (seen′ l′ : List ℕ) (q : Record) (after : Attached) : Type 0 where
+pub record Leaved (table s t : List ℕ) (o : state.WalkContext) (i next to : ℕ) (numbers : Attached) (seen l : List ℕ) (r : State) (seen′ l′ : List ℕ) (q : State) (after : Attached) : Type 0 where
   pub leaf : LeafPassed table s t o i seen l r seen′ l′ q
   pub attached : startsOf after ≡ numbersAfter s t i next to (startsOf numbers)
 
 -- any other node changes nothing
-pub record Unchanged (numbers : Attached) (seen l : List ℕ) (r : Record) (seen′ l′ : List ℕ) (q : Record) (after : Attached) : Type 0 where
+pub record Unchanged (numbers : Attached) (seen l : List ℕ) (r : State) (seen′ l′ : List ℕ) (q : State) (after : Attached) : Type 0 where
   pub same-seen : seen′ ≡ seen
   pub same-list : l′ ≡ l
   pub same-record : q ≡ r
   pub same-numbers : after ≡ numbers
 
-pub record PassedBy (table s t : List ℕ) (o : state.Around) (i next to : ℕ) (numbers : Attached) (seen l : List ℕ) (r : Record) (seen′ l′ : List ℕ) (q : Record) (after : Attached) : Type 0 where
+pub record PassedBy (table s t : List ℕ) (o : state.WalkContext) (i next to : ℕ) (numbers : Attached) (seen l : List ℕ) (r : State) (seen′ l′ : List ℕ) (q : State) (after : Attached) : Type 0 where
   pub number : numbered (kindAt t i) ≡ true → Leaved table s t o i next to numbers seen l r seen′ l′ q after
   pub other : numbered (kindAt t i) ≡ false → Unchanged numbers seen l r seen′ l′ q after
 

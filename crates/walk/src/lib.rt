@@ -1,8 +1,8 @@
 // The walk over a document: a run of siblings, and the visit of one node, each one level deeper.
 use attachment::Attached;
 use definition::OpenStart;
-use state::Around;
-use state::Record;
+use state::Context;
+use state::State;
 use table::Info;
 use table::MarkerInfo;
 ghost use mathlib.Core.Path.{_≡_};
@@ -19,7 +19,7 @@ ghost use Rattle.cursor.specs.Inner.{Run, Spanned};
 ghost use Rattle.findings.specs.Written.{Room};
 ghost use Rattle.attachment.specs.Attached.{startsOf};
 ghost use Rattle.definition.specs.Checks.{leafTold};
-ghost use Rattle.state.specs.Running.{stateOf, aroundOf, anchorOf, startsFor, countsOf, Sane};
+ghost use Rattle.state.specs.Running.{stateOf, contextOf, anchorOf, startsFor, countsOf, Sane};
 ghost use Rattle.walk.specs.Walking.{Ready, Walked, Visited, Visitable, Anchored, walkAt, visitFindings, LeafPassed, numbersAfter, onlyOpen, Passable, PassedBy, canSkipChildren};
 
 // The numbers attached to an anchor, among the siblings up to `to`; none without an anchor.
@@ -80,13 +80,13 @@ fn leaf(
     source: &[u8],
     tape: &[u8],
     i: usize,
-    around: Around,
-    rec: Record,
+    context: Context,
+    rec: State,
     seen: &mut [u32],
     list: &mut [u64],
-) -> Record
-    requires { ⌜ (Indexed (now table) (now words) count) × (Spanned (now source) (now tape) i) × Sane rec × (rec .seen < length (now seen)) × (rec .verses < 4611686018427387904) × Room (countsOf rec) (leafTold (now table) (aroundOf around) (stateOf (now source) (now tape) (now seen) [] rec) (nodeAt (now source) (now tape) i) .findings) ⌝ }
-    ensures { λ r. ⌜ LeafPassed (now (table .entry)) (now (source .entry)) (now (tape .entry)) (aroundOf around) i (now (seen .entry)) (now (list .entry)) rec (now (seen .exit)) (now (list .exit)) r ⌝ }
+) -> State
+    requires { ⌜ (Indexed (now table) (now words) count) × (Spanned (now source) (now tape) i) × Sane rec × (rec .«seen_len» < length (now seen)) × (rec .verses < 4611686018427387904) × Room (countsOf rec) (leafTold (now table) (contextOf context) (stateOf (now source) (now tape) (now seen) [] rec) (nodeAt (now source) (now tape) i) .findings) ⌝ }
+    ensures { λ r. ⌜ LeafPassed (now (table .entry)) (now (source .entry)) (now (tape .entry)) (contextOf context) i (now (seen .entry)) (now (list .entry)) rec (now (seen .exit)) (now (list .exit)) r ⌝ }
 {
     let r = chapter_verse::visit_leaf(
         table,
@@ -95,7 +95,7 @@ fn leaf(
         source,
         tape,
         i,
-        around,
+        context,
         rec,
         seen,
         list,
@@ -140,14 +140,14 @@ fn visit_leaf(
     i: usize,
     next: usize,
     to: usize,
-    around: Around,
+    context: Context,
     numbers: Attached,
-    rec: &mut Record,
+    rec: &mut State,
     seen: &mut [u32],
     list: &mut [u64],
 ) -> Attached
-    requires { ⌜ Passable (now table) (now words) count (now source) (now tape) (aroundOf around) i next to (now seen) (now rec) ⌝ }
-    ensures { λ r. ⌜ PassedBy (now (table .entry)) (now (source .entry)) (now (tape .entry)) (aroundOf around) i next to numbers (now (seen .entry)) (now (list .entry)) (now (rec .entry)) (now (seen .exit)) (now (list .exit)) (now (rec .exit)) r ⌝ }
+    requires { ⌜ Passable (now table) (now words) count (now source) (now tape) (contextOf context) i next to (now seen) (now rec) ⌝ }
+    ensures { λ r. ⌜ PassedBy (now (table .entry)) (now (source .entry)) (now (tape .entry)) (contextOf context) i next to numbers (now (seen .entry)) (now (list .entry)) (now (rec .entry)) (now (seen .exit)) (now (list .exit)) (now (rec .exit)) r ⌝ }
 {
     if is_number(tape, i) {
         let before = *rec;
@@ -158,7 +158,7 @@ fn visit_leaf(
             source,
             tape,
             i,
-            around,
+            context,
             before,
             seen,
             list,
@@ -201,17 +201,17 @@ fn visit(
     to: usize,
     depth: usize,
     m: MarkerInfo,
-    around: Around,
+    context: Context,
     numbers: Attached,
-    rec: &mut Record,
+    rec: &mut State,
     seen: &mut [u32],
     opens: &mut [OpenStart],
     list: &mut [u64],
 )
-    requires { ⌜ (Ready (now table) (now words) count (now source) (now tape) depth i to (now seen) (now opens) (now rec)) × (Visitable (now source) (now tape) i to numbers (now rec)) × (m .«name_start» + m .«name_len» ≤ length (now table)) × Room (countsOf (now rec)) (visitFindings (now table) (now source) (now tape) (aroundOf around) (entryOfInfo m) i to (now seen) (now opens) (now rec)) ⌝ }
-    ensures { λ _. ⌜ Visited (now (table .entry)) (now (source .entry)) (now (tape .entry)) (aroundOf around) (entryOfInfo m) i to (now (seen .entry)) (now (opens .entry)) (now (list .entry)) (now (rec .entry)) (now (seen .exit)) (now (opens .exit)) (now (list .exit)) (now (rec .exit)) ⌝ }
+    requires { ⌜ (Ready (now table) (now words) count (now source) (now tape) depth i to (now seen) (now opens) (now rec)) × (Visitable (now source) (now tape) i to numbers (now rec)) × (m .«name_start» + m .«name_len» ≤ length (now table)) × Room (countsOf (now rec)) (visitFindings (now table) (now source) (now tape) (contextOf context) (entryOfInfo m) i to (now seen) (now opens) (now rec)) ⌝ }
+    ensures { λ _. ⌜ Visited (now (table .entry)) (now (source .entry)) (now (tape .entry)) (contextOf context) (entryOfInfo m) i to (now (seen .entry)) (now (opens .entry)) (now (list .entry)) (now (rec .entry)) (now (seen .exit)) (now (opens .exit)) (now (list .exit)) (now (rec .exit)) ⌝ }
 {
-    if marker_checks::can_skip_marker(table, m, source, tape, i, around, rec.has_chapter) {
+    if marker_checks::can_skip_marker(table, m, source, tape, i, context, rec.has_chapter) {
         return;
     }
     let before = *rec;
@@ -222,7 +222,7 @@ fn visit(
         tape,
         i,
         to,
-        around,
+        context,
         numbers,
         before,
         list,
@@ -236,7 +236,7 @@ fn visit(
     }
     *rec = state::with_anchor(paired, 0);
     let deeper = depth - 1;
-    let inner = state::inside(around, m);
+    let inner = state::inside(context, m);
     walk(
         table,
         words,
@@ -265,14 +265,14 @@ pub fn walk(
     from: usize,
     to: usize,
     depth: usize,
-    around: Around,
-    rec: &mut Record,
+    context: Context,
+    rec: &mut State,
     seen: &mut [u32],
     opens: &mut [OpenStart],
     list: &mut [u64],
 )
-    requires { ⌜ (Ready (now table) (now words) count (now source) (now tape) depth from to (now seen) (now opens) (now rec)) × Room (countsOf (now rec)) (walkAt (now table) (now source) (now tape) (aroundOf around) from to (now seen) (now opens) (now rec) .findings) ⌝ }
-    ensures { λ _. ⌜ Walked (now (source .entry)) (now (tape .entry)) (walkAt (now (table .entry)) (now (source .entry)) (now (tape .entry)) (aroundOf around) from to (now (seen .entry)) (now (opens .entry)) (now (rec .entry))) depth from to (now (list .entry)) (now (rec .entry)) (now (seen .exit)) (now (opens .exit)) (now (list .exit)) (now (rec .exit)) ⌝ }
+    requires { ⌜ (Ready (now table) (now words) count (now source) (now tape) depth from to (now seen) (now opens) (now rec)) × Room (countsOf (now rec)) (walkAt (now table) (now source) (now tape) (contextOf context) from to (now seen) (now opens) (now rec) .findings) ⌝ }
+    ensures { λ _. ⌜ Walked (now (source .entry)) (now (tape .entry)) (walkAt (now (table .entry)) (now (source .entry)) (now (tape .entry)) (contextOf context) from to (now (seen .entry)) (now (opens .entry)) (now (rec .entry))) depth from to (now (list .entry)) (now (rec .entry)) (now (seen .exit)) (now (opens .exit)) (now (list .exit)) (now (rec .exit)) ⌝ }
 {
     let mut numbers = anchored(source, tape, depth, rec.anchor, from, to);
     let mut i = from;
@@ -288,7 +288,7 @@ pub fn walk(
             here,
             i,
             to,
-            around,
+            context,
             numbers,
             rec,
             seen,
@@ -307,7 +307,7 @@ pub fn walk(
             to,
             depth,
             m,
-            around,
+            context,
             numbers,
             rec,
             seen,

@@ -15,14 +15,14 @@ mul-seen c = search needs
 slice-write-seen : tie.Need-slice-write-seen
 slice-write-seen c = search needs
 
-cast-t9 : tie.Need-cast-t9
-cast-t9 c = search needs
+cast-after : tie.Need-cast-after
+cast-after c = search needs
 
-add-t10 : tie.Need-add-t10
-add-t10 c = search needs
+add-after : tie.Need-add-after
+add-after c = search needs
 
-add-t7 : tie.Need-add-t7
-add-t7 c = search needs
+add-after-2 : tie.Need-add-after-2
+add-after-2 c = search needs
 
 same-length : tie.Need-same-length
 same-length c = search needs
@@ -40,8 +40,8 @@ after-chapter-spec =
     link-at-requires
     mul-seen
     slice-write-seen
-    cast-t9
-    add-t10
-    add-t7
+    cast-after
+    add-after
+    add-after-2
     same-length
     returns)

@@ -2,7 +2,7 @@
 -- Assumes nothing.
 use denote.Ref.{now}
 use Rattle.table.specs.Entries.{infoOf}
-use Rattle.state.specs.Running.{aroundOf}
+use Rattle.state.specs.Running.{contextOf}
 use Rattle.chapter_verse.proofs.Passing.{verse-passed}
 use borrow.Author.Needs.{needs}
 use Rattle.chapter_verse.proofs.after_verse.Statement.{statement}
@@ -16,14 +16,14 @@ verse-after-requires c κs =
 or-not-requires : tie.Need-or-not-requires
 or-not-requires c κs = search needs
 
-add-t12 : tie.Need-add-t12
-add-t12 c = search needs
+add-after : tie.Need-add-after
+add-after c = search needs
 
 returns : tie.Need-returns
 returns c =
     let b = c .before .before .before .before .before .before .before in
     let a = b .args in
-    verse-passed (infoOf (a .info)) (now (a .source)) (now (a .tape)) (aroundOf (a .around)) (a .i) (a .rec) (now (a .label)) (c .before .before .verse-after .result) (c .before .or-not .result) (b .pre .0) (c .before .before .verse-after .ensures) (c .before .or-not .ensures)
+    verse-passed (infoOf (a .info)) (now (a .source)) (now (a .tape)) (contextOf (a .context)) (a .i) (a .rec) (now (a .label)) (c .before .before .verse-after .result) (c .before .or-not .result) (b .pre .0) (c .before .before .verse-after .ensures) (c .before .or-not .ensures)
 
 pub after-verse-spec : {M : Type 1} → statement M
 after-verse-spec =
@@ -31,5 +31,5 @@ after-verse-spec =
     (tie.spec
     verse-after-requires
     or-not-requires
-    add-t12
+    add-after
     returns)

@@ -10,7 +10,7 @@ use mathlib.Core.Option.{Option}
 use Rattle.tape.specs.Nodes.{Node, nodeAt}
 use Rattle.table.specs.Entries.{Entry, infoOf}
 use Rattle.findings.specs.declared.Counts.{Counts}
-use Rattle.definition.specs.State.{State}
+use Rattle.definition.specs.State.{WalkState}
 use Rattle.definition.specs.Checks.{Check, given, about, isEmpty, numberForm, chapterChecks}
 use Rattle.state.specs.Running.{stateOf, countsOf}
 use Rattle.chapter_verse.proofs.Givens.{Due, due-start, due-room, due-wrote, due-rest, due-all}
@@ -37,7 +37,7 @@ entry c = infoOf (c .args .info)
 abbrev node : tie.Start → Node
 node c = let a = c .args in nodeAt (now (a .source)) (now (a .tape)) (a .i)
 
-abbrev state : tie.Start → State
+abbrev state : tie.Start → WalkState
 state c = let a = c .args in stateOf (now (a .source)) (now (a .tape)) (now (a .seen)) [] (a .rec)
 
 -- the checks that are left
@@ -77,7 +77,7 @@ due-form c =
     let k = counted3 c in
     let s = root k in
     let n = k .before .before .link-at .ensures in
-    due-wrote (leaps (state s) (node s)) (numberForm 0 (entry s) (node s)) (not (eqb (number k) (state s .chapter))) (about (node s) 1 9 0 (state s .chapter) (number k)) (is-leap (state s) (node s) (number k) n) (says-leap (state s) (node s) (number k) n) (due-leap (c .before .before .before .before)) (c .warn-if2 .ensures)
+    due-wrote (leaps (state s) (node s)) (numberForm 0 (entry s) (node s)) (not (eqb (number k) (state s .expectedChapter))) (about (node s) 1 9 0 (state s .expectedChapter) (number k)) (is-leap (state s) (node s) (number k) n) (says-leap (state s) (node s) (number k) n) (due-leap (c .before .before .before .before)) (c .warn-if2 .ensures)
 
 link-at-requires : tie.Need-link-at-requires
 link-at-requires c κs = search needs
@@ -109,7 +109,7 @@ warn-if-requires-2 c κs =
     let k = counted2 t in
     let s = root k in
     let n = k .before .before .link-at .ensures in
-    (s .pre .0, due-room (leaps (state s) (node s)) (numberForm 0 (entry s) (node s)) (not (eqb (number k) (state s .chapter))) (about (node s) 1 9 0 (state s .chapter) (number k)) (is-leap (state s) (node s) (number k) n) (says-leap (state s) (node s) (number k) n) (due-leap t))
+    (s .pre .0, due-room (leaps (state s) (node s)) (numberForm 0 (entry s) (node s)) (not (eqb (number k) (state s .expectedChapter))) (about (node s) 1 9 0 (state s .expectedChapter) (number k)) (is-leap (state s) (node s) (number k) n) (says-leap (state s) (node s) (number k) n) (due-leap t))
 
 check-number-form-requires : tie.Need-check-number-form-requires
 check-number-form-requires c κs =

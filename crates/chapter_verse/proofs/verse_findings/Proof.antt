@@ -10,10 +10,10 @@ use Rattle.tape.specs.Nodes.{Node, nodeAt}
 use Rattle.table.specs.Entries.{Entry, infoOf}
 use Rattle.findings.specs.Finding.{Finding}
 use Rattle.findings.specs.declared.Counts.{Counts}
-use Rattle.definition.specs.State.{State, Around}
+use Rattle.definition.specs.State.{WalkState, WalkContext}
 use Rattle.numbers.specs.Verse.{Position}
 use Rattle.definition.specs.Checks.{Check, given, about, isEmpty, breaks, numberForm, verseChecks}
-use Rattle.state.specs.Running.{stateOf, countsOf, aroundOf}
+use Rattle.state.specs.Running.{stateOf, countsOf, contextOf}
 use Rattle.chapter_verse.proofs.Givens.{Due, due-start, due-room, due-wrote, due-rest, due-all}
 use Rattle.chapter_verse.proofs.Positions.{low-read}
 use Rattle.chapter_verse.proofs.Told.{stray, crossing, bareVerse, amiss, is-bare, is-amiss, says-amiss}
@@ -39,10 +39,10 @@ entry c = infoOf (c .args .info)
 abbrev node : tie.Start → Node
 node c = let a = c .args in nodeAt (now (a .source)) (now (a .tape)) (a .i)
 
-abbrev around : tie.Start → Around
-around c = aroundOf (c .args .around)
+abbrev context : tie.Start → WalkContext
+context c = contextOf (c .args .context)
 
-abbrev state : tie.Start → State
+abbrev state : tie.Start → WalkState
 state c = let a = c .args in stateOf (now (a .source)) (now (a .tape)) [] [] (a .rec)
 
 -- the checks after the third, the second and the first
@@ -53,11 +53,11 @@ abbrev two : tie.Start → List Check
 two c = bareVerse (entry c) (node c) ∷ one c
 
 abbrev three : tie.Start → List Check
-three c = crossing (around c) (node c) ∷ two c
+three c = crossing (context c) (node c) ∷ two c
 
 -- the checks that are left
 abbrev Rest : tie.Start → List Check → List ℕ → Counts → Type 0
-Rest c = let a = c .args in Due (given (verseChecks (entry c) (around c) (state c) (node c))) (now (a .list)) (countsOf (a .rec))
+Rest c = let a = c .args in Due (given (verseChecks (entry c) (context c) (state c) (node c))) (now (a .list)) (countsOf (a .rec))
 
 abbrev empty : tie.After-counts → Bool
 empty c = isEmpty (now (root c .args .label))
@@ -71,29 +71,29 @@ broken : (c : tie.After-counts) → c .before .before .before .breaks .result �
 broken c =
     let s = root c in
     let b = c .before .before .before .breaks in
-    is-amiss (entry s) (node s) (now (s .args .label)) (s .pre .1 .is-label) (state s) (b .result) (b .ensures ∙ ap (λ (p : Option Position). breaks p (state s .verse)) (s .pre .2))
+    is-amiss (entry s) (node s) (now (s .args .label)) (s .pre .1 .is-label) (state s) (b .result) (b .ensures ∙ ap (λ (p : Option Position). breaks p (state s .expectedVerse)) (s .pre .2))
 
 abbrev wrong : tie.After-counts → Finding
-wrong c = about (node (root c)) 1 11 0 (state (root c) .verse .number) (c .before .before .letter-byte .result)
+wrong c = about (node (root c)) 1 11 0 (state (root c) .expectedVerse .number) (c .before .before .letter-byte .result)
 
 says : (c : tie.After-counts) → wrong c ≡ amiss (entry (root c)) (state (root c)) (node (root c)) .finding
 says c = says-amiss (entry (root c)) (state (root c)) (node (root c)) (c .before .before .letter-byte .result) (c .before .before .letter-byte .ensures)
 
-due-stray : (c : tie.After-counts) → Rest (root c) (stray (around (root c)) (state (root c)) (node (root c)) ∷ three (root c)) (now (root c .args .list)) (c .counts .result)
+due-stray : (c : tie.After-counts) → Rest (root c) (stray (context (root c)) (state (root c)) (node (root c)) ∷ three (root c)) (now (root c .args .list)) (c .counts .result)
 due-stray c =
     let s = root c in
-    due-start (verseChecks (entry s) (around s) (state s) (node s)) (now (s .args .list)) (countsOf (s .args .rec)) (c .counts .result) (c .counts .ensures) (s .pre .4)
+    due-start (verseChecks (entry s) (context s) (state s) (node s)) (now (s .args .list)) (countsOf (s .args .rec)) (c .counts .result) (c .counts .ensures) (s .pre .4)
 
 due-crossing : (c : tie.After-warn-if) → Rest (root (c .before .before)) (three (root (c .before .before))) (c .warn-if .last .1 .1 .1 .1 .1 .1 .0) (c .warn-if .result)
 due-crossing c =
     let k = c .before .before in
     let s = root k in
-    due-wrote (stray (around s) (state s) (node s)) (three s) (k .before .neither .result) (stray (around s) (state s) (node s) .finding) (k .before .neither .ensures) refl (due-stray k) (c .warn-if .ensures)
+    due-wrote (stray (context s) (state s) (node s)) (three s) (k .before .neither .result) (stray (context s) (state s) (node s) .finding) (k .before .neither .ensures) refl (due-stray k) (c .warn-if .ensures)
 
 due-bare : (c : tie.After-error-if) → Rest (root (counted2 c)) (two (root (counted2 c))) (c .error-if .last .1 .1 .1 .1 .1 .0) (c .error-if .result)
 due-bare c =
     let s = root (counted2 c) in
-    due-wrote (crossing (around s) (node s)) (two s) (around s .char) (crossing (around s) (node s) .finding) refl refl (due-crossing (c .before .before .before .before)) (c .error-if .ensures)
+    due-wrote (crossing (context s) (node s)) (two s) (context s .inChar) (crossing (context s) (node s) .finding) refl refl (due-crossing (c .before .before .before .before)) (c .error-if .ensures)
 
 due-amiss : (c : tie.After-error-if2) → Rest (root (counted3 c)) (one (root (counted3 c))) (c .error-if2 .last .1 .1 .1 .1 .1 .0) (c .error-if2 .result)
 due-amiss c =
@@ -125,13 +125,13 @@ warn-if-requires : tie.Need-warn-if-requires
 warn-if-requires c κs =
     let k = c .before in
     let s = root k in
-    (s .pre .0, due-room (stray (around s) (state s) (node s)) (three s) (k .before .neither .result) (stray (around s) (state s) (node s) .finding) (k .before .neither .ensures) refl (due-stray k))
+    (s .pre .0, due-room (stray (context s) (state s) (node s)) (three s) (k .before .neither .result) (stray (context s) (state s) (node s) .finding) (k .before .neither .ensures) refl (due-stray k))
 
 error-if-requires : tie.Need-error-if-requires
 error-if-requires c κs =
     let t = c .before .before .before in
     let s = root (t .before .before) in
-    (s .pre .0, due-room (crossing (around s) (node s)) (two s) (around s .char) (crossing (around s) (node s) .finding) refl refl (due-crossing t))
+    (s .pre .0, due-room (crossing (context s) (node s)) (two s) (context s .inChar) (crossing (context s) (node s) .finding) refl refl (due-crossing t))
 
 error-if-requires-2 : tie.Need-error-if-requires-2
 error-if-requires-2 c κs =

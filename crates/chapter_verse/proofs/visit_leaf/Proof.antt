@@ -12,8 +12,8 @@ use borrow.Author.Tests.{not-true, not-false}
 use Rattle.tape.specs.Nodes.{Node, nodeAt}
 use Rattle.table.specs.Entries.{Entry, infoOf}
 use Rattle.numbers.specs.Label.{numbered}
-use Rattle.definition.specs.State.{State}
-use Rattle.state.specs.Running.{stateOf, aroundOf, countsOf}
+use Rattle.definition.specs.State.{WalkState}
+use Rattle.state.specs.Running.{stateOf, contextOf, countsOf}
 use Rattle.chapter_verse.specs.Inner.{LabelRead}
 use Rattle.chapter_verse.proofs.Told.{label-read}
 use Rattle.chapter_verse.proofs.Passing.{room-chapter, visited-chapter, room-verse, visited-verse, visited-other}
@@ -33,7 +33,7 @@ top c = root (kinded c)
 abbrev entry : tie.After-label → Option Entry
 entry c = infoOf (c .before .before .before .marker-info .result)
 
-abbrev state : tie.Start → State
+abbrev state : tie.Start → WalkState
 state c = let a = c .args in stateOf (now (a .source)) (now (a .tape)) (now (a .seen)) [] (a .rec)
 
 abbrev node : tie.Start → Node
@@ -65,7 +65,7 @@ returns c =
     let s = root (n .before) in
     let a = s .args in
     let k = n .before .kind-at in
-    visited-other (now (a .table)) (now (a .source)) (now (a .tape)) (aroundOf (a .around)) (a .i) (k .result) (k .ensures) (sym (n .is-numbered .ensures) ∙ not-true _ (c .if1 .taken)) (now (a .seen)) (now (a .list)) (a .rec) (s .pre .2)
+    visited-other (now (a .table)) (now (a .source)) (now (a .tape)) (contextOf (a .context)) (a .i) (k .result) (k .ensures) (sym (n .is-numbered .ensures) ∙ not-true _ (c .if1 .taken)) (now (a .seen)) (now (a .list)) (a .rec) (s .pre .2)
 
 marker-info-requires : tie.Need-marker-info-requires
 marker-info-requires c κs = search needs
@@ -91,7 +91,7 @@ chapter-findings-requires c κs =
     let s = top l in
     let a = s .args in
     let k = kinded l .kind-at in
-    (s .pre .1 .inside, labelled l, omega (arith, s .pre .3), room-chapter (now (a .table)) (now (a .source)) (now (a .tape)) (aroundOf (a .around)) (a .i) (k .result) (k .ensures) (entry l) (l .before .before .before .marker-info .ensures) (c .before .before .if2 .taken) (state s) (countsOf (a .rec)) (s .pre .5))
+    (s .pre .1 .inside, labelled l, omega (arith, s .pre .3), room-chapter (now (a .table)) (now (a .source)) (now (a .tape)) (contextOf (a .context)) (a .i) (k .result) (k .ensures) (entry l) (l .before .before .before .marker-info .ensures) (c .before .before .if2 .taken) (state s) (countsOf (a .rec)) (s .pre .5))
 
 after-chapter-requires : tie.Need-after-chapter-requires
 after-chapter-requires c κs =
@@ -114,7 +114,7 @@ returns-2 c =
     let l = f .before .before .before .before in
     let a = top l .args in
     let k = kinded l .kind-at in
-    rw (c .with-counts .ensures) (visited-chapter (now (a .table)) (now (a .source)) (now (a .tape)) (aroundOf (a .around)) (a .i) (k .result) (k .ensures) (entry l) (l .before .before .before .marker-info .ensures) (f .before .before .before .if2 .taken) (f .chapter-findings .ensures) (q .after-chapter .ensures))
+    rw (c .with-counts .ensures) (visited-chapter (now (a .table)) (now (a .source)) (now (a .tape)) (contextOf (a .context)) (a .i) (k .result) (k .ensures) (entry l) (l .before .before .before .marker-info .ensures) (f .before .before .before .if2 .taken) (f .chapter-findings .ensures) (q .after-chapter .ensures))
 
 parse-verse-part-requires : tie.Need-parse-verse-part-requires
 parse-verse-part-requires c κs = search needs
@@ -126,7 +126,7 @@ verse-findings-requires c κs =
     let s = top l in
     let a = s .args in
     let k = kinded l .kind-at in
-    (s .pre .1 .inside, labelled l, c .before .parse-verse-part .ensures, s .pre .2, room-verse (now (a .table)) (now (a .source)) (now (a .tape)) (aroundOf (a .around)) (a .i) (k .result) (k .ensures) (entry l) (l .before .before .before .marker-info .ensures) (a-number l) (n .if2 .left) (state s) (countsOf (a .rec)) (s .pre .5))
+    (s .pre .1 .inside, labelled l, c .before .parse-verse-part .ensures, s .pre .2, room-verse (now (a .table)) (now (a .source)) (now (a .tape)) (contextOf (a .context)) (a .i) (k .result) (k .ensures) (entry l) (l .before .before .before .marker-info .ensures) (a-number l) (n .if2 .left) (state s) (countsOf (a .rec)) (s .pre .5))
 
 after-verse-requires : tie.Need-after-verse-requires
 after-verse-requires c κs =
@@ -149,7 +149,7 @@ returns-3 c =
     let l = n .before in
     let a = top l .args in
     let k = kinded l .kind-at in
-    rw (c .with-counts2 .ensures) (visited-verse (now (a .table)) (now (a .source)) (now (a .tape)) (aroundOf (a .around)) (a .i) (k .result) (k .ensures) (entry l) (l .before .before .before .marker-info .ensures) (a-number l) (n .if2 .left) (f .verse-findings .ensures) (q .after-verse .ensures))
+    rw (c .with-counts2 .ensures) (visited-verse (now (a .table)) (now (a .source)) (now (a .tape)) (contextOf (a .context)) (a .i) (k .result) (k .ensures) (entry l) (l .before .before .before .marker-info .ensures) (a-number l) (n .if2 .left) (f .verse-findings .ensures) (q .after-verse .ensures))
 
 pub visit-leaf-spec : {M : Type 1} → statement M
 visit-leaf-spec =

@@ -14,8 +14,8 @@ use Rattle.findings.proofs.Counts as Counts-T
 use Rattle.findings.proofs.Counts.Laws as Counts-L
 use Rattle.definition.proofs.OpenStart as OpenStart-T
 use Rattle.definition.proofs.OpenStart.Laws as OpenStart-L
-use Rattle.state.proofs.Record as Record-T
-use Rattle.state.proofs.Record.Laws as Record-L
+use Rattle.state.proofs.State as State-T
+use Rattle.state.proofs.State.Laws as State-L
 use Rattle.closing.proofs.CallUnclosed as unclosed-C
 use Rattle.closing.proofs.CallCounts as counts-C
 use Rattle.closing.proofs.CallTellOpen as tell-open-C
@@ -30,23 +30,23 @@ module _ {M : Type 1} (𝓤 : URA M) (H : Heap 𝓤) (A : Atoms 𝓤) (W : Given
   unfolding afterTurn
   walk source-at source₀ source-room source-n tape-at tape₀ tape-room tape-n opens-at opens₀ opens-room opens-n rec₀ rec₀-is list-at list₀ list-room list-n req l0 l1 l2 l3 l4 l5 l6 l7 l8 l9 l10 l11 l12 l13 l14 l15 =
       let ρ : Rule = rule-of unclosed-C.terms ((source-at, source₀), ((tape-at, tape₀), ((opens-at, opens₀), (rec₀, ((list-at, list₀), tt))))) in
-      let E : Env 𝓤 H = env-of (code.function .locals) (l0 ∷ l1 ∷ l2 ∷ l3 ∷ l4 ∷ l5 ∷ l6 ∷ l7 ∷ l8 ∷ l9 ∷ l10 ∷ l11 ∷ l12 ∷ l13 ∷ l14 ∷ l15 ∷ []) in sets ! (of-opd ! (cell-field ! 5 8 refl refl refl)) 7 refl (tt, record { fits = (LL.lawful Record-T.the-type Record-L.the-laws 𝓤 H A W .typed rec₀ _ rec₀-is .0) .1 .1 .1 .1 .1 .1 .1 .1 .1 .0 .fits }) $
+      let E : Env 𝓤 H = env-of (code.function .locals) (l0 ∷ l1 ∷ l2 ∷ l3 ∷ l4 ∷ l5 ∷ l6 ∷ l7 ∷ l8 ∷ l9 ∷ l10 ∷ l11 ∷ l12 ∷ l13 ∷ l14 ∷ l15 ∷ []) in sets ! (of-opd ! (cell-field ! 5 8 refl refl refl)) 7 refl (tt, record { fits = (LL.lawful State-T.the-type State-L.the-laws 𝓤 H A W .typed rec₀ _ rec₀-is .0) .1 .1 .1 .1 .1 .1 .1 .1 .1 .0 .fits }) $
       calls-into W 𝓣 counts-C.terms (rec₀, tt) ! (rec₀-is, tt) tt known-counts (and-then ! (cell ! 6 refl) (no-more !)) 8 (λ _. refl) refl (λ z-counts s-counts.
       sets ! (of-opd ! (lit ! tt)) 9 refl (tt, record { fits = (lit< tt) }) $
-      let φ-kept : (Counts × (ℕ × ((List ℕ) × Unit {0}))) → Type 0 = λ x-kept. (Is Counts-T.the-row (x-kept .0) (LL.val Counts-T.the-type Counts-L.the-laws (x-kept .0) ∷ [])) × (((x-kept .1 .0) < 2 ^ 64) × ((length (x-kept .1 .1 .0) ≡ length list₀) × ((Told source₀ tape₀ opens₀ (rec₀ .«open») list₀ (countsOf rec₀) (x-kept .1 .1 .0) (x-kept .0) (x-kept .1 .0))))) in
-      let μ : (Counts × (ℕ × ((List ℕ) × Unit {0}))) → ℕ = λ y. rec₀ .«open» - (y .1 .0) in let less : (Counts × (ℕ × ((List ℕ) × Unit {0}))) → (Counts × (ℕ × ((List ℕ) × Unit {0}))) → Type 0 = λ a b. μ a < μ b in let I : (Counts × (ℕ × ((List ℕ) × Unit {0}))) → List (Item 𝓤) = λ x-kept. Stands 𝓤 H (φ-kept x-kept) E (empty ∷ full (fatVal source-at) ∷ full (fatVal tape-at) ∷ full (fatVal opens-at) ∷ full (LL.val Record-T.the-type Record-L.the-laws rec₀) ∷ full (fatVal list-at) ∷ full (vint w64 (rec₀ .«open»)) ∷ full (LL.val Counts-T.the-type Counts-L.the-laws (x-kept .0)) ∷ full (vint w64 (x-kept .1 .0)) ∷ []) (‵ (HasShr u8 source-at source₀) ∷ ‵ (HasShr u8 tape-at tape₀) ∷ ‵ (HasMut OpenStart-T.the-row opens-at opens₀) ∷ ‵ (HasMut u64 list-at (x-kept .1 .1 .0)) ∷ []) in say ! (φ-kept (z-counts .0, (0, (list₀, tt)))) ((s-counts .0), ((lit< tt), (refl, (told-none source₀ tape₀ opens₀ (rec₀ .«open») list₀ (countsOf rec₀) (z-counts .0) (s-counts .1) (req .known) (req .room))))) $ keep ! (span 0 22 []) $
+      let φ-kept : (Counts × (ℕ × ((List ℕ) × Unit {0}))) → Type 0 = λ x-kept. (Is Counts-T.the-row (x-kept .0) (LL.val Counts-T.the-type Counts-L.the-laws (x-kept .0) ∷ [])) × (((x-kept .1 .0) < 2 ^ 64) × ((length (x-kept .1 .1 .0) ≡ length list₀) × ((Told source₀ tape₀ opens₀ (rec₀ .«open_len») list₀ (countsOf rec₀) (x-kept .1 .1 .0) (x-kept .0) (x-kept .1 .0))))) in
+      let μ : (Counts × (ℕ × ((List ℕ) × Unit {0}))) → ℕ = λ y. rec₀ .«open_len» - (y .1 .0) in let less : (Counts × (ℕ × ((List ℕ) × Unit {0}))) → (Counts × (ℕ × ((List ℕ) × Unit {0}))) → Type 0 = λ a b. μ a < μ b in let I : (Counts × (ℕ × ((List ℕ) × Unit {0}))) → List (Item 𝓤) = λ x-kept. Stands 𝓤 H (φ-kept x-kept) E (empty ∷ full (fatVal source-at) ∷ full (fatVal tape-at) ∷ full (fatVal opens-at) ∷ full (LL.val State-T.the-type State-L.the-laws rec₀) ∷ full (fatVal list-at) ∷ full (vint w64 (rec₀ .«open_len»)) ∷ full (LL.val Counts-T.the-type Counts-L.the-laws (x-kept .0)) ∷ full (vint w64 (x-kept .1 .0)) ∷ []) (‵ (HasShr u8 source-at source₀) ∷ ‵ (HasShr u8 tape-at tape₀) ∷ ‵ (HasMut OpenStart-T.the-row opens-at opens₀) ∷ ‵ (HasMut u64 list-at (x-kept .1 .1 .0)) ∷ []) in say ! (φ-kept (z-counts .0, (0, (list₀, tt)))) ((s-counts .0), ((lit< tt), (refl, (told-none source₀ tape₀ opens₀ (rec₀ .«open_len») list₀ (countsOf rec₀) (z-counts .0) (s-counts .1) (req .known) (req .room))))) $ keep ! (span 0 22 []) $
       loop-then ! 𝓣 less (InvImage·wf μ (Nat·lt-wfRel .wf)) I (λ x-kept leave. heard ! (φ-kept x-kept) (λ j-kept.
       sets ! (bin ! (cell ! 9 refl) (cell ! 7 refl) tt) 11 refl (tt, tt) $ if-then 𝓣 ! (cell ! 11 refl)
       (λ h-while. skip-then ! $
-      let fits-1 : ((x-kept .1 .0) * 8) < 2 ^ 64 = scaled 8 _ _ _ (told-inside (j-kept .1 .1 .1) (ltb→lt (x-kept .1 .0) (rec₀ .«open») h-while)) opens-n (opens-room .1) in sets ! (bin ! (cell ! 9 refl) (lit ! tt) (record { fits = fits-1 })) 12 refl (tt, record { fits = fits-1 }) $ sets ! (bin ! (cell-field ! 4 0 refl refl refl) (cell ! 12 refl) tt) 13 refl (tt, tt) $ rewrite ! 13 (λ (x : ℕ). ‵ (fat fullShare tyPtr l12 0 (vptr (opens-at .b) x))) (sym (place-is 8 (opens-at .o) (x-kept .1 .0))) refl $ let in-1 : (x-kept .1 .0) < length opens₀ = told-inside (j-kept .1 .1 .1) (ltb→lt (x-kept .1 .0) (rec₀ .«open») h-while) in move ! (19 ∷ []) $ opens-elem ! tt (of-struct OpenStart-T.the-type OpenStart-T.Laws.the-laws OpenStart-T.Laws.the-plain) opens-at opens₀ (x-kept .1 .0) noStart in-1 (λ open-1. assigns ! (of-opd ! (load ! (from ! (hop ! (look ! 15 refl) (stop !))) (look-raw ! 0 refl))) (from ! (stop !)) (init ! 16 refl (LL.lawful OpenStart-T.the-type OpenStart-L.the-laws 𝓤 H A W .typed (getD opens₀ (x-kept .1 .0) noStart) _ open-1 .0)) $ back-elem ! tt (of-struct OpenStart-T.the-type OpenStart-T.Laws.the-laws OpenStart-T.Laws.the-plain) opens-at opens₀ (x-kept .1 .0) noStart in-1 open-1 $
+      let fits-1 : ((x-kept .1 .0) * 8) < 2 ^ 64 = scaled 8 _ _ _ (told-inside (j-kept .1 .1 .1) (ltb→lt (x-kept .1 .0) (rec₀ .«open_len») h-while)) opens-n (opens-room .1) in sets ! (bin ! (cell ! 9 refl) (lit ! tt) (record { fits = fits-1 })) 12 refl (tt, record { fits = fits-1 }) $ sets ! (bin ! (cell-field ! 4 0 refl refl refl) (cell ! 12 refl) tt) 13 refl (tt, tt) $ rewrite ! 13 (λ (x : ℕ). ‵ (fat fullShare tyPtr l12 0 (vptr (opens-at .b) x))) (sym (place-is 8 (opens-at .o) (x-kept .1 .0))) refl $ let in-1 : (x-kept .1 .0) < length opens₀ = told-inside (j-kept .1 .1 .1) (ltb→lt (x-kept .1 .0) (rec₀ .«open_len») h-while) in move ! (19 ∷ []) $ opens-elem ! tt (of-struct OpenStart-T.the-type OpenStart-T.Laws.the-laws OpenStart-T.Laws.the-plain) opens-at opens₀ (x-kept .1 .0) noStart in-1 (λ open-1. assigns ! (of-opd ! (load ! (from ! (hop ! (look ! 15 refl) (stop !))) (look-raw ! 0 refl))) (from ! (stop !)) (init ! 16 refl (LL.lawful OpenStart-T.the-type OpenStart-L.the-laws 𝓤 H A W .typed (getD opens₀ (x-kept .1 .0) noStart) _ open-1 .0)) $ back-elem ! tt (of-struct OpenStart-T.the-type OpenStart-T.Laws.the-laws OpenStart-T.Laws.the-plain) opens-at opens₀ (x-kept .1 .0) noStart in-1 open-1 $
       sets ! (of-opd ! (cell ! 15 refl)) 11 refl (LL.lawful OpenStart-T.the-type OpenStart-L.the-laws 𝓤 H A W .typed (getD opens₀ (x-kept .1 .0) noStart) _ open-1 .0) $
-      reslices ! 7 16 17 refl refl refl tt refl refl refl (tt, (tt, (record { fits = (list-room .0) }, tt))) $ move ! (19 ∷ 20 ∷ []) $ let req-tell-open : Tellable tape₀ (getD opens₀ (x-kept .1 .0) noStart) (x-kept .0) = tellable (j-kept .1 .1 .1) (ltb→lt (x-kept .1 .0) (rec₀ .«open») h-while) in calls-any W 𝓣 tell-open-C.terms ((tape-at, tape₀), ((getD opens₀ (x-kept .1 .0) noStart), ((list-at, (x-kept .1 .1 .0)), ((x-kept .0), tt)))) ! (open-1, ((j-kept .0), tt)) req-tell-open known-tell-open (and-then ! (cell ! 5 refl) (and-then ! (cell ! 12 refl) (and-then ! (cell ! 18 refl) (and-then ! (cell ! 10 refl) (no-more !))))) (λ z-tell-open s-tell-open.
+      reslices ! 7 16 17 refl refl refl tt refl refl refl (tt, (tt, (record { fits = (list-room .0) }, tt))) $ move ! (19 ∷ 20 ∷ []) $ let req-tell-open : Tellable tape₀ (getD opens₀ (x-kept .1 .0) noStart) (x-kept .0) = tellable (j-kept .1 .1 .1) (ltb→lt (x-kept .1 .0) (rec₀ .«open_len») h-while) in calls-any W 𝓣 tell-open-C.terms ((tape-at, tape₀), ((getD opens₀ (x-kept .1 .0) noStart), ((list-at, (x-kept .1 .1 .0)), ((x-kept .0), tt)))) ! (open-1, ((j-kept .0), tt)) req-tell-open known-tell-open (and-then ! (cell ! 5 refl) (and-then ! (cell ! 12 refl) (and-then ! (cell ! 18 refl) (and-then ! (cell ! 10 refl) (no-more !))))) (λ z-tell-open s-tell-open.
       relands-at ! 11 refl (LL.lawful Counts-T.the-type Counts-L.the-laws 𝓤 H A W .typed (z-tell-open .0) _ (s-tell-open .0) .0) $
-      let fits-2 : ((x-kept .1 .0) + 1) < 2 ^ 64 = more-fits _ _ _ (told-inside (j-kept .1 .1 .1) (ltb→lt (x-kept .1 .0) (rec₀ .«open») h-while)) opens-n (opens-room .0) in assigns-last ! (bin ! (cell ! 12 refl) (lit ! tt) (record { fits = fits-2 })) (from ! (stop !)) (store ! 12 refl (tt, record { fits = fits-2 })) $
-      forget ! 13 refl $ forget ! 14 refl $ forget ! 15 refl $ forget ! 16 refl $ forget ! 17 refl $ forget ! 18 refl $ forget ! 19 refl $ say ! (φ-kept (z-tell-open .0, ((x-kept .1 .0) + 1, ((z-tell-open .1 .0), tt)))) ((s-tell-open .0), (fits-2, (((s-tell-open .1 .0) ∙ (j-kept .1 .1 .0)), (told-more (j-kept .1 .1 .1) (ltb→lt (x-kept .1 .0) (rec₀ .«open») h-while) (s-tell-open .1 .1))))) $ keep ! (0 ∷ span 4 18 (1 ∷ 3 ∷ 2 ∷ [])) $ again ! less I x-kept (z-tell-open .0, ((x-kept .1 .0) + 1, ((z-tell-open .1 .0), tt))) (nearer _ _ (ltb→lt (x-kept .1 .0) (rec₀ .«open») h-while)))))
+      let fits-2 : ((x-kept .1 .0) + 1) < 2 ^ 64 = more-fits _ _ _ (told-inside (j-kept .1 .1 .1) (ltb→lt (x-kept .1 .0) (rec₀ .«open_len») h-while)) opens-n (opens-room .0) in assigns-last ! (bin ! (cell ! 12 refl) (lit ! tt) (record { fits = fits-2 })) (from ! (stop !)) (store ! 12 refl (tt, record { fits = fits-2 })) $
+      forget ! 13 refl $ forget ! 14 refl $ forget ! 15 refl $ forget ! 16 refl $ forget ! 17 refl $ forget ! 18 refl $ forget ! 19 refl $ say ! (φ-kept (z-tell-open .0, ((x-kept .1 .0) + 1, ((z-tell-open .1 .0), tt)))) ((s-tell-open .0), (fits-2, (((s-tell-open .1 .0) ∙ (j-kept .1 .1 .0)), (told-more (j-kept .1 .1 .1) (ltb→lt (x-kept .1 .0) (rec₀ .«open_len») h-while) (s-tell-open .1 .1))))) $ keep ! (0 ∷ span 4 18 (1 ∷ 3 ∷ 2 ∷ [])) $ again ! less I x-kept (z-tell-open .0, ((x-kept .1 .0) + 1, ((z-tell-open .1 .0), tt))) (nearer _ _ (ltb→lt (x-kept .1 .0) (rec₀ .«open_len») h-while)))))
       (λ h-while. exit-then ! $ leave _ $
       sets ! (of-opd ! (cell ! 8 refl)) 1 refl (LL.lawful Counts-T.the-type Counts-L.the-laws 𝓤 H A W .typed (x-kept .0) _ (j-kept .0) .0) $
-      keep ! (span 0 21 []) $ ends ! ρ refl tt (x-kept .0) (j-kept .0) (opens₀, ((x-kept .1 .1 .0), tt)) (refl, ((j-kept .1 .1 .0), tt)) (refl, told-all (j-kept .1 .1 .1) (nltb→le (x-kept .1 .0) (rec₀ .«open») h-while)) refl))) (z-counts .0, (0, (list₀, tt))))
+      keep ! (span 0 21 []) $ ends ! ρ refl tt (x-kept .0) (j-kept .0) (opens₀, ((x-kept .1 .1 .0), tt)) (refl, ((j-kept .1 .1 .0), tt)) (refl, told-all (j-kept .1 .1 .1) (nltb→le (x-kept .1 .0) (rec₀ .«open_len») h-while)) refl))) (z-counts .0, (0, (list₀, tt))))
 
 pub unclosed-spec : {M : Type 1} → stated.statement M
 unfolding code.routine tablesOf

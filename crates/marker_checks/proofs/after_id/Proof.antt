@@ -20,10 +20,10 @@ front-after-requires c κs = search needs
 
 returns-2 : tie.Need-returns-2
 returns-2 c =
-    let a = c .before .before .before .before .before .before .args in
-    let b = c .before .before .book-code in
-    let f = c .before .front-after in
-    with-code (a .named) _ (now (b .result)) (a .rec) (f .result) (not-false _ (c .before .before .before .if1 .left)) (b .ensures) (f .ensures)
+    let a = c .before .before .before .before .before .args in
+    let b = c .before .book-code in
+    let f = c .front-after in
+    with-code (a .named) _ (now (b .result)) (a .rec) (f .result) (not-false _ (c .before .before .if1 .left)) (b .ensures) (f .ensures)
 
 pub after-id-spec : {M : Type 1} → statement M
 after-id-spec = tie.close (tie.spec returns book-code-requires front-after-requires returns-2)

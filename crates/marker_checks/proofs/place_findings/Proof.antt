@@ -18,7 +18,7 @@ use Rattle.cursor.specs.Names.{nameOf}
 use Rattle.cursor.proofs.Runs.{run-below, run-spanned}
 use Rattle.attachment.specs.Attached.{among}
 use Rattle.definition.specs.Checks.{Check, given, bName, inlineContent, numberMarkers, attachedTo}
-use Rattle.state.specs.Running.{aroundOf, anchorOf}
+use Rattle.state.specs.Running.{contextOf, anchorOf}
 use Rattle.marker_checks.specs.Own.{childrenAt}
 use Rattle.marker_checks.proofs.Children.{children}
 use Rattle.marker_checks.proofs.Whole.{placePart}
@@ -27,7 +27,7 @@ use Rattle.marker_checks.proofs.place_findings.Statement.{statement}
 use Rattle.marker_checks.proofs.place_findings.Tie as tie
 
 abbrev checks : tie.Start → List Check
-checks c = let a = c .args in placePart (now (a .source)) (now (a .tape)) (a .i) (a .to) (aroundOf (a .around)) (entryOfInfo (a .m)) (now (a .name)) (a .rec)
+checks c = let a = c .args in placePart (now (a .source)) (now (a .tape)) (a .i) (a .to) (contextOf (a .context)) (entryOfInfo (a .m)) (now (a .name)) (a .rec)
 
 abbrev Due : tie.Start → ℕ → List ℕ → Counts → Type 0
 Due c k l d = Left (given (checks c)) (now (c .args .list)) (c .args .c) (given (drop k (checks c))) l d

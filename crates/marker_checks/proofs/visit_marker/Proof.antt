@@ -11,8 +11,8 @@ use Rattle.cursor.proofs.Runs.{run-below, run-spanned}
 use Rattle.findings.specs.Finding.{Finding}
 use Rattle.findings.specs.Written.{Room}
 use Rattle.definition.specs.Checks.{Check, given}
-use Rattle.state.specs.Running.{aroundOf, anchorOf, startsFor}
-use Rattle.state.specs.declared.Record.{Record}
+use Rattle.state.specs.Running.{contextOf, anchorOf, startsFor}
+use Rattle.state.specs.declared.State.{State}
 use Rattle.marker_checks.proofs.Children.{children}
 use Rattle.marker_checks.proofs.Whole.{idPart, placePart, contentPart, rowPart, attributePart, room-id, room-place, room-content, room-row, room-attributes, wrote-all, own-room, marked}
 use Rattle.marker_checks.proofs.visit_marker.Statement.{statement}
@@ -23,7 +23,7 @@ abbrev ids : tie.After-counts → List Check
 ids c = let a = c .before .before .before .before .before .before .before .before .before .before .args in idPart (now (a .source)) (now (a .tape)) (a .i) (a .rec) (c .before .before .before .before .link-at .result) (c .before .before .same .result)
 
 abbrev placed : tie.After-counts → List Check
-placed c = let a = c .before .before .before .before .before .before .before .before .before .before .args in placePart (now (a .source)) (now (a .tape)) (a .i) (a .to) (aroundOf (a .around)) (entryOfInfo (a .m)) (now (c .before .before .before .before .before .name .result)) (c .before .after-id .result)
+placed c = let a = c .before .before .before .before .before .before .before .before .before .before .args in placePart (now (a .source)) (now (a .tape)) (a .i) (a .to) (contextOf (a .context)) (entryOfInfo (a .m)) (now (c .before .before .before .before .before .name .result)) (c .before .after-id .result)
 
 abbrev content : tie.After-counts → List Check
 content c = let a = c .before .before .before .before .before .before .before .before .before .before .args in contentPart (now (a .source)) (now (a .tape)) (a .i) (now (c .before .before .before .before .before .name .result)) (c .before .before .before .before .link-at .result)
@@ -42,7 +42,7 @@ room c =
     let k = c .before .before .before .before .link-at in
     let d = c .before .before .same in
     let f = c .before .after-id in
-    own-room (now (a .table)) (now (a .source)) (now (a .tape)) (a .i) (a .to) (aroundOf (a .around)) (entryOfInfo (a .m)) (a .rec) (now (n .result)) (k .result) (d .result) (f .result) (n .ensures) (k .ensures) (d .ensures) (f .ensures) (c .counts .result) (c .counts .ensures) (c .before .before .before .before .before .before .before .before .before .before .pre .5)
+    own-room (now (a .table)) (now (a .source)) (now (a .tape)) (a .i) (a .to) (contextOf (a .context)) (entryOfInfo (a .m)) (a .rec) (now (n .result)) (k .result) (d .result) (f .result) (n .ensures) (k .ensures) (d .ensures) (f .ensures) (c .counts .result) (c .counts .ensures) (c .before .before .before .before .before .before .before .before .before .before .pre .5)
 
 name-requires : tie.Need-name-requires
 name-requires c κs = c .before .before .before .before .pre .0
@@ -89,7 +89,7 @@ place-findings-requires c κs =
     let p = c .before .before .before .before .before .before .before .before .before .before .before .before .before .before .before .pre in
     let w₁ = c .before .before .before .id-findings in
     let s = c .before .before .before .before .before in
-    (p .1, p .2, p .3, p .4 ∙ ap (λ (j : ℕ). startsFor (anchorOf (now (a .source)) (now (a .tape)) j (a .i)) (forest (now (a .source)) (now (a .tape)) (a .i) (a .to))) (sym (ap (λ (q : Record). q .anchor) (c .before .before .before .before .before .before .after-id .ensures))), room-place (ids s) (placed s) (content s) (row s) (attributes s) (now (a .list)) (c .before .before .before .before .before .counts .result) (room s) (w₁ .last .1 .1 .1 .1 .1 .1 .0) (w₁ .result) (w₁ .ensures))
+    (p .1, p .2, p .3, p .4 ∙ ap (λ (j : ℕ). startsFor (anchorOf (now (a .source)) (now (a .tape)) j (a .i)) (forest (now (a .source)) (now (a .tape)) (a .i) (a .to))) (sym (ap (λ (q : State). q .anchor) (c .before .before .before .before .before .before .after-id .ensures))), room-place (ids s) (placed s) (content s) (row s) (attributes s) (now (a .list)) (c .before .before .before .before .before .counts .result) (room s) (w₁ .last .1 .1 .1 .1 .1 .1 .0) (w₁ .result) (w₁ .ensures))
 
 content-findings-requires : tie.Need-content-findings-requires
 content-findings-requires c κs =
@@ -146,7 +146,7 @@ returns c =
     let s = c .before .before .before .before .before .before .before .before .before .before .before .before .before .before .before .before .before .before .before .before .before in
     let v = c .before .before .before .validate-attributes in
     let all = wrote-all (ids s) (placed s) (content s) (row s) (attributes s) (now (a .list)) (z .result) (room s) (w₁ .last .1 .1 .1 .1 .1 .1 .0) (w₁ .result) (w₁ .ensures) (w₂ .last .1 .1 .1 .1 .1 .1 .1 .1 .1 .0) (w₂ .result) (w₂ .ensures) (w₃ .last .1 .1 .1 .1 .1 .0) (w₃ .result) (w₃ .ensures) (w₄ .last .1 .1 .1 .1 .1 .0) (w₄ .result) (w₄ .ensures) _ (v .result) (v .ensures) in
-    marked (now (a .table)) (now (a .source)) (now (a .tape)) (a .i) (a .to) (aroundOf (a .around)) (entryOfInfo (a .m)) (a .rec) (now (n .result)) (k .result) (d .result) (f .result) (n .ensures) (k .ensures) (d .ensures) (f .ensures) (now (a .list)) _ (z .result) (v .result) (c .with-counts .result) (z .ensures) (c .with-counts .ensures) all
+    marked (now (a .table)) (now (a .source)) (now (a .tape)) (a .i) (a .to) (contextOf (a .context)) (entryOfInfo (a .m)) (a .rec) (now (n .result)) (k .result) (d .result) (f .result) (n .ensures) (k .ensures) (d .ensures) (f .ensures) (now (a .list)) _ (z .result) (v .result) (c .with-counts .result) (z .ensures) (c .with-counts .ensures) all
 
 pub visit-marker-spec : {M : Type 1} → statement M
 visit-marker-spec =
