@@ -1,4 +1,4 @@
-"""closing: the findings of open starts that are left, and the working list of open starts cleared."""
+"""closing: the findings of open openNodes that are left, and the working list of open openNodes cleared."""
 
 LAWS = ['proofs/Starts', 'proofs/Zeroed', 'reference_laws::proofs/Sizes', 'definition::specs/Outcome', 'state::specs/Running']
 DEFAULTS = {'OpenStart': 'noStart'}
@@ -8,17 +8,17 @@ HERE = 'here _ _ _ test-while req'
 
 WALKS = {
     'unclosed': dict(
-        sums={'k + 1': 'more-fits _ _ _ (told-inside kept test-while) opens-n (opens-room .0)'},
-        inside={'opens[k]': 'told-inside kept test-while'},
-        calls={'tell_open': 'tellable kept test-while'},
+        sums={'k + 1': 'more-fits _ _ _ (unclosed-inside kept test-while) opens-n (opens-room .0)'},
+        inside={'opens[k]': 'unclosed-inside kept test-while'},
+        calls={'push_unclosed': 'unclosed-ready kept test-while'},
         loop=dict(
             changes='c k list',
-            keeps=f'Told {COUNTED} $list $c $k',
+            keeps=f'UnclosedSoFar {COUNTED} $list $c $k',
             measure='rec₀ .«open_len» - $k',
-            start=f'told-none {COUNTED} (z-counts .0) says-counts (req .known) (req .room)',
-            again='told-more kept test-while says-tell-open',
+            start=f'unclosed-none {COUNTED} (z-counts .0) says-counts (req .known) (req .room)',
+            again='unclosed-next kept test-while says-push-unclosed',
             less='nearer _ _ test-while'),
-        returns='(refl, told-all kept test-while)'),
+        returns='(refl, unclosed-all kept test-while)'),
 
     'clear_opens': dict(
         sums={'i + 1': f'more-fits _ _ _ ({HERE}) opens-n (opens-room .0)'},

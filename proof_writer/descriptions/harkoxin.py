@@ -15,8 +15,8 @@ WALKS = {
 
     'harkoxin_report': dict(
         calls={
-            'check_input': 'as-long @words',
-            'passed': f'accepted-so {CHECKED} _ told-check-input $words says-check-input-index',
+            'check_input': 'as-long @index',
+            'passed': f'accepted-so {CHECKED} _ told-check-input $index says-check-input-index',
             'write_held': f'held-requires {PASSED} _ _ (req-passed .0) len-passed-list'},
         arms={
             'Accepted': {

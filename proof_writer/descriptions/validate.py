@@ -29,14 +29,14 @@ WALKS = {
         returns='finished-whole req list₀ $list _ says-run len-run-list _ _ says-node-count (ap (λ (k : ℕ). k / 8) (list-n ∙ sym len-run-list)) (z-run .1 .0) _ (z-run .1 .1 .0) _ len-run-seen len-run-opens says-clear-seen says-clear-opens _ says-reported'),
 
     'passed': dict(
-        calls={'checked': f'part-fit {COUNTED} words₀ entries₀ (req .0)'},
+        calls={'checked': f'part-fit {COUNTED} index₀ entries₀ (req .0)'},
         parts={'seen[..n]': f'part-seen {COUNTED}', 'opens[..n]': f'part-opens {COUNTED}'},
         returns={'answer': f'{THROUGH} .0', 'list': f'{THROUGH} .1 .0', 'seen': f'{THROUGH} .1 .1 .0', 'opens': f'{THROUGH} .1 .1 .1'}),
 
     'check': dict(
         calls={
-            'check_input': 'as-long @words',
-            'passed': f'accepted-so {CHECKED} _ told-check-input $words says-check-input-index'},
+            'check_input': 'as-long @index',
+            'passed': f'accepted-so {CHECKED} _ told-check-input $index says-check-input-index'},
         arms={
             'Accepted': {'answer': 'says-passed-answer', 'list': 'says-passed-list', 'seen': 'says-passed-seen', 'opens': 'says-passed-opens'},
             'Refused': {'answer': f'{REFUSED} .0', 'list': f'{REFUSED} .1 .0', 'seen': f'{REFUSED} .1 .1 .0', 'opens': f'{REFUSED} .1 .1 .1'}}),

@@ -3,9 +3,9 @@
 LAWS = ['specs/Walking', 'proofs/Going', 'proofs/Visiting', 'proofs/Steps', 'reference_laws::proofs/Sizes', 'state::specs/Running', 'tape::specs/Nodes']
 
 WITH = '(visit-with (contextOf context₀) (entryOfInfo m₀) list₀ (req .0) (req .1) (req .3))'
-VISIT = 'table₀ words₀ count₀ source₀ tape₀ depth₀ (contextOf context₀) i₀ to₀ (entryOfInfo m₀) numbers₀ seen₀ opens₀ list₀ rec₀'
+VISIT = 'table₀ index₀ entries₀ source₀ tape₀ depth₀ (contextOf context₀) i₀ to₀ (entryOfInfo m₀) numbers₀ seen₀ opens₀ list₀ rec₀'
 WHOLE = '(walkAt table₀ source₀ tape₀ (contextOf context₀) from₀ to₀ seen₀ opens₀ rec₀)'
-WALK = 'table₀ words₀ count₀ source₀ tape₀ depth₀ (contextOf context₀) from₀ to₀'
+WALK = 'table₀ index₀ entries₀ source₀ tape₀ depth₀ (contextOf context₀) from₀ to₀'
 PASSED = '_ says-past-node _ _ _ _ len-visit-leaf-seen says-visit-leaf _ says-marker'
 
 WALKS = {

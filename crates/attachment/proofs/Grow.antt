@@ -8,10 +8,10 @@ use lib.Dec.{eqb}
 use Rattle.tape.specs.Nodes.{Node}
 use Rattle.tape.specs.Forest.{Forest, end, leaf, node, followed}
 use Rattle.cursor.specs.Names.{nameOf}
-use Rattle.attachment.specs.Attached.{isAlternate, isPublished, claims, isBlank, plain, onlyIf, runOf, starts, among, isAttached, Longer}
+use Rattle.attachment.specs.Attached.{isAlternate, isPublished, claims, isBlank, plain, nodesIf, runOf, startOffsets, among, isAttached, Longer}
 
 -- a run that goes on only if a test holds
-longer-if : (v : Bool) (xs ys : List Node) → Longer xs ys → Longer (onlyIf v xs) (onlyIf v ys)
+longer-if : (v : Bool) (xs ys : List Node) → Longer xs ys → Longer (nodesIf v xs) (nodesIf v ys)
 longer-if true xs ys h = h
 longer-if false xs ys h = record { more = []; is = refl }
 
@@ -27,12 +27,12 @@ run-grows kind alt pubn (node x c r) g =
     (longer-cons x _ _
     (longer-if (plain c) _ _ (run-grows kind (alt || isAlternate kind (nameOf (x .text))) (pubn || isPublished kind (nameOf (x .text))) r g)))
 
-among-more : (at : ℕ) (xs ys : List Node) → among at (starts xs) ≡ true → among at (starts (xs ++ ys)) ≡ true
-unfolding among starts
+among-more : (at : ℕ) (xs ys : List Node) → among at (startOffsets xs) ≡ true → among at (startOffsets (xs ++ ys)) ≡ true
+unfolding among startOffsets
 among-more at [] ys h = absurd (false≢true h)
 among-more at (x ∷ xs) ys h = go (eqb (x .start) at) (among-more at xs ys) h
   where
-    go : (v : Bool) → (among at (starts xs) ≡ true → among at (starts (xs ++ ys)) ≡ true) → (v || among at (starts xs)) ≡ true → (v || among at (starts (xs ++ ys))) ≡ true
+    go : (v : Bool) → (among at (startOffsets xs) ≡ true → among at (startOffsets (xs ++ ys)) ≡ true) → (v || among at (startOffsets xs)) ≡ true → (v || among at (startOffsets (xs ++ ys))) ≡ true
     go true rest h = refl
     go false rest h = rest h
 

@@ -14,14 +14,14 @@ use Rattle.tape.specs.Nodes.{nodeAt, kindAt, span, chapterKind}
 use Rattle.table.specs.Bytes.{equal}
 use Rattle.table.proofs.Words.{equal-apart}
 use Rattle.cursor.specs.Names.{nameOf}
-use Rattle.attachment.specs.Attached.{letter, isAlternate, isPublished, claims, isBlank, among, startsOf}
+use Rattle.attachment.specs.Attached.{numberLetter, isAlternate, isPublished, claims, isBlank, among, startsOf}
 use Rattle.attachment.specs.Inner.{claimsAt, takenAlternate, takenPublished}
 use Rattle.attachment.specs.declared.Attached.{Attached}
 
-pub letter-chapter : (kind : ℕ) → kind ≡ chapterKind → 0x63 ≡ letter kind
+pub letter-chapter : (kind : ℕ) → kind ≡ chapterKind → 0x63 ≡ numberLetter kind
 letter-chapter kind e = rw (eq-eqb kind chapterKind e)
 
-pub letter-verse : (kind : ℕ) → (kind ≡ chapterKind → ⊥) → 0x76 ≡ letter kind
+pub letter-verse : (kind : ℕ) → (kind ≡ chapterKind → ⊥) → 0x76 ≡ numberLetter kind
 letter-verse kind n = rw (ne-eqb kind chapterKind n)
 
 -- a name of two bytes
@@ -40,7 +40,7 @@ unfolding equal
 pair-other (x ∷ s) a b h n = rw (ne-eqb x a n)
 pair-other [] a b h n = absurd (omega arith)
 
-module _ (kind l : ℕ) (name : List ℕ) (x : Bool) (letter-is : l ≡ letter kind) where
+module _ (kind l : ℕ) (name : List ℕ) (x : Bool) (letter-is : l ≡ numberLetter kind) where
   pub alternate-by : x ≡ equal name (l ∷ 0x61 ∷ []) → x ≡ isAlternate kind name
   unfolding isAlternate
   alternate-by e = e ∙ rw letter-is

@@ -15,7 +15,7 @@ use Rattle.cursor.specs.Names.{nameOf}
 use Rattle.cursor.specs.Inner.{Run}
 use Rattle.cursor.specs.Steps.{pastNode}
 use Rattle.cursor.proofs.Runs.{run-next, run-children, forest-at-leaf, forest-at-open}
-use Rattle.attachment.specs.Attached.{isAlternate, isPublished, claims, isBlank, plain, onlyIf, runOf, attachedNumbers, starts, startsOf}
+use Rattle.attachment.specs.Attached.{isAlternate, isPublished, claims, isBlank, plain, nodesIf, runOf, attachedNumbers, startOffsets, startsOf}
 use Rattle.attachment.specs.Inner.{claimsAt, takenAlternate, takenPublished}
 use Rattle.attachment.specs.declared.Attached.{Attached}
 use Rattle.text.proofs.Bool.{and-left, and-right}
@@ -44,7 +44,7 @@ bit v = pick v 1 0
 -- what is left of the run gives, after what is found, what the whole gives; nothing is found without taking a place
 pub record Going (s t : List ℕ) (kind from to : ℕ) (found : Attached) (alt pubn : Bool) (i : ℕ) : Type 0 where
   pub run : Run s t i to
-  pub left : startsOf found ++ starts (runOf kind alt pubn (forest s t i to)) ≡ starts (attachedNumbers kind (forest s t from to))
+  pub left : startsOf found ++ startOffsets (runOf kind alt pubn (forest s t i to)) ≡ startOffsets (attachedNumbers kind (forest s t from to))
   pub few : length (startsOf found) ≤ bit alt + bit pubn
 
 pub going-start : (s t : List ℕ) (kind from to : ℕ) → Run s t from to → Going s t kind from to (record { count = 0; first = 0; second = 0 }) false false from
@@ -85,16 +85,16 @@ taken-more false true false false h = omega arith
 taken-more false false false false h = absurd (false≢true h)
 
 module _ (s t : List ℕ) (kind from to : ℕ) (found : Attached) (alt pubn : Bool) (i : ℕ) (g : Going s t kind from to found alt pubn i) where
-  pub going-end : to ≤ i → startsOf found ≡ starts (attachedNumbers kind (forest s t from to))
-  unfolding runOf starts
+  pub going-end : to ≤ i → startsOf found ≡ startOffsets (attachedNumbers kind (forest s t from to))
+  unfolding runOf startOffsets
   going-end h = sym (append-none (startsOf found)) ∙ (rw (forest-done s t i to h) at (g .left))
 
   module _ (more : i < to) where
-    as-leaf : isOpen (kindAt t i) ≡ false → runOf kind alt pubn (forest s t i to) ≡ onlyIf (isBlank (nodeAt s t i)) (runOf kind alt pubn (forest s t (pastNode t i) to))
+    as-leaf : isOpen (kindAt t i) ≡ false → runOf kind alt pubn (forest s t i to) ≡ nodesIf (isBlank (nodeAt s t i)) (runOf kind alt pubn (forest s t (pastNode t i) to))
     unfolding runOf
     as-leaf h = rw (forest-at-leaf s t i to (g .run) more h)
 
-    as-node : isOpen (kindAt t i) ≡ true → runOf kind alt pubn (forest s t i to) ≡ onlyIf (claims kind alt pubn (nameOf (nodeAt s t i .text))) (nodeAt s t i ∷ onlyIf (plain (forest s t (i + 1) (linkAt t i))) (runOf kind (takenAlternate kind alt (nodeAt s t i)) (takenPublished kind pubn (nodeAt s t i)) (forest s t (pastNode t i) to)))
+    as-node : isOpen (kindAt t i) ≡ true → runOf kind alt pubn (forest s t i to) ≡ nodesIf (claims kind alt pubn (nameOf (nodeAt s t i .text))) (nodeAt s t i ∷ nodesIf (plain (forest s t (i + 1) (linkAt t i))) (runOf kind (takenAlternate kind alt (nodeAt s t i)) (takenPublished kind pubn (nodeAt s t i)) (forest s t (pastNode t i) to)))
     unfolding runOf
     as-node h = rw (forest-at-open s t i to (g .run) more h)
 
@@ -105,12 +105,12 @@ module _ (s t : List ℕ) (kind from to : ℕ) (found : Attached) (alt pubn : Bo
         rw e
         (record {
           run = run-next s t i to (g .run) more;
-          left = ap (λ (l : List Node). startsOf found ++ starts l) (sym (as-leaf o ∙ rw h)) ∙ g .left;
+          left = ap (λ (l : List Node). startsOf found ++ startOffsets l) (sym (as-leaf o ∙ rw h)) ∙ g .left;
           few = g .few;
         })
 
-    pub going-stop : isBlank (nodeAt s t i) ≡ false → claimsAt kind alt pubn (nodeAt s t i) ≡ false → startsOf found ≡ starts (attachedNumbers kind (forest s t from to))
-    unfolding starts
+    pub going-stop : isBlank (nodeAt s t i) ≡ false → claimsAt kind alt pubn (nodeAt s t i) ≡ false → startsOf found ≡ startOffsets (attachedNumbers kind (forest s t from to))
+    unfolding startOffsets
     going-stop h k =
         let e : runOf kind alt pubn (forest s t i to) ≡ [] = go (isOpen (kindAt t i)) refl k in
         sym (append-none (startsOf found)) ∙ (rw e at (g .left))
@@ -140,14 +140,14 @@ module _ (s t : List ℕ) (kind from to : ℕ) (found : Attached) (alt pubn : Bo
       going-children l e = rw e (run-children s t i to (g .run) more going-open)
 
       module _ (found′ : Attached) (n l : ℕ) (start-is : n ≡ startAt t i) (link-is : l ≡ linkAt t i) (added : startsOf found′ ≡ startsOf found ++ (n ∷ [])) where
-        pub going-last : plain (forest s t (i + 1) l) ≡ false → startsOf found′ ≡ starts (attachedNumbers kind (forest s t from to))
-        unfolding starts
+        pub going-last : plain (forest s t (i + 1) l) ≡ false → startsOf found′ ≡ startOffsets (attachedNumbers kind (forest s t from to))
+        unfolding startOffsets
         going-last h =
             let p : plain (forest s t (i + 1) (linkAt t i)) ≡ false = rw link-is at h in
             added ∙ rw start-is (rw (as-node going-open, named, p) at (g .left))
 
         pub going-next : (alt′ pubn′ : Bool) (j : ℕ) → plain (forest s t (i + 1) l) ≡ true → alt′ ≡ takenAlternate kind alt (nodeAt s t i) → pubn′ ≡ takenPublished kind pubn (nodeAt s t i) → j ≡ pastNode t i → Going s t kind from to found′ alt′ pubn′ j
-        unfolding starts
+        unfolding startOffsets
         going-next alt′ pubn′ j h a b e =
             let p : plain (forest s t (i + 1) (linkAt t i)) ≡ true = rw link-is at h in
             let m = one-more in

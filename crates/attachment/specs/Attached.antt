@@ -14,16 +14,16 @@ use Rattle.cursor.specs.Names.{nameOf}
 use Rattle.attachment.specs.declared.Attached.{Attached}
 
 -- `c` of a Chapter, `v` of a Verse: the letter with which the names of its numbers begin
-abbrev pub letter : ℕ → ℕ
-letter kind = pick (eqb kind chapterKind) 0x63 0x76
+abbrev pub numberLetter : ℕ → ℕ
+numberLetter kind = pick (eqb kind chapterKind) 0x63 0x76
 
 -- "`\ca`/`\va` (alternate)"
 unfoldable pub isAlternate : ℕ → List ℕ → Bool
-isAlternate kind name = equal name (letter kind ∷ 0x61 ∷ [])
+isAlternate kind name = equal name (numberLetter kind ∷ 0x61 ∷ [])
 
 -- "`\cp`/`\vp` (published)"
 unfoldable pub isPublished : ℕ → List ℕ → Bool
-isPublished kind name = equal name (letter kind ∷ 0x70 ∷ [])
+isPublished kind name = equal name (numberLetter kind ∷ 0x70 ∷ [])
 
 -- a number of this kind of anchor whose place is still free: "at most one of each"
 abbrev pub claims : ℕ → Bool → Bool → List ℕ → Bool
@@ -39,25 +39,25 @@ plain end = true
 plain (leaf x r) = plain r
 plain (node x c r) = false
 
-abbrev pub onlyIf : Bool → List Node → List Node
-onlyIf true xs = xs
-onlyIf false xs = []
+abbrev pub nodesIf : Bool → List Node → List Node
+nodesIf true xs = xs
+nodesIf false xs = []
 
 -- the numbers of an anchor of the kind among the siblings, where its alternate or published number is given already: "the run of them directly after it, separated only by whitespace"; a number with markup belongs to it and ends it
 unfoldable pub runOf : ℕ → Bool → Bool → Forest → List Node
 runOf kind alt pubn end = []
-runOf kind alt pubn (leaf x r) = onlyIf (isBlank x) (runOf kind alt pubn r)
+runOf kind alt pubn (leaf x r) = nodesIf (isBlank x) (runOf kind alt pubn r)
 runOf kind alt pubn (node x c r) =
-    onlyIf (claims kind alt pubn (nameOf (x .text)))
-    (x ∷ onlyIf (plain c) (runOf kind (alt || isAlternate kind (nameOf (x .text))) (pubn || isPublished kind (nameOf (x .text))) r))
+    nodesIf (claims kind alt pubn (nameOf (x .text)))
+    (x ∷ nodesIf (plain c) (runOf kind (alt || isAlternate kind (nameOf (x .text))) (pubn || isPublished kind (nameOf (x .text))) r))
 
 -- the numbers attached to an anchor of the kind, of the siblings that follow it
 abbrev pub attachedNumbers : ℕ → Forest → List Node
 attachedNumbers kind f = runOf kind false false f
 
-unfoldable pub starts : List Node → List ℕ
-starts [] = []
-starts (x ∷ xs) = x .start ∷ starts xs
+unfoldable pub startOffsets : List Node → List ℕ
+startOffsets [] = []
+startOffsets (x ∷ xs) = x .start ∷ startOffsets xs
 
 unfoldable pub among : ℕ → List ℕ → Bool
 among at [] = false
@@ -65,7 +65,7 @@ among at (x ∷ xs) = eqb x at || among at xs
 
 -- "compared by start offset"
 abbrev pub isAttached : ℕ → Forest → ℕ → Bool
-isAttached kind f at = among at (starts (attachedNumbers kind f))
+isAttached kind f at = among at (startOffsets (attachedNumbers kind f))
 
 -- what the answer says: the start offsets of the attached numbers, in order
 abbrev pub startsOf : Attached → List ℕ

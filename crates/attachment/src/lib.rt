@@ -8,7 +8,7 @@ ghost use Rattle.tape.specs.Nodes.{nodeAt};
 ghost use Rattle.tape.specs.Forest.{forest};
 ghost use Rattle.table.specs.Bytes.{equal};
 ghost use Rattle.cursor.specs.Inner.{Spanned, Run};
-ghost use Rattle.attachment.specs.Attached.{isAlternate, isPublished, isBlank, plain, attachedNumbers, starts, startsOf, among};
+ghost use Rattle.attachment.specs.Attached.{isAlternate, isPublished, isBlank, plain, attachedNumbers, startOffsets, startsOf, among};
 ghost use Rattle.attachment.specs.Inner.{claimsAt, takenAlternate, takenPublished};
 
 // The start offsets of the numbers that are attached to one chapter or verse, at most one of each sort.
@@ -144,7 +144,7 @@ fn added(a: Attached, start: u32) -> Attached
 // The numbers attached to an anchor of the kind (3 a chapter, 4 a verse), among the siblings that follow it.
 pub fn attached_numbers(source: &[u8], tape: &[u8], kind: u8, from: usize, to: usize) -> Attached
     requires { ⌜ Run (now source) (now tape) from to ⌝ }
-    ensures { λ r. ⌜ startsOf r ≡ starts (attachedNumbers kind (forest (now (source .entry)) (now (tape .entry)) from to)) ⌝ }
+    ensures { λ r. ⌜ startsOf r ≡ startOffsets (attachedNumbers kind (forest (now (source .entry)) (now (tape .entry)) from to)) ⌝ }
 {
     let mut found = Attached {
         count: 0,

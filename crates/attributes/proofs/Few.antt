@@ -18,7 +18,7 @@ use Rattle.tape.proofs.Sizes.{breadth}
 use Rattle.table.specs.Names.{defaultOf}
 use Rattle.cursor.specs.Names.{pastOne}
 use Rattle.findings.specs.Finding.{Finding, Kind}
-use Rattle.attributes.specs.Attributes.{emptyList, noDefault, Mode, between, key, value, opened, quoted, escaping, unquoted, Step, go, tell, stop, step, ended, resume, scan, afterBar, body, hasDefault, holdsEquals, attributeKinds, findingsAt, attributeFindings, attributesFindings}
+use Rattle.attributes.specs.Attributes.{emptyList, noDefault, Mode, between, key, value, opened, quoted, escaping, unquoted, ScanStep, go, tell, stop, scanStep, endOfText, scanOn, attributeScan, afterBar, body, hasDefault, holdsEquals, attributeKinds, findingsAt, attributeFindings, attributesFindings}
 use Rattle.tape.specs.Nodes.{attributeKind}
 
 chars-few : (k : ℕ) (s : List ℕ) → length (charsPast k s) ≤ length s
@@ -27,7 +27,7 @@ chars-few k [] = le-refl 0
 chars-few (suc k) (b ∷ s) = let h = chars-few k s in omega arith
 chars-few zero (b ∷ s) = let h = chars-few (pred (decode (b ∷ s) .width)) s in omega arith
 
-ended-few : (m : Mode) → length (ended m) ≤ 1
+ended-few : (m : Mode) → length (endOfText m) ≤ 1
 ended-few between = omega arith
 ended-few key = le-refl 1
 ended-few value = le-refl 1
@@ -36,15 +36,15 @@ ended-few quoted = le-refl 1
 ended-few escaping = le-refl 1
 ended-few unquoted = omega arith
 
-resume-few : (n : ℕ) (s : Step) (rest : Mode → List Kind) → ((m : Mode) → length (rest m) ≤ n) → length (resume s rest) ≤ suc n
+resume-few : (n : ℕ) (s : ScanStep) (rest : Mode → List Kind) → ((m : Mode) → length (rest m) ≤ n) → length (scanOn s rest) ≤ suc n
 resume-few n (go m) rest h = let k = h m in omega arith
 resume-few n (tell x m) rest h = let k = h m in omega arith
 resume-few n (stop x) rest h = omega arith
 
-scan-few : (m : Mode) (cs : List Decoded) → length (scan m cs) ≤ suc (length cs)
-unfolding scan
+scan-few : (m : Mode) (cs : List Decoded) → length (attributeScan m cs) ≤ suc (length cs)
+unfolding attributeScan
 scan-few m [] = ended-few m
-scan-few m (c ∷ cs) = resume-few (suc (length cs)) (step m (c .cp)) (λ n. scan n cs) (λ n. scan-few n cs)
+scan-few m (c ∷ cs) = resume-few (suc (length cs)) (scanStep m (c .cp)) (λ n. attributeScan n cs) (λ n. scan-few n cs)
 
 cut-few : (p : Part) (s : List ℕ) → length (cut p s) ≤ length s
 cut-few p s =
@@ -55,7 +55,7 @@ kinds-few : (marker text : List ℕ) → length (attributeKinds marker text) ≤
 unfolding attributeKinds
 kinds-few marker text = choose (eqb (length (body text)) 0) (holdsEquals (body text)) (hasDefault (defaultOf marker))
   where
-    choose : (a b c : Bool) → length (pick a (emptyList ∷ []) (pick b (scan between (chars (body text))) (pick c [] (noDefault ∷ [])))) ≤ 1 + length text
+    choose : (a b c : Bool) → length (pick a (emptyList ∷ []) (pick b (attributeScan between (chars (body text))) (pick c [] (noDefault ∷ [])))) ≤ 1 + length text
     choose true b c = omega arith
     choose false true c =
         let k = scan-few between (chars (body text)) in

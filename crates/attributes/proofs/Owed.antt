@@ -11,14 +11,14 @@ use Rattle.findings.specs.Written.{Wrote, Room, only}
 use Rattle.findings.proofs.Overlay.{Left, left-start, left-wrote, left-end, left-room, room-first}
 use Rattle.attributes.specs.declared.Where.{Where}
 use Rattle.attributes.specs.Attributes.{findingsAt}
-use Rattle.attributes.specs.Inner.{told}
+use Rattle.attributes.specs.Inner.{findingOfKind}
 use Rattle.text.specs.Pick.{pick}
 
 abbrev pub at : Where → List Kind → List Finding
 at w ks = findingsAt (w .start) (w .len) (w .node) (w .owner) ks
 
 -- a finding that the code makes, if it is there, says the first kind
-pub says : (w : Where) (k : Kind) (there : Bool) (ks : List Kind) (f : Finding) → f ≡ told w k (pick (eqb (k .code) 32) (w .owner) 0) → at w (pick there (k ∷ []) [] ++ ks) ≡ only there f ++ at w ks
+pub says : (w : Where) (k : Kind) (there : Bool) (ks : List Kind) (f : Finding) → f ≡ findingOfKind w k (pick (eqb (k .code) 32) (w .owner) 0) → at w (pick there (k ∷ []) [] ++ ks) ≡ only there f ++ at w ks
 unfolding findingsAt
 says w k true ks f e = rw e
 says w k false ks f e = refl
@@ -39,7 +39,7 @@ module _ {w : Where} {fs₀ : List Finding} {l₀ : List ℕ} {c₀ : Counts} {l
   unfolding findingsAt
   owing-end o = left-end (o .left)
 
-  module _ (k : Kind) (there : Bool) (ks : List Kind) (f : Finding) (said : f ≡ told w k (pick (eqb (k .code) 32) (w .owner) 0)) (o : Owing w fs₀ l₀ c₀ (pick there (k ∷ []) [] ++ ks) l c) where
+  module _ (k : Kind) (there : Bool) (ks : List Kind) (f : Finding) (said : f ≡ findingOfKind w k (pick (eqb (k .code) 32) (w .owner) 0)) (o : Owing w fs₀ l₀ c₀ (pick there (k ∷ []) [] ++ ks) l c) where
     here : Left fs₀ l₀ c₀ (only there f ++ at w ks) l c
     here = rw (says w k there ks f said) at (o .left)
 

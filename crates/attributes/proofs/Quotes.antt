@@ -16,8 +16,8 @@ use Rattle.text.specs.Characters.{chars, findByte}
 use Rattle.text.proofs.Rows.{place}
 use Rattle.text.proofs.Find.{find-bytes}
 use Rattle.findings.specs.Finding.{Kind}
-use Rattle.attributes.specs.Attributes.{Mode, between, value, opened, quoted, escaping, go, inQuotes, step, scan, emptyValue, unterminated}
-use Rattle.attributes.specs.Inner.{leads, escapes, closing}
+use Rattle.attributes.specs.Attributes.{Mode, between, value, opened, quoted, escaping, go, inQuotes, scanStep, attributeScan, emptyValue, unterminated}
+use Rattle.attributes.specs.Inner.{leads, escapes, closingPlace}
 use Rattle.attributes.proofs.Scanning.{scan-end, scan-char, scan-byte, same-code, neither, stay, leads-at}
 use Rattle.text.proofs.Bool.{and-left}
 
@@ -31,21 +31,21 @@ special-flat c d h k = high c h ∙ sym (high d k)
     high : (c : ℕ) → 0x80 ≤ c → special c ≡ false
     high c h = rw (ne-eqb c 0x22 (λ e. omega arith), ne-eqb c 0x5C (λ e. omega arith))
 
-quoted-stays : (c : ℕ) → special c ≡ false → step quoted c ≡ go quoted
-unfolding step
+quoted-stays : (c : ℕ) → special c ≡ false → scanStep quoted c ≡ go quoted
+unfolding scanStep
 quoted-stays c h = neither (eqb c 0x22) (eqb c 0x5C) (go between) (go escaping) (go quoted) h
 
 -- other bytes of a value are passed over, one by one
-quoted-bytes : (l : List ℕ) → scan quoted (chars l) ≡ scan quoted (chars (drop (findByte special l) l))
+quoted-bytes : (l : List ℕ) → attributeScan quoted (chars l) ≡ attributeScan quoted (chars (drop (findByte special l) l))
 quoted-bytes l = stay quoted special quoted-stays l ∙ rw (find-bytes special special-flat l)
 
-quoted-plain : (b : ℕ) (s : List ℕ) → special b ≡ false → scan quoted (chars (b ∷ s)) ≡ scan quoted (chars s)
+quoted-plain : (b : ℕ) (s : List ℕ) → special b ≡ false → attributeScan quoted (chars (b ∷ s)) ≡ attributeScan quoted (chars s)
 unfolding findByte
 quoted-plain b s h = quoted-bytes (b ∷ s) ∙ rw h (sym (quoted-bytes s))
 
 -- where no quote stands, all is as in a value
-no-quote : (m : Mode) (b : ℕ) (s : List ℕ) → ((c : ℕ) → eqb c 0x22 ≡ false → step m c ≡ inQuotes c) → eqb b 0x22 ≡ false → scan m (chars (b ∷ s)) ≡ scan quoted (chars (b ∷ s))
-unfolding step
+no-quote : (m : Mode) (b : ℕ) (s : List ℕ) → ((c : ℕ) → eqb c 0x22 ≡ false → scanStep m c ≡ inQuotes c) → eqb b 0x22 ≡ false → attributeScan m (chars (b ∷ s)) ≡ attributeScan quoted (chars (b ∷ s))
+unfolding scanStep
 no-quote m b s alike h =
     let e = same-code 0x22 b s (omega arith) ∙ h in
     rw (scan-char m b s, scan-char quoted b s, alike (decode (b ∷ s) .cp) e, e)
@@ -55,16 +55,16 @@ abbrev inside : Bool → Mode
 inside true = escaping
 inside false = quoted
 
-inside-plain : (e : Bool) (b : ℕ) (s : List ℕ) → eqb b 0x22 ≡ false → scan (inside e) (chars (b ∷ s)) ≡ scan quoted (chars (b ∷ s))
-unfolding step
+inside-plain : (e : Bool) (b : ℕ) (s : List ℕ) → eqb b 0x22 ≡ false → attributeScan (inside e) (chars (b ∷ s)) ≡ attributeScan quoted (chars (b ∷ s))
+unfolding scanStep
 inside-plain true b s h = no-quote escaping b s (λ c e. refl) h
 inside-plain false b s h = refl
 
-inside-byte : (e : Bool) (b : ℕ) (s : List ℕ) → (eqb b 0x22 && not e) ≡ false → scan (inside e) (chars (b ∷ s)) ≡ scan (inside (eqb b 0x5C)) (chars s)
-unfolding step
+inside-byte : (e : Bool) (b : ℕ) (s : List ℕ) → (eqb b 0x22 && not e) ≡ false → attributeScan (inside e) (chars (b ∷ s)) ≡ attributeScan (inside (eqb b 0x5C)) (chars s)
+unfolding scanStep
 inside-byte e b s h = test e (eqb b 0x22) (eqb b 0x5C) refl refl h
   where
-    test : (e t u : Bool) → eqb b 0x22 ≡ t → eqb b 0x5C ≡ u → (t && not e) ≡ false → scan (inside e) (chars (b ∷ s)) ≡ scan (inside u) (chars s)
+    test : (e t u : Bool) → eqb b 0x22 ≡ t → eqb b 0x5C ≡ u → (t && not e) ≡ false → attributeScan (inside e) (chars (b ∷ s)) ≡ attributeScan (inside u) (chars s)
     test true true true q r h = absurd (omega (arith, eqb-true b 0x22 q, eqb-true b 0x5C r))
     test true true false q r h = scan-byte escaping 0x22 (b ∷ s) (omega arith) q
     test false true u q r h = absurd (false≢true (sym h))
@@ -73,69 +73,69 @@ inside-byte e b s h = test e (eqb b 0x22) (eqb b 0x5C) refl refl h
 
 -- what the scan finds of a value that closes after n bytes, or doesn't
 abbrev closedBy : ℕ → List ℕ → List Kind
-closedBy n l = pick (ltb n (length l)) (scan between (chars (drop (suc n) l))) (unterminated ∷ [])
+closedBy n l = pick (ltb n (length l)) (attributeScan between (chars (drop (suc n) l))) (unterminated ∷ [])
 
-closes-here : (b : ℕ) (s : List ℕ) → eqb b 0x22 ≡ true → scan quoted (chars (b ∷ s)) ≡ closedBy 0 (b ∷ s)
-unfolding step
+closes-here : (b : ℕ) (s : List ℕ) → eqb b 0x22 ≡ true → attributeScan quoted (chars (b ∷ s)) ≡ closedBy 0 (b ∷ s)
+unfolding scanStep
 closes-here b s h = scan-byte quoted 0x22 (b ∷ s) (omega arith) h ∙ rw (lt-ltb 0 (length (b ∷ s)) (omega arith))
 
-quoted-closes : (e : Bool) (l : List ℕ) → scan (inside e) (chars l) ≡ closedBy (closing e l) l
-unfolding closing
+quoted-closes : (e : Bool) (l : List ℕ) → attributeScan (inside e) (chars l) ≡ closedBy (closingPlace e l) l
+unfolding closingPlace
 quoted-closes true [] = scan-end escaping
 quoted-closes false [] = scan-end quoted
 quoted-closes e (b ∷ s) = test (eqb b 0x22 && not e) refl (quoted-closes (eqb b 0x5C) s)
   where
-    closes-at : (e : Bool) → (eqb b 0x22 && not e) ≡ true → scan (inside e) (chars (b ∷ s)) ≡ closedBy 0 (b ∷ s)
+    closes-at : (e : Bool) → (eqb b 0x22 && not e) ≡ true → attributeScan (inside e) (chars (b ∷ s)) ≡ closedBy 0 (b ∷ s)
     closes-at true h = absurd (false≢true (sym (and-false (eqb b 0x22)) ∙ h))
     closes-at false h = closes-here b s (and-left (eqb b 0x22) true h)
 
-    test : (t : Bool) → (eqb b 0x22 && not e) ≡ t → scan (inside (eqb b 0x5C)) (chars s) ≡ closedBy (closing (eqb b 0x5C) s) s → scan (inside e) (chars (b ∷ s)) ≡ closedBy (pick t 0 (suc (closing (eqb b 0x5C) s))) (b ∷ s)
+    test : (t : Bool) → (eqb b 0x22 && not e) ≡ t → attributeScan (inside (eqb b 0x5C)) (chars s) ≡ closedBy (closingPlace (eqb b 0x5C) s) s → attributeScan (inside e) (chars (b ∷ s)) ≡ closedBy (pick t 0 (suc (closingPlace (eqb b 0x5C) s))) (b ∷ s)
     test true h ih = closes-at e h
-    test false h ih = inside-byte e b s h ∙ ih ∙ rw (leb·suc-suc (suc (closing (eqb b 0x5C) s)) (length s))
+    test false h ih = inside-byte e b s h ∙ ih ∙ rw (leb·suc-suc (suc (closingPlace (eqb b 0x5C) s)) (length s))
 
-opened-closes : (l : List ℕ) → scan opened (chars l) ≡ pick (ltb (closing false l) (length l)) (pick (eqb (closing false l) 0) (emptyValue ∷ []) [] ++ scan between (chars (drop (suc (closing false l)) l))) (unterminated ∷ [])
-unfolding closing step
+opened-closes : (l : List ℕ) → attributeScan opened (chars l) ≡ pick (ltb (closingPlace false l) (length l)) (pick (eqb (closingPlace false l) 0) (emptyValue ∷ []) [] ++ attributeScan between (chars (drop (suc (closingPlace false l)) l))) (unterminated ∷ [])
+unfolding closingPlace scanStep
 opened-closes [] = scan-end opened
 opened-closes (b ∷ s) = test (eqb b 0x22) refl
   where
-    test : (t : Bool) → eqb b 0x22 ≡ t → scan opened (chars (b ∷ s)) ≡ pick (ltb (closing false (b ∷ s)) (length (b ∷ s))) (pick (eqb (closing false (b ∷ s)) 0) (emptyValue ∷ []) [] ++ scan between (chars (drop (suc (closing false (b ∷ s))) (b ∷ s)))) (unterminated ∷ [])
+    test : (t : Bool) → eqb b 0x22 ≡ t → attributeScan opened (chars (b ∷ s)) ≡ pick (ltb (closingPlace false (b ∷ s)) (length (b ∷ s))) (pick (eqb (closingPlace false (b ∷ s)) 0) (emptyValue ∷ []) [] ++ attributeScan between (chars (drop (suc (closingPlace false (b ∷ s))) (b ∷ s)))) (unterminated ∷ [])
     test true q = scan-byte opened 0x22 (b ∷ s) (omega arith) q ∙ rw (q, lt-ltb 0 (length (b ∷ s)) (omega arith))
-    test false q = no-quote opened b s (λ c e. rw e) q ∙ quoted-closes false (b ∷ s) ∙ rw (q, ne-eqb (suc (closing (eqb b 0x5C) s)) 0 (λ e. omega arith))
+    test false q = no-quote opened b s (λ c e. rw e) q ∙ quoted-closes false (b ∷ s) ∙ rw (q, ne-eqb (suc (closingPlace (eqb b 0x5C) s)) 0 (λ e. omega arith))
 
 same-test : (a n : ℕ) → eqb n 0 ≡ eqb (a + n) a
 same-test a zero = rw (add-zero a) (sym (eq-eqb a a refl))
 same-test a (suc n) = ne-eqb (suc n) 0 (λ e. omega arith) ∙ sym (ne-eqb (a + suc n) a (λ e. omega arith))
 
 -- from the byte after a `=` on: a value whose quote is never closed, and one whose quote is
-module _ (s : List ℕ) (k close : ℕ) (quote : leads 0x22 (drop (k + 1) s) ≡ true) (is : close ≡ k + 2 + closing false (drop (k + 2) s)) where
-  opens : scan value (chars (drop (k + 1) s)) ≡ scan opened (chars (drop (k + 2) s))
-  unfolding step
+module _ (s : List ℕ) (k close : ℕ) (quote : leads 0x22 (drop (k + 1) s) ≡ true) (is : close ≡ k + 2 + closingPlace false (drop (k + 2) s)) where
+  opens : attributeScan value (chars (drop (k + 1) s)) ≡ attributeScan opened (chars (drop (k + 2) s))
+  unfolding scanStep
   opens =
       let e : k + 1 + 1 ≡ k + 2 = omega arith in
       scan-byte value 0x22 (drop (k + 1) s) (omega arith) quote ∙ rw (drop-drop 1 (k + 1) s, e)
 
-  pub unclosed : close ≡ length s → scan value (chars (drop (k + 1) s)) ≡ unterminated ∷ []
+  pub unclosed : close ≡ length s → attributeScan value (chars (drop (k + 1) s)) ≡ unterminated ∷ []
   unclosed h =
       let l = length-drop (k + 2) s in
-      opens ∙ opened-closes (drop (k + 2) s) ∙ rw (le-ltb (closing false (drop (k + 2) s)) (length (drop (k + 2) s)) (omega arith))
+      opens ∙ opened-closes (drop (k + 2) s) ∙ rw (le-ltb (closingPlace false (drop (k + 2) s)) (length (drop (k + 2) s)) (omega arith))
 
-  pub closed : close < length s → scan value (chars (drop (k + 1) s)) ≡ pick (eqb close (k + 2)) (emptyValue ∷ []) [] ++ scan between (chars (drop (close + 1) s))
+  pub closed : close < length s → attributeScan value (chars (drop (k + 1) s)) ≡ pick (eqb close (k + 2)) (emptyValue ∷ []) [] ++ attributeScan between (chars (drop (close + 1) s))
   closed h =
       let l = length-drop (k + 2) s in
-      let d : k + 2 + suc (closing false (drop (k + 2) s)) ≡ close + 1 = omega arith in
+      let d : k + 2 + suc (closingPlace false (drop (k + 2) s)) ≡ close + 1 = omega arith in
       opens ∙ opened-closes (drop (k + 2) s)
-      ∙ rw (lt-ltb (closing false (drop (k + 2) s)) (length (drop (k + 2) s)) (omega arith), drop-drop (suc (closing false (drop (k + 2) s))) (k + 2) s, d, is, same-test (k + 2) (closing false (drop (k + 2) s)))
+      ∙ rw (lt-ltb (closingPlace false (drop (k + 2) s)) (length (drop (k + 2) s)) (omega arith), drop-drop (suc (closingPlace false (drop (k + 2) s))) (k + 2) s, d, is, same-test (k + 2) (closingPlace false (drop (k + 2) s)))
 
 -- how far the search for the closing quote goes at a byte that is none
-jump : (l : List ℕ) (r : ℕ) → r ≡ pick (escapes l) 2 1 → leads 0x22 l ≡ false → 0 < length l → (0 < r) × (r ≤ length l) × (closing false l ≡ r + closing false (drop r l))
-unfolding closing
+jump : (l : List ℕ) (r : ℕ) → r ≡ pick (escapes l) 2 1 → leads 0x22 l ≡ false → 0 < length l → (0 < r) × (r ≤ length l) × (closingPlace false l ≡ r + closingPlace false (drop r l))
+unfolding closingPlace
 jump [] r e h g = absurd (not-suc-le-zero g)
 jump (b ∷ []) r e h g =
     let z : r ≡ 1 = e ∙ rw (and-false (eqb b 0x5C)) in
     rw (z, h) (omega arith, omega arith, omega arith)
 jump (b ∷ x ∷ s) r e h g = rw (e, h) (test (eqb b 0x5C) (eqb x 0x22) refl)
   where
-    test : (t u : Bool) → eqb x 0x22 ≡ u → (0 < pick (t && u) 2 1) × (pick (t && u) 2 1 ≤ suc (suc (length s))) × (suc (pick (u && not t) 0 (suc (closing (eqb x 0x5C) s))) ≡ pick (t && u) 2 1 + closing false (drop (pick (t && u) 2 1) (b ∷ x ∷ s)))
+    test : (t u : Bool) → eqb x 0x22 ≡ u → (0 < pick (t && u) 2 1) × (pick (t && u) 2 1 ≤ suc (suc (length s))) × (suc (pick (u && not t) 0 (suc (closingPlace (eqb x 0x5C) s))) ≡ pick (t && u) 2 1 + closingPlace false (drop (pick (t && u) 2 1) (b ∷ x ∷ s)))
     test true true q =
         let z : x ≡ 0x22 = eqb-true x 0x22 q in
         rw z (omega arith, omega arith, omega arith)
@@ -145,15 +145,15 @@ jump (b ∷ x ∷ s) r e h g = rw (e, h) (test (eqb b 0x5C) (eqb x 0x22) refl)
 
 -- the search, from one place to the next
 module _ (s : List ℕ) (i : ℕ) where
-  pub quote-ends : length s ≤ i → i + closing false (drop i s) ≡ i
-  unfolding closing
+  pub quote-ends : length s ≤ i → i + closingPlace false (drop i s) ≡ i
+  unfolding closingPlace
   quote-ends h = rw (drop-of-length-le s h) (add-zero i)
 
-  pub quote-here : i < length s → getD s i 0 ≡ 0x22 → i + closing false (drop i s) ≡ i
-  unfolding closing
+  pub quote-here : i < length s → getD s i 0 ≡ 0x22 → i + closingPlace false (drop i s) ≡ i
+  unfolding closingPlace
   quote-here h e = rw (place s i h, eq-eqb (getD s i 0) 0x22 e) (add-zero i)
 
-  pub quote-past : (r : ℕ) → i < length s → (getD s i 0 ≡ 0x22 → ⊥) → r ≡ pick (escapes (drop i s)) 2 1 → (0 < r) × (i + r ≤ length s) × (i + closing false (drop i s) ≡ i + r + closing false (drop (i + r) s))
+  pub quote-past : (r : ℕ) → i < length s → (getD s i 0 ≡ 0x22 → ⊥) → r ≡ pick (escapes (drop i s)) 2 1 → (0 < r) × (i + r ≤ length s) × (i + closingPlace false (drop i s) ≡ i + r + closingPlace false (drop (i + r) s))
   quote-past r h q e =
       let l = length-drop i s in
       let j = jump (drop i s) r e (sym (leads-at 0x22 s i h) ∙ ne-eqb (getD s i 0) 0x22 q) (omega arith) in

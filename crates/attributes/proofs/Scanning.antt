@@ -15,15 +15,15 @@ use Rattle.text.specs.Pick.{pick}
 use Rattle.text.specs.declared.Decoded.{Decoded}
 use Rattle.text.specs.Utf8.{decode}
 use Rattle.text.specs.Blank.{blank}
-use Rattle.text.specs.Characters.{chars, before, find}
-use Rattle.text.specs.Words.{solid}
+use Rattle.text.specs.Characters.{chars, bytesBefore, find}
+use Rattle.text.specs.Words.{notBlank}
 use Rattle.text.proofs.Induction.{by-length}
 use Rattle.text.proofs.Rows.{place}
 use Rattle.text.proofs.Decode.{decode-width}
 use Rattle.text.proofs.Chars.{chars-nil, chars-cons}
 use Rattle.text.proofs.Find.{low-decode, high-decode}
 use Rattle.text.proofs.Hits.{find-hits}
-use Rattle.attributes.specs.Attributes.{Mode, between, key, value, unquoted, Step, go, tell, stop, step, ended, resume, scan, keyAlone, unquotedValue}
+use Rattle.attributes.specs.Attributes.{Mode, between, key, value, unquoted, ScanStep, go, tell, stop, scanStep, endOfText, scanOn, attributeScan, keyAlone, unquotedValue}
 use Rattle.attributes.specs.Inner.{leads, endsKey}
 
 -- the byte at a place
@@ -59,31 +59,31 @@ same-code a b s h = test (decLt b 0x80)
         let d = high-decode b s (omega arith) in
         ne-eqb (decode (b ∷ s) .cp) a (λ e. omega arith) ∙ sym (ne-eqb b a (λ e. omega arith))
 
-pub scan-end : (m : Mode) → scan m (chars []) ≡ ended m
-unfolding scan
+pub scan-end : (m : Mode) → attributeScan m (chars []) ≡ endOfText m
+unfolding attributeScan
 scan-end m = rw chars-nil
 
-pub scan-char : (m : Mode) (b : ℕ) (s : List ℕ) → scan m (chars (b ∷ s)) ≡ resume (step m (decode (b ∷ s) .cp)) (λ n. scan n (chars (drop (decode (b ∷ s) .width) (b ∷ s))))
-unfolding scan
+pub scan-char : (m : Mode) (b : ℕ) (s : List ℕ) → attributeScan m (chars (b ∷ s)) ≡ scanOn (scanStep m (decode (b ∷ s) .cp)) (λ n. attributeScan n (chars (drop (decode (b ∷ s) .width) (b ∷ s))))
+unfolding attributeScan
 scan-char m b s = rw (chars-cons (b ∷ s) (decode (b ∷ s) .width) (omega arith) refl)
 
-pub scan-byte : (m : Mode) (b : ℕ) (l : List ℕ) → b < 0x80 → leads b l ≡ true → scan m (chars l) ≡ resume (step m b) (λ n. scan n (chars (drop 1 l)))
+pub scan-byte : (m : Mode) (b : ℕ) (l : List ℕ) → b < 0x80 → leads b l ≡ true → attributeScan m (chars l) ≡ scanOn (scanStep m b) (λ n. attributeScan n (chars (drop 1 l)))
 scan-byte m b [] h e = absurd (false≢true e)
 scan-byte m b (x ∷ s) h e =
     let z : x ≡ b = eqb-true x b e in
     scan-char m x s ∙ rw (z, low-decode b s h)
 
 -- none of two tests passes
-pub neither : (t u : Bool) (a b m : Step) → (t || u) ≡ false → pick t a (pick u b m) ≡ m
+pub neither : (t u : Bool) (a b m : ScanStep) → (t || u) ≡ false → pick t a (pick u b m) ≡ m
 neither true u a b m h = absurd (false≢true (sym h))
 neither false true a b m h = absurd (false≢true (sym h))
 neither false false a b m h = refl
 
 -- characters that leave the scan as it is are passed over
-module _ (m : Mode) (p : ℕ → Bool) (stays : (c : ℕ) → p c ≡ false → step m c ≡ go m) where
-  stay-step : (l : List ℕ) → ((k : List ℕ) → length k < length l → scan m (chars k) ≡ scan m (chars (drop (find p k) k))) → scan m (chars l) ≡ scan m (chars (drop (find p l) l))
-  unfolding before
-  stay-step [] ih = ap (λ (l : List ℕ). scan m (chars l)) (sym (drop-nil (find p [])))
+module _ (m : Mode) (p : ℕ → Bool) (stays : (c : ℕ) → p c ≡ false → scanStep m c ≡ go m) where
+  stay-step : (l : List ℕ) → ((k : List ℕ) → length k < length l → attributeScan m (chars k) ≡ attributeScan m (chars (drop (find p k) k))) → attributeScan m (chars l) ≡ attributeScan m (chars (drop (find p l) l))
+  unfolding bytesBefore
+  stay-step [] ih = ap (λ (l : List ℕ). attributeScan m (chars l)) (sym (drop-nil (find p [])))
   stay-step (b ∷ s) ih =
       let l = b ∷ s in
       let w = decode l .width in
@@ -91,79 +91,79 @@ module _ (m : Mode) (p : ℕ → Bool) (stays : (c : ℕ) → p c ≡ false → 
       let e : find p l ≡ pick (p (decode l .cp)) 0 (w + find p (drop w l)) = rw (chars-cons l w (omega arith) refl) in
       rw e (test w (p (decode l .cp)) refl refl (d .0))
     where
-      test : (w : ℕ) (t : Bool) → decode (b ∷ s) .width ≡ w → p (decode (b ∷ s) .cp) ≡ t → 0 < w → scan m (chars (b ∷ s)) ≡ scan m (chars (drop (pick t 0 (w + find p (drop w (b ∷ s)))) (b ∷ s)))
+      test : (w : ℕ) (t : Bool) → decode (b ∷ s) .width ≡ w → p (decode (b ∷ s) .cp) ≡ t → 0 < w → attributeScan m (chars (b ∷ s)) ≡ attributeScan m (chars (drop (pick t 0 (w + find p (drop w (b ∷ s)))) (b ∷ s)))
       test w true z y d = refl
       test w false z y d =
           scan-char m b s ∙ rw (stays _ y, z) (ih (drop w (b ∷ s)) (omega (arith, length-drop w (b ∷ s))) ∙ rw (drop-drop (find p (drop w (b ∷ s))) w (b ∷ s)))
 
-  pub stay : (l : List ℕ) → scan m (chars l) ≡ scan m (chars (drop (find p l) l))
-  stay l = by-length (λ (l : List ℕ). scan m (chars l) ≡ scan m (chars (drop (find p l) l))) stay-step l
+  pub stay : (l : List ℕ) → attributeScan m (chars l) ≡ attributeScan m (chars (drop (find p l) l))
+  stay l = by-length (λ (l : List ℕ). attributeScan m (chars l) ≡ attributeScan m (chars (drop (find p l) l))) stay-step l
 
 -- the blanks before a key
-between-stays : (c : ℕ) → solid c ≡ false → step between c ≡ go between
-unfolding step
+between-stays : (c : ℕ) → notBlank c ≡ false → scanStep between c ≡ go between
+unfolding scanStep
 between-stays c h = test (blank c) h
   where
     test : (t : Bool) → not t ≡ false → pick t (go between) (pick (eqb c 0x3D) (go value) (go key)) ≡ go between
     test true h = refl
     test false h = absurd (false≢true (sym h))
 
-pub next-key : (s : List ℕ) (j i : ℕ) → i ≡ j + find solid (drop j s) → scan between (chars (drop j s)) ≡ scan between (chars (drop i s))
-next-key s j i e = stay between solid between-stays (drop j s) ∙ rw (drop-drop (find solid (drop j s)) j s, e)
+pub next-key : (s : List ℕ) (j i : ℕ) → i ≡ j + find notBlank (drop j s) → attributeScan between (chars (drop j s)) ≡ attributeScan between (chars (drop i s))
+next-key s j i e = stay between notBlank between-stays (drop j s) ∙ rw (drop-drop (find notBlank (drop j s)) j s, e)
 
-pub next-first : (s : List ℕ) (j i : ℕ) → i ≡ j + find solid (drop j s) → First solid (drop i s)
-next-first s j i e = rw (e, ← drop-drop (find solid (drop j s)) j s) (first-hit solid (drop j s))
+pub next-first : (s : List ℕ) (j i : ℕ) → i ≡ j + find notBlank (drop j s) → First notBlank (drop i s)
+next-first s j i e = rw (e, ← drop-drop (find notBlank (drop j s)) j s) (first-hit notBlank (drop j s))
 
 -- a key
-key-starts : (l : List ℕ) → First solid l → 0 < length l → scan between (chars l) ≡ scan key (chars l)
-unfolding step
+key-starts : (l : List ℕ) → First notBlank l → 0 < length l → attributeScan between (chars l) ≡ attributeScan key (chars l)
+unfolding scanStep
 key-starts [] f h = absurd (not-suc-le-zero h)
 key-starts (b ∷ s) f h = rw (scan-char between b s, scan-char key b s, not-true (blank (decode (b ∷ s) .cp)) (f h))
 
-key-stays : (c : ℕ) → endsKey c ≡ false → step key c ≡ go key
-unfolding step
+key-stays : (c : ℕ) → endsKey c ≡ false → scanStep key c ≡ go key
+unfolding scanStep
 key-stays c h = neither (eqb c 0x3D) (blank c) (go value) (stop keyAlone) (go key) h
 
-alone : (l : List ℕ) → First endsKey l → leads 0x3D l ≡ false → scan key (chars l) ≡ keyAlone ∷ []
-unfolding step
+alone : (l : List ℕ) → First endsKey l → leads 0x3D l ≡ false → attributeScan key (chars l) ≡ keyAlone ∷ []
+unfolding scanStep
 alone [] f h = scan-end key
 alone (b ∷ s) f h =
     let e = same-code 0x3D b s (omega arith) ∙ h in
     let y : blank (decode (b ∷ s) .cp) ≡ true = rw e at (f (omega arith)) in
     scan-char key b s ∙ rw (e, y)
 
-module _ (s : List ℕ) (i k : ℕ) (fresh : First solid (drop i s)) (some : i < length s) (is : k ≡ i + find endsKey (drop i s)) where
-  to-end : scan between (chars (drop i s)) ≡ scan key (chars (drop k s))
+module _ (s : List ℕ) (i k : ℕ) (fresh : First notBlank (drop i s)) (some : i < length s) (is : k ≡ i + find endsKey (drop i s)) where
+  to-end : attributeScan between (chars (drop i s)) ≡ attributeScan key (chars (drop k s))
   to-end = key-starts (drop i s) fresh (omega (arith, length-drop i s)) ∙ stay key endsKey key-stays (drop i s) ∙ rw (drop-drop (find endsKey (drop i s)) i s, is)
 
   end-hit : First endsKey (drop k s)
   end-hit = rw (is, ← drop-drop (find endsKey (drop i s)) i s) (first-hit endsKey (drop i s))
 
-  pub key-alone : leads 0x3D (drop k s) ≡ false → scan between (chars (drop i s)) ≡ keyAlone ∷ []
+  pub key-alone : leads 0x3D (drop k s) ≡ false → attributeScan between (chars (drop i s)) ≡ keyAlone ∷ []
   key-alone h = to-end ∙ alone (drop k s) end-hit h
 
-  pub key-valued : leads 0x3D (drop k s) ≡ true → scan between (chars (drop i s)) ≡ scan value (chars (drop (k + 1) s))
-  unfolding step
+  pub key-valued : leads 0x3D (drop k s) ≡ true → attributeScan between (chars (drop i s)) ≡ attributeScan value (chars (drop (k + 1) s))
+  unfolding scanStep
   key-valued h = to-end ∙ scan-byte key 0x3D (drop k s) (omega arith) h ∙ rw (drop-drop 1 k s)
 
 -- a value without quotes
-unquoted-stays : (c : ℕ) → blank c ≡ false → step unquoted c ≡ go unquoted
-unfolding step
+unquoted-stays : (c : ℕ) → blank c ≡ false → scanStep unquoted c ≡ go unquoted
+unfolding scanStep
 unquoted-stays c h = rw h
 
-pub unquoted-starts : (l : List ℕ) → leads 0x22 l ≡ false → scan value (chars l) ≡ unquotedValue ∷ scan unquoted (chars l)
-unfolding step
+pub unquoted-starts : (l : List ℕ) → leads 0x22 l ≡ false → attributeScan value (chars l) ≡ unquotedValue ∷ attributeScan unquoted (chars l)
+unfolding scanStep
 unquoted-starts [] h = scan-end value ∙ ap (unquotedValue ∷_) (sym (scan-end unquoted))
 unquoted-starts (b ∷ s) h = scan-char value b s ∙ rw (same-code 0x22 b s (omega arith), h, scan-char unquoted b s) (test (blank (decode (b ∷ s) .cp)))
   where
-    test : (t : Bool) → resume (pick t (tell unquotedValue between) (tell unquotedValue unquoted)) (λ n. scan n (chars (drop (decode (b ∷ s) .width) (b ∷ s)))) ≡ unquotedValue ∷ resume (pick t (go between) (go unquoted)) (λ n. scan n (chars (drop (decode (b ∷ s) .width) (b ∷ s))))
+    test : (t : Bool) → scanOn (pick t (tell unquotedValue between) (tell unquotedValue unquoted)) (λ n. attributeScan n (chars (drop (decode (b ∷ s) .width) (b ∷ s)))) ≡ unquotedValue ∷ scanOn (pick t (go between) (go unquoted)) (λ n. attributeScan n (chars (drop (decode (b ∷ s) .width) (b ∷ s))))
     test true = refl
     test false = refl
 
-unquoted-ends : (l : List ℕ) → First blank l → scan unquoted (chars l) ≡ scan between (chars l)
-unfolding step
+unquoted-ends : (l : List ℕ) → First blank l → attributeScan unquoted (chars l) ≡ attributeScan between (chars l)
+unfolding scanStep
 unquoted-ends [] f = scan-end unquoted ∙ sym (scan-end between)
 unquoted-ends (b ∷ s) f = rw (scan-char unquoted b s, scan-char between b s, f (omega arith))
 
-pub unquoted-next : (s : List ℕ) (m j : ℕ) → j ≡ m + find blank (drop m s) → scan unquoted (chars (drop m s)) ≡ scan between (chars (drop j s))
+pub unquoted-next : (s : List ℕ) (m j : ℕ) → j ≡ m + find blank (drop m s) → attributeScan unquoted (chars (drop m s)) ≡ attributeScan between (chars (drop j s))
 unquoted-next s m j e = stay unquoted blank unquoted-stays (drop m s) ∙ unquoted-ends _ (first-hit blank (drop m s)) ∙ rw (drop-drop (find blank (drop m s)) m s, ← e)

@@ -21,7 +21,7 @@ use Rattle.findings.specs.Finding.{Finding}
 use Rattle.findings.specs.declared.Counts.{Counts}
 use Rattle.findings.specs.Written.{Wrote, Room}
 use Rattle.findings.proofs.Overlay.{Left, left-start, left-wrote, left-end, left-room, room-first}
-use Rattle.attributes.specs.Attributes.{emptyList, noDefault, between, scan, body, hasDefault, attributeKinds, findingsAt, attributesFindings}
+use Rattle.attributes.specs.Attributes.{emptyList, noDefault, between, attributeScan, body, hasDefault, attributeKinds, findingsAt, attributesFindings}
 use Rattle.attributes.specs.Inner.{ofNode}
 
 module _ (marker text b : List ℕ) (is : b ≡ body text) where
@@ -30,7 +30,7 @@ module _ (marker text b : List ℕ) (is : b ≡ body text) where
   kinds-none h = rw (← is, eq-eqb (length b) 0 h)
 
   module _ (some : length b ≡ 0 → ⊥) (k : ℕ) (at : k ≡ findByte (eqb 0x3D) b) where
-    pub kinds-scan : k < length b → attributeKinds marker text ≡ scan between (chars b)
+    pub kinds-scan : k < length b → attributeKinds marker text ≡ attributeScan between (chars b)
     unfolding attributeKinds
     kinds-scan h = rw (← is, ne-eqb (length b) 0 some, ← at, lt-ltb k (length b) h)
 

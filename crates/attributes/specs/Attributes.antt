@@ -52,43 +52,43 @@ pub data Mode : Type 0 where
   unquoted : Mode
 
 -- what a character does: the scan goes on, goes on with a finding, or ends with one
-pub data Step : Type 0 where
-  go : Mode → Step
-  tell : Kind → Mode → Step
-  stop : Kind → Step
+pub data ScanStep : Type 0 where
+  go : Mode → ScanStep
+  tell : Kind → Mode → ScanStep
+  stop : Kind → ScanStep
 
 -- 0x3D is `=`, 0x22 is `"`, 0x5C is `\`. A quote after a backslash is part of the value
-abbrev pub inQuotes : ℕ → Step
+abbrev pub inQuotes : ℕ → ScanStep
 inQuotes c = pick (eqb c 0x5C) (go escaping) (go quoted)
 
-unfoldable pub step : Mode → ℕ → Step
-step between c = pick (blank c) (go between) (pick (eqb c 0x3D) (go value) (go key))
-step key c = pick (eqb c 0x3D) (go value) (pick (blank c) (stop keyAlone) (go key))
-step value c = pick (eqb c 0x22) (go opened) (pick (blank c) (tell unquotedValue between) (tell unquotedValue unquoted))
-step opened c = pick (eqb c 0x22) (tell emptyValue between) (inQuotes c)
-step quoted c = pick (eqb c 0x22) (go between) (inQuotes c)
-step escaping c = inQuotes c
-step unquoted c = pick (blank c) (go between) (go unquoted)
+unfoldable pub scanStep : Mode → ℕ → ScanStep
+scanStep between c = pick (blank c) (go between) (pick (eqb c 0x3D) (go value) (go key))
+scanStep key c = pick (eqb c 0x3D) (go value) (pick (blank c) (stop keyAlone) (go key))
+scanStep value c = pick (eqb c 0x22) (go opened) (pick (blank c) (tell unquotedValue between) (tell unquotedValue unquoted))
+scanStep opened c = pick (eqb c 0x22) (tell emptyValue between) (inQuotes c)
+scanStep quoted c = pick (eqb c 0x22) (go between) (inQuotes c)
+scanStep escaping c = inQuotes c
+scanStep unquoted c = pick (blank c) (go between) (go unquoted)
 
 -- the end of the text
-abbrev pub ended : Mode → List Kind
-ended between = []
-ended key = keyAlone ∷ []
-ended value = unquotedValue ∷ []
-ended opened = unterminated ∷ []
-ended quoted = unterminated ∷ []
-ended escaping = unterminated ∷ []
-ended unquoted = []
+abbrev pub endOfText : Mode → List Kind
+endOfText between = []
+endOfText key = keyAlone ∷ []
+endOfText value = unquotedValue ∷ []
+endOfText opened = unterminated ∷ []
+endOfText quoted = unterminated ∷ []
+endOfText escaping = unterminated ∷ []
+endOfText unquoted = []
 
-abbrev pub resume : Step → (Mode → List Kind) → List Kind
-resume (go m) rest = rest m
-resume (tell k m) rest = k ∷ rest m
-resume (stop k) rest = k ∷ []
+abbrev pub scanOn : ScanStep → (Mode → List Kind) → List Kind
+scanOn (go m) rest = rest m
+scanOn (tell k m) rest = k ∷ rest m
+scanOn (stop k) rest = k ∷ []
 
 -- the findings of a list of attributes, character by character
-unfoldable pub scan : Mode → List Decoded → List Kind
-scan m [] = ended m
-scan m (c ∷ cs) = resume (step m (c .cp)) (λ n. scan n cs)
+unfoldable pub attributeScan : Mode → List Decoded → List Kind
+attributeScan m [] = endOfText m
+attributeScan m (c ∷ cs) = scanOn (scanStep m (c .cp)) (λ n. attributeScan n cs)
 
 -- what stands after one `|`
 abbrev pub afterBar : List ℕ → List ℕ
@@ -115,7 +115,7 @@ holdsEquals s = ltb (findByte (eqb 0x3D) s) (length s)
 unfoldable pub attributeKinds : List ℕ → List ℕ → List Kind
 attributeKinds marker text =
     pick (eqb (length (body text)) 0) (emptyList ∷ [])
-    (pick (holdsEquals (body text)) (scan between (chars (body text)))
+    (pick (holdsEquals (body text)) (attributeScan between (chars (body text)))
     (pick (hasDefault (defaultOf marker)) [] (noDefault ∷ [])))
 
 -- "DefaultAttributeNotDefined its owner's node; else 0"

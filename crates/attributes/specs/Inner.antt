@@ -25,13 +25,13 @@ abbrev pub escapes : List ℕ → Bool
 escapes s = leads 0x5C s && leads 0x22 (drop 1 s)
 
 -- how many bytes of a value stand before the quote that closes it, all where none does. The byte before them is a backslash, or isn't
-unfoldable pub closing : Bool → List ℕ → ℕ
-closing escaped [] = 0
-closing escaped (b ∷ s) = pick (eqb b 0x22 && not escaped) 0 (suc (closing (eqb b 0x5C) s))
+unfoldable pub closingPlace : Bool → List ℕ → ℕ
+closingPlace escaped [] = 0
+closingPlace escaped (b ∷ s) = pick (eqb b 0x22 && not escaped) 0 (suc (closingPlace (eqb b 0x5C) s))
 
 -- the finding of an Attribute, with its first number
-abbrev pub told : Where → Kind → ℕ → Finding
-told w k first =
+abbrev pub findingOfKind : Where → Kind → ℕ → Finding
+findingOfKind w k first =
     record {
       severity = k .severity;
       code = k .code;

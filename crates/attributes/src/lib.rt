@@ -18,8 +18,8 @@ ghost use Rattle.cursor.specs.Names.{nameOf};
 ghost use Rattle.cursor.specs.Inner.{Run, Spanned};
 ghost use Rattle.findings.specs.Finding.{findingOf, severityOf};
 ghost use Rattle.findings.specs.Written.{Wrote, Room};
-ghost use Rattle.attributes.specs.Attributes.{hasDefault, kind, scan, between, afterBar, attributeKinds, findingsAt, attributesFindings};
-ghost use Rattle.attributes.specs.Inner.{leads, endsKey, escapes, closing, told, ofNode};
+ghost use Rattle.attributes.specs.Attributes.{hasDefault, kind, attributeScan, between, afterBar, attributeKinds, findingsAt, attributesFindings};
+ghost use Rattle.attributes.specs.Inner.{leads, endsKey, escapes, closingPlace, findingOfKind, ofNode};
 ghost use Rattle.text.specs.Pick.{pick};
 
 // The Attribute node that is looked at, and the node that owns it.
@@ -98,7 +98,7 @@ fn passed(s: &[u8], k: usize) -> usize
 // The place of the quote that closes a value, from a place in it on, or the length.
 fn closing_quote(s: &[u8], from: usize) -> usize
     requires { ⌜ from ≤ length (now s) ⌝ }
-    ensures { λ r. ⌜ Ended (now (s .entry)) from (closing false (drop from (now (s .entry)))) r ⌝ }
+    ensures { λ r. ⌜ Ended (now (s .entry)) from (closingPlace false (drop from (now (s .entry)))) r ⌝ }
 {
     let mut i = from;
     let k = loop {
@@ -114,7 +114,7 @@ fn closing_quote(s: &[u8], from: usize) -> usize
 }
 
 fn finding(w: Where, severity: Severity, code: u64, form: u64, first: u64) -> Finding
-    ensures { λ r. ⌜ findingOf r ≡ told w (kind (severityOf severity) code form) first ⌝ }
+    ensures { λ r. ⌜ findingOf r ≡ findingOfKind w (kind (severityOf severity) code form) first ⌝ }
 {
     Finding {
         severity: severity,
@@ -130,8 +130,8 @@ fn finding(w: Where, severity: Severity, code: u64, form: u64, first: u64) -> Fi
 
 // The findings of a list of attributes.
 fn scan_list(body: &[u8], w: Where, list: &mut [u64], counts: Counts) -> Counts
-    requires { ⌜ Room counts (findingsAt (w .start) (w .len) (w .node) (w .owner) (scan between (chars (now body)))) ⌝ }
-    ensures { λ r. ⌜ Wrote (findingsAt (w .start) (w .len) (w .node) (w .owner) (scan between (chars (now (body .entry))))) (now (list .entry)) counts (now (list .exit)) r ⌝ }
+    requires { ⌜ Room counts (findingsAt (w .start) (w .len) (w .node) (w .owner) (attributeScan between (chars (now body)))) ⌝ }
+    ensures { λ r. ⌜ Wrote (findingsAt (w .start) (w .len) (w .node) (w .owner) (attributeScan between (chars (now (body .entry))))) (now (list .entry)) counts (now (list .exit)) r ⌝ }
 {
     let mut c = counts;
     let mut i = text::find_from(body, 0, false);

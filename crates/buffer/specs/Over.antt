@@ -17,5 +17,5 @@ pub record Put (s l : List ℕ) (at : ℕ) (l′ : List ℕ) (r : ℕ) : Type 0 
   pub end : r ≡ at + length s
 
 -- a place, and bytes, whose sum stays in 64 bits
-abbrev pub limit : ℕ
-limit = 4611686018427387904
+abbrev pub placeLimit : ℕ
+placeLimit = 4611686018427387904

@@ -2,7 +2,7 @@
 ghost use mathlib.Core.Path.{_≡_};
 ghost use Prim.Native.Nat.{_-_, _≤_, min};
 ghost use lib.ListN.{length};
-ghost use Rattle.buffer.specs.Over.{Put, limit};
+ghost use Rattle.buffer.specs.Over.{Put, placeLimit};
 ghost use Rattle.buffer.specs.Decimal.{decimal};
 
 // How many of some bytes have room in a list from a place on.
@@ -20,7 +20,7 @@ pub fn fitting(bytes: usize, list: usize, at: usize) -> usize
 
 // Writes the bytes, and gives the place behind them, whether or not they had room. How many have room is known before the loop, so that it has one test and writes many bytes in one step.
 pub fn put(out: &mut [u8], at: usize, s: &[u8]) -> usize
-    requires { ⌜ (at ≤ limit) × (length (now s) ≤ limit) ⌝ }
+    requires { ⌜ (at ≤ placeLimit) × (length (now s) ≤ placeLimit) ⌝ }
     ensures { λ r. ⌜ Put (now (s .entry)) (now (out .entry)) at (now (out .exit)) r ⌝ }
 {
     let n = fitting(s.len(), out.len(), at);
@@ -34,7 +34,7 @@ pub fn put(out: &mut [u8], at: usize, s: &[u8]) -> usize
 
 // Writes a number in decimal digits.
 pub fn put_decimal(out: &mut [u8], at: usize, n: u64) -> usize
-    requires { ⌜ at ≤ limit ⌝ }
+    requires { ⌜ at ≤ placeLimit ⌝ }
     ensures { λ r. ⌜ Put (decimal n) (now (out .entry)) at (now (out .exit)) r ⌝ }
 {
     let mut digits = [0u8; 20];

@@ -2,4 +2,4 @@ pub mod Givens
 pub mod Seen
 pub mod Positions
 pub mod Passing
-pub mod Told
+pub mod Checked

@@ -22,8 +22,8 @@ use Rattle.numbers.specs.declared.VersePart.{VersePart}
 use Rattle.numbers.specs.declared.Suffix.the-variants as suffix
 use Rattle.definition.specs.State.{WalkState, firstVerse}
 use Rattle.definition.specs.State as state
-use Rattle.definition.specs.Checks.{given, chapterChecks, verseChecks, afterChapter, afterVerse, nextBy, leafTold}
-use Rattle.state.specs.Running.{stateOf, countsOf, withCounts, Sane}
+use Rattle.definition.specs.Checks.{given, chapterChecks, verseChecks, afterChapter, afterVerse, expectedAfter, leafChecked}
+use Rattle.state.specs.Running.{stateOf, countsOf, withCounts, VerseBounded}
 use Rattle.state.specs.declared.State.{State}
 use Rattle.chapter_verse.specs.Inner.{PassedChapter, PassedVerse}
 use Rattle.chapter_verse.specs.Leaves.{LeafVisited}
@@ -74,7 +74,7 @@ chapter-passed t seen i n r e h =
           λ s opens.
           ap (chapterState (stateOf s t seen opens r) n) (latest-push seen (r .«seen_len») n h)
           ∙ ap (λ (m : ℕ). chapterState (stateOf s t seen opens r) m (m ∷ stateOf s t seen opens r .seen)) e;
-      sane = omega arith;
+      bounded = omega arith;
       one-seen = refl;
       opens = refl;
       anchor = refl;
@@ -116,14 +116,14 @@ verseState st warned v =
     }
 
 module _ (e : Option Entry) (s t : List ℕ) (o : state.WalkContext) (i : ℕ) (r : State) where
-  pub verse-passed : (label : List ℕ) (v : VersePart) (warned : Bool) → label ≡ labelOf e (cut (span t i) s) → (positionOf v ≡ nextBy (versePart label) label (positionOf (r .«expected_verse»))) × (v .num ≤ 4294967296) → warned ≡ (r .«verse_outside_warned» || not (o .inBodyPara)) → PassedVerse e s t o i r (verseRecord v warned r)
+  pub verse-passed : (label : List ℕ) (v : VersePart) (warned : Bool) → label ≡ labelOf e (cut (span t i) s) → (positionOf v ≡ expectedAfter (versePart label) label (positionOf (r .«expected_verse»))) × (v .num ≤ 4294967296) → warned ≡ (r .«verse_outside_warned» || not (o .inBodyPara)) → PassedVerse e s t o i r (verseRecord v warned r)
   unfolding afterVerse
   verse-passed label v warned is-label is-next is-warned =
       record {
         state =
             λ seen opens.
-            ap₂ (verseState (stateOf s t seen opens r)) is-warned (is-next .0 ∙ ap (λ (x : List ℕ). nextBy (versePart x) x (positionOf (r .«expected_verse»))) is-label);
-        sane = is-next .1;
+            ap₂ (verseState (stateOf s t seen opens r)) is-warned (is-next .0 ∙ ap (λ (x : List ℕ). expectedAfter (versePart x) x (positionOf (r .«expected_verse»))) is-label);
+        bounded = is-next .1;
         same-seen = refl;
         opens = refl;
         anchor = refl;
@@ -133,25 +133,25 @@ module _ (e : Option Entry) (s t : List ℕ) (o : state.WalkContext) (i : ℕ) (
 module _ (table s t : List ℕ) (o : state.WalkContext) (i k : ℕ) (is-kind : k ≡ kindAt t i) where
   module _ (e : Option Entry) (is-entry : e ≡ infoAt table t i) where
     module _ (chapter : k ≡ 3) where
-      pub told-chapter : (st : WalkState) → leafTold table o st (nodeAt s t i) .findings ≡ given (chapterChecks e st (nodeAt s t i))
-      unfolding leafTold infoAt
-      told-chapter st = rw (eq-eqb (kindAt t i) chapterKind (sym is-kind ∙ chapter), is-entry) refl
+      pub checked-chapter : (st : WalkState) → leafChecked table o st (nodeAt s t i) .findings ≡ given (chapterChecks e st (nodeAt s t i))
+      unfolding leafChecked infoAt
+      checked-chapter st = rw (eq-eqb (kindAt t i) chapterKind (sym is-kind ∙ chapter), is-entry) refl
 
-      state-chapter : (st : WalkState) → leafTold table o st (nodeAt s t i) .state ≡ afterChapter st (nodeAt s t i)
-      unfolding leafTold
+      state-chapter : (st : WalkState) → leafChecked table o st (nodeAt s t i) .state ≡ afterChapter st (nodeAt s t i)
+      unfolding leafChecked
       state-chapter st = rw (eq-eqb (kindAt t i) chapterKind (sym is-kind ∙ chapter)) refl
 
-      pub room-chapter : (st : WalkState) (c : Counts) → Room c (leafTold table o st (nodeAt s t i) .findings) → Room c (given (chapterChecks e st (nodeAt s t i)))
-      room-chapter st c h = rw (told-chapter st) at h
+      pub room-chapter : (st : WalkState) (c : Counts) → Room c (leafChecked table o st (nodeAt s t i) .findings) → Room c (given (chapterChecks e st (nodeAt s t i)))
+      room-chapter st c h = rw (checked-chapter st) at h
 
       pub visited-chapter : {seen l seen′ l′ : List ℕ} {r q : State} {c : Counts} → Wrote (given (chapterChecks e (stateOf s t seen [] r) (nodeAt s t i))) l (countsOf r) l′ c → PassedChapter t i seen r seen′ q → LeafVisited table s t o i seen l r seen′ l′ (withCounts q c)
       unfolding afterChapter
       visited-chapter {seen} {l} {seen′} {l′} {r} {q} {c} w p =
           let v : q .verses ≡ r .verses = ap (λ (x : WalkState). x .verses) (p .state [] []) in
           record {
-            wrote = rw (told-chapter (stateOf s t seen [] r)) w;
+            wrote = rw (checked-chapter (stateOf s t seen [] r)) w;
             state = λ opens. p .state s opens ∙ sym (state-chapter (stateOf s t seen opens r));
-            sane = p .sane;
+            bounded = p .bounded;
             seen-few = omega (arith, p .one-seen);
             verses-few = omega arith;
             opens = p .opens;
@@ -162,39 +162,39 @@ module _ (table s t : List ℕ) (o : state.WalkContext) (i k : ℕ) (is-kind : k
       is-four : eqb (kindAt t i) verseKind ≡ true
       is-four = rw (← is-kind) (rw (ne-eqb k 3 no-chapter) at number)
 
-      pub told-verse : (st : WalkState) → leafTold table o st (nodeAt s t i) .findings ≡ given (verseChecks e o st (nodeAt s t i))
-      unfolding leafTold infoAt
-      told-verse st = rw (ne-eqb (kindAt t i) chapterKind (λ z. no-chapter (is-kind ∙ z)), is-four, is-entry) refl
+      pub checked-verse : (st : WalkState) → leafChecked table o st (nodeAt s t i) .findings ≡ given (verseChecks e o st (nodeAt s t i))
+      unfolding leafChecked infoAt
+      checked-verse st = rw (ne-eqb (kindAt t i) chapterKind (λ z. no-chapter (is-kind ∙ z)), is-four, is-entry) refl
 
-      state-verse : (st : WalkState) → leafTold table o st (nodeAt s t i) .state ≡ afterVerse e o st (nodeAt s t i)
-      unfolding leafTold infoAt
+      state-verse : (st : WalkState) → leafChecked table o st (nodeAt s t i) .state ≡ afterVerse e o st (nodeAt s t i)
+      unfolding leafChecked infoAt
       state-verse st = rw (ne-eqb (kindAt t i) chapterKind (λ z. no-chapter (is-kind ∙ z)), is-four, is-entry) refl
 
-      pub room-verse : (st : WalkState) (c : Counts) → Room c (leafTold table o st (nodeAt s t i) .findings) → Room c (given (verseChecks e o st (nodeAt s t i)))
-      room-verse st c h = rw (told-verse st) at h
+      pub room-verse : (st : WalkState) (c : Counts) → Room c (leafChecked table o st (nodeAt s t i) .findings) → Room c (given (verseChecks e o st (nodeAt s t i)))
+      room-verse st c h = rw (checked-verse st) at h
 
       pub visited-verse : {seen l l′ : List ℕ} {r q : State} {c : Counts} → Wrote (given (verseChecks e o (stateOf s t seen [] r) (nodeAt s t i))) l (countsOf r) l′ c → PassedVerse e s t o i r q → LeafVisited table s t o i seen l r seen l′ (withCounts q c)
       unfolding afterVerse
       visited-verse {seen} {l} {l′} {r} {q} {c} w p =
           let v : q .verses ≡ r .verses + 1 = ap (λ (x : WalkState). x .verses) (p .state [] []) in
           record {
-            wrote = rw (told-verse (stateOf s t seen [] r)) w;
+            wrote = rw (checked-verse (stateOf s t seen [] r)) w;
             state = λ opens. p .state seen opens ∙ sym (state-verse (stateOf s t seen opens r));
-            sane = p .sane;
+            bounded = p .bounded;
             seen-few = omega (arith, p .same-seen);
             verses-few = omega arith;
             opens = p .opens;
             anchor = p .anchor;
           }
 
-  pub visited-other : numbered k ≡ false → (seen l : List ℕ) (r : State) → Sane r → LeafVisited table s t o i seen l r seen l r
-  unfolding leafTold given
+  pub visited-other : numbered k ≡ false → (seen l : List ℕ) (r : State) → VerseBounded r → LeafVisited table s t o i seen l r seen l r
+  unfolding leafChecked given
   visited-other no-number seen l r h =
       let z = or-parts (eqb (kindAt t i) chapterKind) (eqb (kindAt t i) verseKind) (ap numbered (sym is-kind) ∙ no-number) in
       record {
         wrote = rw (z .0, z .1) (wrote-none l (countsOf r));
         state = λ opens. rw (z .0, z .1) refl;
-        sane = h;
+        bounded = h;
         seen-few = omega arith;
         verses-few = omega arith;
         opens = refl;

@@ -15,7 +15,7 @@ use Rattle.numbers.specs.declared.VersePart.{VersePart}
 use Rattle.numbers.specs.declared.PartRead.{PartRead}
 use Rattle.numbers.specs.declared.PartRead.the-variants as read
 use Rattle.numbers.proofs.Readable.{start-readable, end-readable}
-use Rattle.definition.specs.Checks.{breaks, nextBy}
+use Rattle.definition.specs.Checks.{breaks, expectedAfter}
 use Rattle.chapter_verse.specs.Inner.{LowRead}
 
 pub short-label : (s : List ℕ) → length s ≤ 1 → false ≡ (ltb 1 (length s) && eqb (getD s 0 0) 0x30)
@@ -24,14 +24,14 @@ short-label s h = rw (le-ltb 1 (length s) h) refl
 pub long-label : (s : List ℕ) → 1 < length s → eqb (getD s 0 0) 0x30 ≡ (ltb 1 (length s) && eqb (getD s 0 0) 0x30)
 long-label s h = rw (lt-ltb 1 (length s) h) refl
 
-next-low : (n : ℕ) (l : Option ℕ) → n ≤ 4294967295 → verse.nextBy n l .number ≤ 4294967296
+next-low : (n : ℕ) (l : Option ℕ) → n ≤ 4294967295 → verse.nextPosition n l .number ≤ 4294967296
 next-low n none h = omega arith
 next-low n (some b) h = omega arith
 
 after-low : (r : VersePart) (p : Position) → Readable p → positionOf r ≡ next p → r .num ≤ 4294967296
 unfolding next
 after-low r p h e =
-    let q : r .num ≡ verse.nextBy (p .number) (p .letter) .number = ap (λ (x : Position). x .number) e in
+    let q : r .num ≡ verse.nextPosition (p .number) (p .letter) .number = ap (λ (x : Position). x .number) e in
     rw q (next-low (p .number) (p .letter) (h .number-low))
 
 -- what is read breaks the sequence, as the code asks
@@ -48,7 +48,7 @@ module _ (s : List ℕ) (x : PartRead) (is : readOf x ≡ versePart s) where
     unread : versePart s ≡ none
     unread = sym is ∙ ap readOf none-read
 
-    pub stays : (v : VersePart) → v .num ≤ 4294967296 → (positionOf v ≡ nextBy (versePart s) s (positionOf v)) × (v .num ≤ 4294967296)
+    pub stays : (v : VersePart) → v .num ≤ 4294967296 → (positionOf v ≡ expectedAfter (versePart s) s (positionOf v)) × (v .num ≤ 4294967296)
     stays v h = (rw unread refl, h)
 
   module _ (p : VersePart) (part-read : x ≡ read.Is p) where
@@ -66,12 +66,12 @@ module _ (s : List ℕ) (x : PartRead) (is : readOf x ≡ versePart s) where
       pub end-readably : (q : VersePart) → y ≡ read.Is q → Readable (positionOf q)
       end-readably q h = end-readable s (positionOf q) (sym end-is ∙ ap readOf h)
 
-      pub next-of-end : (q r : VersePart) (e : Position) → y ≡ read.Is q → positionOf r ≡ next (positionOf q) → (positionOf r ≡ nextBy (versePart s) s e) × (r .num ≤ 4294967296)
+      pub next-of-end : (q r : VersePart) (e : Position) → y ≡ read.Is q → positionOf r ≡ next (positionOf q) → (positionOf r ≡ expectedAfter (versePart s) s e) × (r .num ≤ 4294967296)
       next-of-end q r e h g =
           let z : verseEnd s ≡ some (positionOf q) = sym end-is ∙ ap readOf h in
           (rw start (rw z g), after-low r (positionOf q) (end-readably q h) g)
 
-      pub next-of-start : (r : VersePart) (e : Position) → y ≡ read.NotRead → positionOf r ≡ next (positionOf p) → (positionOf r ≡ nextBy (versePart s) s e) × (r .num ≤ 4294967296)
+      pub next-of-start : (r : VersePart) (e : Position) → y ≡ read.NotRead → positionOf r ≡ next (positionOf p) → (positionOf r ≡ expectedAfter (versePart s) s e) × (r .num ≤ 4294967296)
       next-of-start r e h g =
           let z : verseEnd s ≡ none = sym end-is ∙ ap readOf h in
           (rw start (rw z g), after-low r (positionOf p) start-is g)

@@ -13,7 +13,7 @@ use Rattle.numbers.specs.declared.PartRead.the-variants as read
 use Rattle.definition.specs.State as state
 use Rattle.definition.specs.Checks.{afterChapter, afterVerse}
 use Rattle.definition.specs.declared.OpenStart.{OpenStart}
-use Rattle.state.specs.Running.{stateOf, Sane}
+use Rattle.state.specs.Running.{stateOf, VerseBounded}
 use Rattle.state.specs.declared.State.{State}
 
 -- a number that a verse position can have, if one is read
@@ -29,7 +29,7 @@ pub record LabelRead (e : Option Entry) (x : Node) (label : List ℕ) (glued : B
 -- the record after the Chapter of node i, and the chapters seen; neither the source nor the open starts matter
 pub record PassedChapter (t : List ℕ) (i : ℕ) (seen : List ℕ) (r : State) (seen′ : List ℕ) (q : State) : Type 0 where
   pub state : (s : List ℕ) (opens : List OpenStart) → stateOf s t seen′ opens q ≡ afterChapter (stateOf s t seen opens r) (nodeAt s t i)
-  pub sane : Sane q
+  pub bounded : VerseBounded q
   pub one-seen : q .«seen_len» ≡ r .«seen_len» + 1
   pub opens : q .«open_len» ≡ r .«open_len»
   pub anchor : q .anchor ≡ r .anchor
@@ -37,7 +37,7 @@ pub record PassedChapter (t : List ℕ) (i : ℕ) (seen : List ℕ) (r : State) 
 -- the record after the Verse of node i, whatever chapters are seen and starts open
 pub record PassedVerse (e : Option Entry) (s t : List ℕ) (o : state.WalkContext) (i : ℕ) (r q : State) : Type 0 where
   pub state : (seen : List ℕ) (opens : List OpenStart) → stateOf s t seen opens q ≡ afterVerse e o (stateOf s t seen opens r) (nodeAt s t i)
-  pub sane : Sane q
+  pub bounded : VerseBounded q
   pub same-seen : q .«seen_len» ≡ r .«seen_len»
   pub opens : q .«open_len» ≡ r .«open_len»
   pub anchor : q .anchor ≡ r .anchor

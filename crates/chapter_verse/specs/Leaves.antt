@@ -6,16 +6,16 @@ use Rattle.tape.specs.Nodes.{nodeAt}
 use Rattle.findings.specs.Written.{Wrote}
 use Rattle.definition.specs.State.{WalkState}
 use Rattle.definition.specs.State as state
-use Rattle.definition.specs.Checks.{leafTold}
+use Rattle.definition.specs.Checks.{leafChecked}
 use Rattle.definition.specs.declared.OpenStart.{OpenStart}
-use Rattle.state.specs.Running.{stateOf, countsOf, Sane}
+use Rattle.state.specs.Running.{stateOf, countsOf, VerseBounded}
 use Rattle.state.specs.declared.State.{State}
 
 -- the findings of node i are written and counted, and the record is the one after it; the open starts may be any
 pub record LeafVisited (table s t : List ℕ) (o : state.WalkContext) (i : ℕ) (seen l : List ℕ) (r : State) (seen′ l′ : List ℕ) (q : State) : Type 0 where
-  pub wrote : Wrote (leafTold table o (stateOf s t seen [] r) (nodeAt s t i) .findings) l (countsOf r) l′ (countsOf q)
-  pub state : (opens : List OpenStart) → stateOf s t seen′ opens q ≡ leafTold table o (stateOf s t seen opens r) (nodeAt s t i) .state
-  pub sane : Sane q
+  pub wrote : Wrote (leafChecked table o (stateOf s t seen [] r) (nodeAt s t i) .findings) l (countsOf r) l′ (countsOf q)
+  pub state : (opens : List OpenStart) → stateOf s t seen′ opens q ≡ leafChecked table o (stateOf s t seen opens r) (nodeAt s t i) .state
+  pub bounded : VerseBounded q
   pub seen-few : q .«seen_len» ≤ r .«seen_len» + 1
   pub verses-few : q .verses ≤ r .verses + 1
   pub opens : q .«open_len» ≡ r .«open_len»

@@ -30,8 +30,8 @@ ghost use Rattle.numbers.specs.Label.{labelOf};
 ghost use Rattle.numbers.specs.Verse.{positionOf, readOf, suffixOf, versePart, verseEnd};
 ghost use Rattle.attachment.specs.Attached.{among};
 ghost use Rattle.definition.specs.Checks;
-ghost use Rattle.definition.specs.Checks.{about, error, given, numberForm, chapterChecks, verseChecks, letterByte, nextBy, leafTold};
-ghost use Rattle.state.specs.Running.{latest, stateOf, contextOf, countsOf, Sane};
+ghost use Rattle.definition.specs.Checks.{about, error, given, numberForm, chapterChecks, verseChecks, letterByte, expectedAfter, leafChecked};
+ghost use Rattle.state.specs.Running.{latest, stateOf, contextOf, countsOf, VerseBounded};
 ghost use Rattle.chapter_verse.specs.Inner.{LowRead, LabelRead, PassedChapter, PassedVerse};
 ghost use Rattle.chapter_verse.specs.Leaves.{LeafVisited};
 
@@ -229,7 +229,7 @@ fn verse_findings(
     rec: State,
     list: &mut [u64],
 ) -> Counts
-    requires { ⌜ (i < count (now tape)) × LabelRead (infoOf info) (nodeAt (now source) (now tape) i) (now label) glued × (readOf read ≡ versePart (now label)) × Sane rec × Room (countsOf rec) (given (verseChecks (infoOf info) (contextOf context) (stateOf (now source) (now tape) [] [] rec) (nodeAt (now source) (now tape) i))) ⌝ }
+    requires { ⌜ (i < count (now tape)) × LabelRead (infoOf info) (nodeAt (now source) (now tape) i) (now label) glued × (readOf read ≡ versePart (now label)) × VerseBounded rec × Room (countsOf rec) (given (verseChecks (infoOf info) (contextOf context) (stateOf (now source) (now tape) [] [] rec) (nodeAt (now source) (now tape) i))) ⌝ }
     ensures { λ r. ⌜ Wrote (given (verseChecks (infoOf info) (contextOf context) (stateOf (now (source .entry)) (now (tape .entry)) [] [] rec) (nodeAt (now (source .entry)) (now (tape .entry)) i))) (now (list .entry)) (countsOf rec) (now (list .exit)) r ⌝ }
 {
     let bare = label.len() == 0;
@@ -291,7 +291,7 @@ fn end_read(label: &[u8], start: PartRead) -> PartRead
 // The position expected after a label, by what is read of its start. One that isn't read leaves it.
 fn verse_after(label: &[u8], read: PartRead, v: VersePart) -> VersePart
     requires { ⌜ (v .num ≤ 4294967296) × (readOf read ≡ versePart (now label)) ⌝ }
-    ensures { λ r. ⌜ (positionOf r ≡ nextBy (versePart (now (label .entry))) (now (label .entry)) (positionOf v)) × (r .num ≤ 4294967296) ⌝ }
+    ensures { λ r. ⌜ (positionOf r ≡ expectedAfter (versePart (now (label .entry))) (now (label .entry)) (positionOf v)) × (r .num ≤ 4294967296) ⌝ }
 {
     match read {
         PartRead::NotRead => v,
@@ -313,7 +313,7 @@ fn after_verse(
     context: Context,
     rec: State,
 ) -> State
-    requires { ⌜ (now label ≡ labelOf (infoOf info) (nodeAt (now source) (now tape) i .text)) × (readOf read ≡ versePart (now label)) × Sane rec × (rec .verses < 4611686018427387904) ⌝ }
+    requires { ⌜ (now label ≡ labelOf (infoOf info) (nodeAt (now source) (now tape) i .text)) × (readOf read ≡ versePart (now label)) × VerseBounded rec × (rec .verses < 4611686018427387904) ⌝ }
     ensures { λ r. ⌜ PassedVerse (infoOf info) (now (source .entry)) (now (tape .entry)) (contextOf context) i rec r ⌝ }
 {
     let v = rec.expected_verse;
@@ -330,8 +330,8 @@ fn after_verse(
 // A Chapter or a Verse is checked, and any other leaf passed.
 pub fn visit_leaf(
     table: &[u8],
-    words: &[u64],
-    count: usize,
+    index: &[u64],
+    entries: usize,
     source: &[u8],
     tape: &[u8],
     i: usize,
@@ -340,14 +340,14 @@ pub fn visit_leaf(
     seen: &mut [u32],
     list: &mut [u64],
 ) -> State
-    requires { ⌜ (Indexed (now table) (now words) count) × (Spanned (now source) (now tape) i) × Sane rec × (rec .«seen_len» < length (now seen)) × (rec .verses < 4611686018427387904) × Room (countsOf rec) (leafTold (now table) (contextOf context) (stateOf (now source) (now tape) (now seen) [] rec) (nodeAt (now source) (now tape) i) .findings) ⌝ }
+    requires { ⌜ (Indexed (now table) (now index) entries) × (Spanned (now source) (now tape) i) × VerseBounded rec × (rec .«seen_len» < length (now seen)) × (rec .verses < 4611686018427387904) × Room (countsOf rec) (leafChecked (now table) (contextOf context) (stateOf (now source) (now tape) (now seen) [] rec) (nodeAt (now source) (now tape) i) .findings) ⌝ }
     ensures { λ r. ⌜ LeafVisited (now (table .entry)) (now (source .entry)) (now (tape .entry)) (contextOf context) i (now (seen .entry)) (now (list .entry)) rec (now (seen .exit)) (now (list .exit)) r ⌝ }
 {
     let kind = tape::kind_at(tape, i);
     if !numbers::is_numbered(kind) {
         return rec;
     }
-    let info = cursor::marker_info(table, words, count, tape, i);
+    let info = cursor::marker_info(table, index, entries, tape, i);
     let text = cursor::text(source, tape, i);
     let at = numbers::label_span(info, text);
     let from = at.start;

@@ -3,7 +3,7 @@
 use Rattle.reference_laws.proofs.Call.{Terms, stated-as, val, shr, mut, of-struct, u8, u64, [], _∷_, Known, bound-at, rule-of, cited}
 use mathlib.Core.Path.{_≡_}
 use Rattle.findings.specs.Written.{Wrote}
-use Rattle.state.specs.Running.{countsOf, starts}
+use Rattle.state.specs.Running.{countsOf, openNodes}
 use Rattle.closing.specs.Ends.{Left}
 use Rattle.definition.specs.Document as Document
 use Rattle.findings.proofs.Counts as Counts-T
@@ -15,7 +15,7 @@ abbrev pub terms : Terms
 terms = stated-as unclosed-F.Symbol.name (of-struct Counts-T.the-type Counts-T.Laws.the-laws Counts-T.Laws.the-plain)
     (shr u8 ∷ shr u8 ∷ mut OpenStart-T.the-row ∷ val (of-struct State-T.the-type State-T.Laws.the-laws State-T.Laws.the-plain) ∷ mut u64 ∷ [])
     (λ source₀ tape₀ opens₀ rec₀ list₀. (Left source₀ tape₀ opens₀ rec₀) ∷ [])
-    (λ source₀ tape₀ opens₀ rec₀ list₀ r z. (((z .0) ≡ opens₀) × Wrote (Document.unclosed (starts source₀ tape₀ opens₀ (rec₀ .«open_len»))) list₀ (countsOf rec₀) (z .1 .0) r) ∷ [])
+    (λ source₀ tape₀ opens₀ rec₀ list₀ r z. (((z .0) ≡ opens₀) × Wrote (Document.unclosed (openNodes source₀ tape₀ opens₀ (rec₀ .«open_len»))) list₀ (countsOf rec₀) (z .1 .0) r) ∷ [])
 
 pub known : Known terms unclosed-F.signature (λ M 𝓤 H A at-mem run. unclosed-F.spec 𝓤 H A at-mem run)
 known M 𝓤 H 𝓜 𝓖 𝓡 γ r at met x cs = cited 𝓤 H _ 𝓜 𝓡 γ (terms .name) r at met (bound-at (rule-of terms x .pars) cs)

@@ -1,8 +1,8 @@
 pub mod Zeroed
-pub mod Solid
+pub mod NotBlank
 pub mod Starts
 pub mod Lacking
-pub mod CallTellOpen
+pub mod CallPushUnclosed
 pub mod CallCounts
 pub mod CallUnclosed
 pub mod CallClearOpens

@@ -9,7 +9,7 @@ use Rattle.findings.specs.Written.{Room}
 use Rattle.definition.specs.Checks.{Check, when, error}
 use Rattle.definition.specs.declared.OpenStart.{OpenStart}
 use Rattle.definition.specs.Document.{ofDocument, unclosed}
-use Rattle.state.specs.Running.{starts, countsOf, Opens}
+use Rattle.state.specs.Running.{openNodes, countsOf, Opens}
 use Rattle.state.specs.declared.State.{State}
 use Rattle.findings.specs.Codes.{milestoneMismatch, unclosedStart, missingIdMarker, missingChapterMarker}
 
@@ -23,12 +23,12 @@ missingChecks r =
 -- the open starts that are left are known, and there is room for what is said of them
 pub record Left (s t : List ℕ) (opens : List OpenStart) (r : State) : Type 0 where
   pub known : Opens s t opens (r .«open_len»)
-  pub room : Room (countsOf r) (unclosed (starts s t opens (r .«open_len»)))
+  pub room : Room (countsOf r) (unclosed (openNodes s t opens (r .«open_len»)))
 
 -- what is said of one
 abbrev pub ofOpen : List ℕ → OpenStart → List Finding
 ofOpen t o = error (nodeAt [] t (o .node)) milestoneMismatch unclosedStart ∷ []
 
-pub record Tellable (t : List ℕ) (o : OpenStart) (c : Counts) : Type 0 where
+pub record UnclosedReady (t : List ℕ) (o : OpenStart) (c : Counts) : Type 0 where
   pub inside : o .node < count t
   pub room : Room c (ofOpen t o)

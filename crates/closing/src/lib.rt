@@ -23,8 +23,8 @@ ghost use Rattle.definition.specs.Checks.{given};
 ghost use Rattle.definition.specs.Document.{textBefore, ofDocument};
 ghost use Rattle.definition.specs.Document;
 ghost use Rattle.definition.specs.Outcome.{noStart, cleared};
-ghost use Rattle.state.specs.Running.{countsOf, starts};
-ghost use Rattle.closing.specs.Ends.{missingChecks, Left, ofOpen, Tellable};
+ghost use Rattle.state.specs.Running.{countsOf, openNodes};
+ghost use Rattle.closing.specs.Ends.{missingChecks, Left, ofOpen, UnclosedReady};
 
 // A finding of no node.
 fn of_document(code: u64) -> Finding
@@ -42,7 +42,7 @@ fn of_document(code: u64) -> Finding
     }
 }
 
-fn is_solid_text(source: &[u8], tape: &[u8], i: usize) -> bool
+fn is_text_not_blank(source: &[u8], tape: &[u8], i: usize) -> bool
     requires { ⌜ Spanned (now source) (now tape) i ⌝ }
     ensures { λ r. ⌜ r ≡ (eqb (kindAt (now (tape .entry)) i) textKind && not (blankText (nodeAt (now (source .entry)) (now (tape .entry)) i .text))) ⌝ }
 {
@@ -61,7 +61,7 @@ pub fn text_before(source: &[u8], tape: &[u8], to: usize, rec: State, list: &mut
     if to <= 1 {
         return c;
     }
-    let there = is_solid_text(source, tape, 1);
+    let there = is_text_not_blank(source, tape, 1);
     findings::push_if(
         list,
         c,
@@ -71,8 +71,8 @@ pub fn text_before(source: &[u8], tape: &[u8], to: usize, rec: State, list: &mut
 }
 
 // The finding of an open start that is left.
-fn tell_open(tape: &[u8], o: OpenStart, list: &mut [u64], c: Counts) -> Counts
-    requires { ⌜ Tellable (now tape) o c ⌝ }
+fn push_unclosed(tape: &[u8], o: OpenStart, list: &mut [u64], c: Counts) -> Counts
+    requires { ⌜ UnclosedReady (now tape) o c ⌝ }
     ensures { λ r. ⌜ Wrote (ofOpen (now (tape .entry)) o) (now (list .entry)) c (now (list .exit)) r ⌝ }
 {
     let f = state::about(
@@ -96,14 +96,14 @@ pub fn unclosed(
     list: &mut [u64],
 ) -> Counts
     requires { ⌜ Left (now source) (now tape) (now opens) rec ⌝ }
-    ensures { λ r. ⌜ (now (opens .exit) ≡ now (opens .entry)) × Wrote (Document.unclosed (starts (now (source .entry)) (now (tape .entry)) (now (opens .entry)) (rec .«open_len»))) (now (list .entry)) (countsOf rec) (now (list .exit)) r ⌝ }
+    ensures { λ r. ⌜ (now (opens .exit) ≡ now (opens .entry)) × Wrote (Document.unclosed (openNodes (now (source .entry)) (now (tape .entry)) (now (opens .entry)) (rec .«open_len»))) (now (list .entry)) (countsOf rec) (now (list .exit)) r ⌝ }
 {
     let n = rec.open_len;
     let mut c = state::counts(rec);
     let mut k: usize = 0;
     while k < n {
         let o = opens[k];
-        c = tell_open(tape, o, list, c);
+        c = push_unclosed(tape, o, list, c);
         k += 1;
     }
     c

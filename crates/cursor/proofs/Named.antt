@@ -19,7 +19,7 @@ use Rattle.text.proofs.Find.{past-ascii}
 use Rattle.text.proofs.Hits.{find-on}
 use Rattle.cursor.specs.declared.NameSpan.{NameSpan}
 use Rattle.cursor.specs.Names.{pastOne, endsName, namePart, nameOf}
-use Rattle.cursor.specs.Inner.{Reached, Plain, Named}
+use Rattle.cursor.specs.Inner.{Reached, PlainByte, Named}
 use Rattle.text.proofs.Bool.{or-parts}
 
 module _ (s : List ℕ) (i b : ℕ) where
@@ -114,14 +114,14 @@ module _ (c : ℕ) (x : Bool) (is-blank : x ≡ blank c) where
   pub ends-slash : x ≡ false → (c ≡ 0x2A → ⊥) → (c ≡ 0x7C → ⊥) → eqb c 0x5C ≡ endsName c
   ends-slash y n m = rw (← is-blank, y, ne-eqb c 0x2A n, ne-eqb c 0x7C m)
 
-ascii-solid : (b : ℕ) → 0x20 < b → b < 0x80 → blank b ≡ false
-ascii-solid b h k = low-not-blank b (omega arith) (λ e. omega arith) (inr (omega arith))
+ascii-not-blank : (b : ℕ) → 0x20 < b → b < 0x80 → blank b ≡ false
+ascii-not-blank b h k = low-not-blank b (omega arith) (λ e. omega arith) (inr (omega arith))
 
-pub is-plain : (b : ℕ) → 0x2A < b → b < 0x7C → (b ≡ 0x5C → ⊥) → Plain b
+pub is-plain : (b : ℕ) → 0x2A < b → b < 0x7C → (b ≡ 0x5C → ⊥) → PlainByte b
 is-plain b h k n =
     record {
       ascii = omega arith;
-      goes-on = rw (ascii-solid b (omega arith) (omega arith), ne-eqb b 0x2A (λ e. omega arith), ne-eqb b 0x7C (λ e. omega arith), ne-eqb b 0x5C n);
+      goes-on = rw (ascii-not-blank b (omega arith) (omega arith), ne-eqb b 0x2A (λ e. omega arith), ne-eqb b 0x7C (λ e. omega arith), ne-eqb b 0x5C n);
     }
 
 pub name-starts : (s : List ℕ) (a b : ℕ) → a ≡ pastOne 0x5C s 0 → b ≡ pastOne 0x2B s a → b ≡ namePart s .start
@@ -138,9 +138,9 @@ name-cut s r h =
     rw (n, h .begins)
 
 -- nothing before the end of the name is blank
-pub name-solid : (s : List ℕ) → 0 + find blank s ≡ end (namePart s) + find blank (drop (end (namePart s)) s)
+pub name-not-blank : (s : List ℕ) → 0 + find blank s ≡ end (namePart s) + find blank (drop (end (namePart s)) s)
 unfolding namePart
-name-solid s =
-    over-one s 0 0x5C blank (omega arith) (ascii-solid 0x5C (omega arith) (omega arith))
-    ∙ over-one s (pastOne 0x5C s 0) 0x2B blank (omega arith) (ascii-solid 0x2B (omega arith) (omega arith))
+name-not-blank s =
+    over-one s 0 0x5C blank (omega arith) (ascii-not-blank 0x5C (omega arith) (omega arith))
+    ∙ over-one s (pastOne 0x5C s 0) 0x2B blank (omega arith) (ascii-not-blank 0x2B (omega arith) (omega arith))
     ∙ find-on blank endsName (λ c y. or-parts (blank c) _ y .0) s (pastOne 0x2B s (pastOne 0x5C s 0))

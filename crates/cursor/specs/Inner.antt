@@ -23,18 +23,13 @@ pub record Run (s t : List ℕ) (a b : ℕ) : Type 0 where
   pub from : 1 ≤ a
   pub inside : b ≤ count t
 
--- the place lies n bytes past another, inside the text or at its end
-pub record Ended (s : List ℕ) (from n r : ℕ) : Type 0 where
-  pub is : r ≡ from + n
-  pub inside : r ≤ length s
-
 -- the place, inside the text or at its end
 pub record Reached (s : List ℕ) (place r : ℕ) : Type 0 where
   pub is : r ≡ place
   pub inside : r ≤ length s
 
 -- an ASCII byte that does not end a name
-pub record Plain (b : ℕ) : Type 0 where
+pub record PlainByte (b : ℕ) : Type 0 where
   pub ascii : b < 0x80
   pub goes-on : endsName b ≡ false
 

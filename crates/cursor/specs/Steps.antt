@@ -34,10 +34,10 @@ unfoldable pub numberAt : List ℕ → ℕ → Option ℕ
 numberAt t i = pick (eqb (kindAt t i) chapterKind || eqb (kindAt t i) verseKind) (some (linkAt t i)) none
 
 -- what the answers say
-abbrev pub placeOf : Place → Option ℕ
-placeOf (place.At i) = some i
-placeOf place.Nowhere = none
+abbrev pub nodePlace : Place → Option ℕ
+nodePlace (place.At i) = some i
+nodePlace place.Nowhere = none
 
-abbrev pub valueOf : NumberRead → Option ℕ
-valueOf (number.Is n) = some n
-valueOf number.NoNumber = none
+abbrev pub numberRead : NumberRead → Option ℕ
+numberRead (number.Is n) = some n
+numberRead number.NoNumber = none

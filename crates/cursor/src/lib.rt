@@ -10,10 +10,11 @@ ghost use Rattle.text.specs.Characters.{find};
 ghost use Rattle.tape.specs.Nodes.{count, startAt, lenAt, kindAt, linkAt};
 ghost use Rattle.tape.specs.Nodes as nodes;
 ghost use Rattle.cursor.specs.Names.{pastOne, endsName, namePart, nameOf};
-ghost use Rattle.cursor.specs.Steps.{firstChild, nextSibling, numberAt, holdsNodes, placeOf, valueOf};
+ghost use Rattle.cursor.specs.Steps.{firstChild, nextSibling, numberAt, holdsNodes, nodePlace, numberRead};
 ghost use Rattle.table.specs.Entries.{Indexed, infoOf};
 ghost use Rattle.cursor.specs.Info.{hasMarker, infoAt};
-ghost use Rattle.cursor.specs.Inner.{Spanned, Ended, Reached, Plain, Named};
+ghost use Rattle.cursor.specs.Inner.{Spanned, Reached, PlainByte, Named};
+ghost use Rattle.text.specs.Scans.{Ended};
 
 // Where a node's text stands in the source.
 pub struct NodeSpan {
@@ -83,7 +84,7 @@ fn ends_name(cp: u32) -> bool
 
 // Whether few tests show that a name goes on past a byte. They do for letters and digits, which most names are made of.
 fn is_plain(b: u8) -> bool
-    ensures { λ r. ⌜ (r ≡ true → Plain b) ⌝ }
+    ensures { λ r. ⌜ (r ≡ true → PlainByte b) ⌝ }
 {
     if b <= 0x2A {
         return false;
@@ -169,7 +170,7 @@ fn holds_nodes(kind: u8) -> bool
 
 pub fn first_child(tape: &[u8], i: usize) -> Place
     requires { ⌜ i < count (now tape) ⌝ }
-    ensures { λ r. ⌜ placeOf r ≡ firstChild (now (tape .entry)) i ⌝ }
+    ensures { λ r. ⌜ nodePlace r ≡ firstChild (now (tape .entry)) i ⌝ }
 {
     if !holds_nodes(tape::kind_at(tape, i)) {
         return Place::Nowhere;
@@ -195,7 +196,7 @@ pub fn past_node(tape: &[u8], i: usize) -> usize
 
 pub fn next_sibling(tape: &[u8], i: usize) -> Place
     requires { ⌜ i < count (now tape) ⌝ }
-    ensures { λ r. ⌜ placeOf r ≡ nextSibling (now (tape .entry)) i ⌝ }
+    ensures { λ r. ⌜ nodePlace r ≡ nextSibling (now (tape .entry)) i ⌝ }
 {
     let next = past_node(tape, i);
     if tape.len() / 16 <= next {
@@ -210,7 +211,7 @@ pub fn next_sibling(tape: &[u8], i: usize) -> Place
 
 pub fn number(tape: &[u8], i: usize) -> NumberRead
     requires { ⌜ i < count (now tape) ⌝ }
-    ensures { λ r. ⌜ valueOf r ≡ numberAt (now (tape .entry)) i ⌝ }
+    ensures { λ r. ⌜ numberRead r ≡ numberAt (now (tape .entry)) i ⌝ }
 {
     let kind = tape::kind_at(tape, i);
     if kind == tape::CHAPTER {
@@ -236,12 +237,12 @@ fn has_marker(kind: u8) -> bool
 }
 
 // The table entry of a node that bears a marker.
-pub fn marker_info(table: &[u8], words: &[u64], count: usize, tape: &[u8], i: usize) -> Info
-    requires { ⌜ (Indexed (now table) (now words) count) × (i < nodes.count (now tape)) ⌝ }
+pub fn marker_info(table: &[u8], index: &[u64], entries: usize, tape: &[u8], i: usize) -> Info
+    requires { ⌜ (Indexed (now table) (now index) entries) × (i < count (now tape)) ⌝ }
     ensures { λ r. ⌜ infoOf r ≡ infoAt (now (table .entry)) (now (tape .entry)) i ⌝ }
 {
     if !has_marker(tape::kind_at(tape, i)) {
         return Info::Missing;
     }
-    MarkerId::info(table, words, count, MarkerId(tape::marker_at(tape, i)))
+    MarkerId::info(table, index, entries, MarkerId(tape::marker_at(tape, i)))
 }

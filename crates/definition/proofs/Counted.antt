@@ -26,23 +26,23 @@ use Rattle.table.specs.Names.{defaultOf, noteOnly}
 use Rattle.cursor.specs.Names.{nameOf}
 use Rattle.findings.specs.Finding.{Finding, Kind}
 use Rattle.findings.specs.Written.{only, room}
-use Rattle.attributes.specs.Attributes.{emptyList, noDefault, Mode, between, key, value, opened, quoted, escaping, unquoted, inQuotes, Step, go, tell, stop, step, ended, resume, scan, body, hasDefault, holdsEquals, attributeKinds, findingsAt, attributeFindings, attributesFindings}
-use Rattle.rows.specs.Cells.{Range}
+use Rattle.attributes.specs.Attributes.{emptyList, noDefault, Mode, between, key, value, opened, quoted, escaping, unquoted, inQuotes, ScanStep, go, tell, stop, scanStep, endOfText, scanOn, attributeScan, body, hasDefault, holdsEquals, attributeKinds, findingsAt, attributeFindings, attributesFindings}
+use Rattle.rows.specs.Cells.{Columns}
 use Rattle.rows.specs.Row.{cellIn, outOfOrder, byColumns, rowFrom, rowFindings}
 use Rattle.numbers.specs.Verse.{Position, versePart, inSequence}
 use Rattle.numbers.specs.Label.{isGlued, labelOf}
-use Rattle.definition.specs.State.{WalkState, initial, outside, WalkContext, Anchor, past, Told}
-use Rattle.definition.specs.Checks.{error, warning, Check, given, entryOf, afterChapter, afterVerse, chapterChecks, verseChecks, leafTold, bookCode, idName, trName, idChecks, afterId, placeChecks, contentChecks}
+use Rattle.definition.specs.State.{WalkState, initial, outside, WalkContext, Anchor, past, NodeChecked}
+use Rattle.definition.specs.Checks.{error, warning, Check, given, entryOf, afterChapter, afterVerse, chapterChecks, verseChecks, leafChecked, bookCode, idName, trName, idChecks, afterId, placeChecks, contentChecks}
 use Rattle.definition.specs.Milestones.{milestoneChecks, afterMilestone}
-use Rattle.definition.specs.Walk.{Walked, leafAnchor, openTold, inside, before, after, thenWalk, byEntry, walk}
+use Rattle.definition.specs.Walk.{Walked, leafAnchor, openChecked, inside, withFindings, afterNode, thenWalk, byEntry, walk}
 use Rattle.definition.specs.Document.{textBefore, ofDocument, unclosed, closing, walked, running, findings, versesVisited}
 use Rattle.definition.specs.Outcome.{Lent, refusal, addIf, ofSeverity, smaller, listOf, writtenOf, checkedOf}
 use Rattle.definition.proofs.Demand3.{checked-accepted}
-use Rattle.findings.specs.Codes.{codes, milestoneMismatch, unclosedStart, textBeforeId}
+use Rattle.findings.specs.Codes.{codeCount, milestoneMismatch, unclosedStart, textBeforeId}
 
 -- "severity (0 error, 1 warning, 2 info)"; of the codes "the last is 34"
 abbrev pub Listed : ℕ → ℕ → Type 0
-Listed severity code = (severity ≤ 2) × (code < codes)
+Listed severity code = (severity ≤ 2) × (code < codeCount)
 
 -- every finding has one of these severities and codes
 abbrev pub Graded : List Finding → Type 0
@@ -69,7 +69,7 @@ graded-then b f fs h p = graded-append (only b f) fs (graded-only b f h) p
 graded-snoc : (fs : List Finding) (b : Bool) (f : Finding) → Graded fs → Listed (f .severity) (f .code) → Graded (fs ++ only b f)
 graded-snoc fs b f p h = graded-append fs (only b f) p (graded-only b f h)
 
-cell-graded : (q : Option Range) (x : Node) (e : ℕ) (later : ℕ → List Finding) → ((n : ℕ) → Graded (later n)) → Graded (byColumns q x e later)
+cell-graded : (q : Option Columns) (x : Node) (e : ℕ) (later : ℕ → List Finding) → ((n : ℕ) → Graded (later n)) → Graded (byColumns q x e later)
 cell-graded none x e later h = h e
 cell-graded (some c) x e later h = graded-then (not (eqb (c .start) e)) (outOfOrder x e (c .start)) (later (c .end + 1)) (omega arith) (h (c .end + 1))
 
@@ -84,20 +84,20 @@ abbrev Low : List Kind → Type 0
 Low [] = Unit {0}
 Low (k ∷ ks) = Listed (k .severity) (k .code) × Low ks
 
-abbrev LowStep : Step → Type 0
+abbrev LowStep : ScanStep → Type 0
 LowStep (go m) = Unit {0}
 LowStep (tell k m) = Listed (k .severity) (k .code)
 LowStep (stop k) = Listed (k .severity) (k .code)
 
-low-pick : (b : Bool) (x y : Step) → LowStep x → LowStep y → LowStep (pick b x y)
+low-pick : (b : Bool) (x y : ScanStep) → LowStep x → LowStep y → LowStep (pick b x y)
 low-pick true x y p q = p
 low-pick false x y p q = q
 
 low-quotes : (c : ℕ) → LowStep (inQuotes c)
 low-quotes c = low-pick (eqb c 0x5C) (go escaping) (go quoted) tt tt
 
-low-step : (m : Mode) (c : ℕ) → LowStep (step m c)
-unfolding step
+low-step : (m : Mode) (c : ℕ) → LowStep (scanStep m c)
+unfolding scanStep
 low-step between c = low-pick (blank c) _ _ tt (low-pick (eqb c 0x3D) _ _ tt tt)
 low-step key c = low-pick (eqb c 0x3D) _ _ tt (low-pick (blank c) _ _ (omega arith) tt)
 low-step value c = low-pick (eqb c 0x22) _ _ tt (low-pick (blank c) _ _ (omega arith) (omega arith))
@@ -106,7 +106,7 @@ low-step quoted c = low-pick (eqb c 0x22) _ _ tt (low-quotes c)
 low-step escaping c = low-quotes c
 low-step unquoted c = low-pick (blank c) _ _ tt tt
 
-low-ended : (m : Mode) → Low (ended m)
+low-ended : (m : Mode) → Low (endOfText m)
 low-ended between = tt
 low-ended key = (omega arith, tt)
 low-ended value = (omega arith, tt)
@@ -115,21 +115,21 @@ low-ended quoted = (omega arith, tt)
 low-ended escaping = (omega arith, tt)
 low-ended unquoted = tt
 
-low-resume : (s : Step) (rest : Mode → List Kind) → LowStep s → ((m : Mode) → Low (rest m)) → Low (resume s rest)
+low-resume : (s : ScanStep) (rest : Mode → List Kind) → LowStep s → ((m : Mode) → Low (rest m)) → Low (scanOn s rest)
 low-resume (go m) rest p h = h m
 low-resume (tell k m) rest p h = (p, h m)
 low-resume (stop k) rest p h = (p, tt)
 
-low-scan : (m : Mode) (cs : List Decoded) → Low (scan m cs)
-unfolding scan
+low-scan : (m : Mode) (cs : List Decoded) → Low (attributeScan m cs)
+unfolding attributeScan
 low-scan m [] = low-ended m
-low-scan m (c ∷ cs) = low-resume (step m (c .cp)) (λ n. scan n cs) (low-step m (c .cp)) (λ n. low-scan n cs)
+low-scan m (c ∷ cs) = low-resume (scanStep m (c .cp)) (λ n. attributeScan n cs) (low-step m (c .cp)) (λ n. low-scan n cs)
 
 low-kinds : (marker text : List ℕ) → Low (attributeKinds marker text)
 unfolding attributeKinds
 low-kinds marker text = go (eqb (length (body text)) 0) (holdsEquals (body text)) (hasDefault (defaultOf marker))
   where
-    go : (a b c : Bool) → Low (pick a (emptyList ∷ []) (pick b (scan between (chars (body text))) (pick c [] (noDefault ∷ []))))
+    go : (a b c : Bool) → Low (pick a (emptyList ∷ []) (pick b (attributeScan between (chars (body text))) (pick c [] (noDefault ∷ []))))
     go true b c = (omega arith, tt)
     go false true c = low-scan between (chars (body text))
     go false false true = tt
@@ -157,8 +157,8 @@ unfolding given
 given-graded [] h = tt
 given-graded (c ∷ cs) h = graded-append (only (c .holds) (c .finding)) (given cs) (graded-only (c .holds) (c .finding) (h .0)) (given-graded cs (h .1))
 
-leaf-graded : (table : List ℕ) (o : WalkContext) (st : WalkState) (x : Node) → Graded (leafTold table o st x .findings)
-unfolding leafTold
+leaf-graded : (table : List ℕ) (o : WalkContext) (st : WalkState) (x : Node) → Graded (leafChecked table o st x .findings)
+unfolding leafChecked
 leaf-graded table o st x = given-graded _ (go (eqb (x .kind) chapterKind) (eqb (x .kind) verseKind))
   where
     go : (b v : Bool) → Fair (pick b (chapterChecks (entryOf table x) st x) (pick v (verseChecks (entryOf table x) o st x) []))
@@ -166,8 +166,8 @@ leaf-graded table o st x = given-graded _ (go (eqb (x .kind) chapterKind) (eqb (
     go false true = (omega arith, (omega arith, (omega arith, (omega arith, (omega arith, (omega arith, tt))))))
     go false false = tt
 
-open-graded : (table : List ℕ) (o : WalkContext) (a : Option Anchor) (st : WalkState) (e : Entry) (x : Node) (c f : Forest) → Graded (openTold table o a st e x c f .findings)
-unfolding openTold
+open-graded : (table : List ℕ) (o : WalkContext) (a : Option Anchor) (st : WalkState) (e : Entry) (x : Node) (c f : Forest) → Graded (openChecked table o a st e x c f .findings)
+unfolding openChecked
 open-graded table o a st e x c f =
     let name = cut (e .name) table in
     let st₁ = afterId (equal name idName) st c in
@@ -182,14 +182,14 @@ walk-graded : (table : List ℕ) (o : WalkContext) (a : Option Anchor) (f : Fore
 unfolding walk
 walk-graded table o a end st = tt
 walk-graded table o a (leaf x r) st =
-    graded-append (leafTold table o st x .findings) (walk table o (leafAnchor a x) r (leafTold table o st x .state) .findings) (leaf-graded table o st x) (walk-graded table o (leafAnchor a x) r (leafTold table o st x .state))
+    graded-append (leafChecked table o st x .findings) (walk table o (leafAnchor a x) r (leafChecked table o st x .state) .findings) (leaf-graded table o st x) (walk-graded table o (leafAnchor a x) r (leafChecked table o st x .state))
 walk-graded table o a (node x c r) st =
     go (entryOf table x) (λ p s. walk-graded table p none c s) (λ s. walk-graded table o (past a (node x c end)) r s)
   where
-    go : (q : Option Entry) → ((p : WalkContext) (s : WalkState) → Graded (walk table p none c s .findings)) → ((s : WalkState) → Graded (walk table o (past a (node x c end)) r s .findings)) → Graded (byEntry q (walk table o (past a (node x c end)) r st) (λ e. after (openTold table o a st e x c (node x c r)) (λ st₁. thenWalk (walk table (inside o e) none c st₁) (walk table o (past a (node x c end)) r))) .findings)
+    go : (q : Option Entry) → ((p : WalkContext) (s : WalkState) → Graded (walk table p none c s .findings)) → ((s : WalkState) → Graded (walk table o (past a (node x c end)) r s .findings)) → Graded (byEntry q (walk table o (past a (node x c end)) r st) (λ e. afterNode (openChecked table o a st e x c (node x c r)) (λ st₁. thenWalk (walk table (inside o e) none c st₁) (walk table o (past a (node x c end)) r))) .findings)
     go none below later = later st
     go (some e) below later =
-        let t = openTold table o a st e x c (node x c r) in
+        let t = openChecked table o a st e x c (node x c r) in
         let w = walk table (inside o e) none c (t .state) in
         graded-append (t .findings) (w .findings ++ walk table o (past a (node x c end)) r (w .state) .findings) (open-graded table o a st e x c (node x c r))
         (graded-append (w .findings) (walk table o (past a (node x c end)) r (w .state) .findings) (below (inside o e) (t .state)) (later (w .state)))
@@ -225,8 +225,8 @@ severities (f ∷ fs) h = go (f .severity) (h .0 .0) (severities fs (h .1))
     go (suc (suc zero)) l q = omega arith
     go (suc (suc (suc n))) l q = absurd (omega arith)
 
-leaf-verses : (table : List ℕ) (o : WalkContext) (st : WalkState) (x : Node) → leafTold table o st x .state .verses ≤ st .verses + 1
-unfolding leafTold afterChapter afterVerse
+leaf-verses : (table : List ℕ) (o : WalkContext) (st : WalkState) (x : Node) → leafChecked table o st x .state .verses ≤ st .verses + 1
+unfolding leafChecked afterChapter afterVerse
 leaf-verses table o st x = go (eqb (x .kind) chapterKind) (eqb (x .kind) verseKind)
   where
     go : (b v : Bool) → pick b (afterChapter st x) (pick v (afterVerse (entryOf table x) o st x) st) .verses ≤ st .verses + 1
@@ -234,8 +234,8 @@ leaf-verses table o st x = go (eqb (x .kind) chapterKind) (eqb (x .kind) verseKi
     go false true = le-refl (st .verses + 1)
     go false false = omega arith
 
-open-verses : (table : List ℕ) (o : WalkContext) (a : Option Anchor) (st : WalkState) (e : Entry) (x : Node) (c f : Forest) → openTold table o a st e x c f .state .verses ≡ st .verses
-unfolding openTold afterMilestone afterId
+open-verses : (table : List ℕ) (o : WalkContext) (a : Option Anchor) (st : WalkState) (e : Entry) (x : Node) (c f : Forest) → openChecked table o a st e x c f .state .verses ≡ st .verses
+unfolding openChecked afterMilestone afterId
 open-verses table o a st e x c f = refl
 
 walk-verses : (table : List ℕ) (o : WalkContext) (a : Option Anchor) (f : Forest) (st : WalkState) → walk table o a f st .state .verses ≤ st .verses + nodesIn f
@@ -243,15 +243,15 @@ unfolding walk nodesIn
 walk-verses table o a end st = omega arith
 walk-verses table o a (leaf x r) st =
     let h = leaf-verses table o st x in
-    let k = walk-verses table o (leafAnchor a x) r (leafTold table o st x .state) in
+    let k = walk-verses table o (leafAnchor a x) r (leafChecked table o st x .state) in
     omega arith
 walk-verses table o a (node x c r) st =
     go (entryOf table x) (λ p s. walk-verses table p none c s) (λ s. walk-verses table o (past a (node x c end)) r s)
   where
-    go : (q : Option Entry) → ((p : WalkContext) (s : WalkState) → walk table p none c s .state .verses ≤ s .verses + nodesIn c) → ((s : WalkState) → walk table o (past a (node x c end)) r s .state .verses ≤ s .verses + nodesIn r) → byEntry q (walk table o (past a (node x c end)) r st) (λ e. after (openTold table o a st e x c (node x c r)) (λ st₁. thenWalk (walk table (inside o e) none c st₁) (walk table o (past a (node x c end)) r))) .state .verses ≤ st .verses + (1 + nodesIn c + nodesIn r)
+    go : (q : Option Entry) → ((p : WalkContext) (s : WalkState) → walk table p none c s .state .verses ≤ s .verses + nodesIn c) → ((s : WalkState) → walk table o (past a (node x c end)) r s .state .verses ≤ s .verses + nodesIn r) → byEntry q (walk table o (past a (node x c end)) r st) (λ e. afterNode (openChecked table o a st e x c (node x c r)) (λ st₁. thenWalk (walk table (inside o e) none c st₁) (walk table o (past a (node x c end)) r))) .state .verses ≤ st .verses + (1 + nodesIn c + nodesIn r)
     go none below later = let k = later st in omega arith
     go (some e) below later =
-        let t = openTold table o a st e x c (node x c r) in
+        let t = openChecked table o a st e x c (node x c r) in
         let w = walk table (inside o e) none c (t .state) in
         let m = open-verses table o a st e x c (node x c r) in
         let k = below (inside o e) (t .state) in

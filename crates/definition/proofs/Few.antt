@@ -23,10 +23,10 @@ use Rattle.attributes.specs.Attributes.{attributesFindings}
 use Rattle.attributes.proofs.Few.{attributes-few}
 use Rattle.rows.specs.Row.{rowFindings}
 use Rattle.rows.proofs.Few.{only-few, row-few}
-use Rattle.definition.specs.State.{WalkState, initial, outside, WalkContext, Anchor, past, Told}
-use Rattle.definition.specs.Checks.{warning, Check, when, given, entryOf, chapterChecks, verseChecks, leafTold, bookCode, idName, trName, idChecks, afterId, placeChecks, contentChecks}
+use Rattle.definition.specs.State.{WalkState, initial, outside, WalkContext, Anchor, past, NodeChecked}
+use Rattle.definition.specs.Checks.{warning, Check, when, given, entryOf, chapterChecks, verseChecks, leafChecked, bookCode, idName, trName, idChecks, afterId, placeChecks, contentChecks}
 use Rattle.definition.specs.Milestones.{milestoneChecks}
-use Rattle.definition.specs.Walk.{Walked, leafAnchor, openTold, inside, after, thenWalk, byEntry, walk}
+use Rattle.definition.specs.Walk.{Walked, leafAnchor, openChecked, inside, afterNode, thenWalk, byEntry, walk}
 use Rattle.definition.specs.Document.{textBefore, ofDocument, unclosed, closing, walked, running, findings}
 use Rattle.findings.specs.Codes.{textBeforeId, missingIdMarker, missingChapterMarker}
 
@@ -39,8 +39,8 @@ given-few (c ∷ cs) = go (c .holds) (given-few cs)
     go true h = omega arith
     go false h = omega arith
 
-leaf-few : (table : List ℕ) (o : WalkContext) (st : WalkState) (x : Node) → length (leafTold table o st x .findings) ≤ 6
-unfolding leafTold
+leaf-few : (table : List ℕ) (o : WalkContext) (st : WalkState) (x : Node) → length (leafChecked table o st x .findings) ≤ 6
+unfolding leafChecked
 leaf-few table o st x = go (eqb (x .kind) chapterKind) (eqb (x .kind) verseKind)
   where
     go : (b v : Bool) → length (given (pick b (chapterChecks (entryOf table x) st x) (pick v (verseChecks (entryOf table x) o st x) []))) ≤ 6
@@ -52,8 +52,8 @@ pick-few : (b : Bool) (fs : List Finding) (n : ℕ) → length fs ≤ n → leng
 pick-few true fs n h = h
 pick-few false fs n h = omega arith
 
-open-few : (table : List ℕ) (o : WalkContext) (a : Option Anchor) (st : WalkState) (e : Entry) (x : Node) (c f : Forest) → length (openTold table o a st e x c f .findings) ≤ 10 + 2 * breadth c
-unfolding openTold
+open-few : (table : List ℕ) (o : WalkContext) (a : Option Anchor) (st : WalkState) (e : Entry) (x : Node) (c f : Forest) → length (openChecked table o a st e x c f .findings) ≤ 10 + 2 * breadth c
+unfolding openChecked
 open-few table o a st e x c f =
     let name = cut (e .name) table in
     let st₁ = afterId (equal name idName) st c in
@@ -71,17 +71,17 @@ pub walk-few : (table : List ℕ) (o : WalkContext) (a : Option Anchor) (f : For
 unfolding walk breadth weight
 walk-few table o a end st = le-refl 0
 walk-few table o a (leaf x r) st =
-    let t = leafTold table o st x in
+    let t = leafChecked table o st x in
     let h = leaf-few table o st x in
     let k = walk-few table o (leafAnchor a x) r (t .state) in
     omega (arith, length-append (t .findings) (walk table o (leafAnchor a x) r (t .state) .findings))
 walk-few table o a (node x c r) st =
     go (entryOf table x) (λ p s. walk-few table p none c s) (λ s. walk-few table o (past a (node x c end)) r s)
   where
-    go : (q : Option Entry) → ((p : WalkContext) (s : WalkState) → length (walk table p none c s .findings) + 2 * breadth c ≤ 16 * weight c) → ((s : WalkState) → length (walk table o (past a (node x c end)) r s .findings) + 2 * breadth r ≤ 16 * weight r) → length (byEntry q (walk table o (past a (node x c end)) r st) (λ e. after (openTold table o a st e x c (node x c r)) (λ st₁. thenWalk (walk table (inside o e) none c st₁) (walk table o (past a (node x c end)) r))) .findings) + 2 * (amount x + breadth r) ≤ 16 * (amount x + weight c + weight r)
+    go : (q : Option Entry) → ((p : WalkContext) (s : WalkState) → length (walk table p none c s .findings) + 2 * breadth c ≤ 16 * weight c) → ((s : WalkState) → length (walk table o (past a (node x c end)) r s .findings) + 2 * breadth r ≤ 16 * weight r) → length (byEntry q (walk table o (past a (node x c end)) r st) (λ e. afterNode (openChecked table o a st e x c (node x c r)) (λ st₁. thenWalk (walk table (inside o e) none c st₁) (walk table o (past a (node x c end)) r))) .findings) + 2 * (amount x + breadth r) ≤ 16 * (amount x + weight c + weight r)
     go none below later = let k = later st in omega arith
     go (some e) below later =
-        let t = openTold table o a st e x c (node x c r) in
+        let t = openChecked table o a st e x c (node x c r) in
         let w = walk table (inside o e) none c (t .state) in
         let v = walk table o (past a (node x c end)) r (w .state) in
         let h = open-few table o a st e x c (node x c r) in

@@ -31,11 +31,11 @@ given-end l c h = left-end h
 
 -- one finding under its flag
 module _ (flag : Bool) (f g : Finding) (c : Counts) (holds : flag ≡ true) (is : g ≡ f) where
-  pub tell-room : Room c (only flag f) → Room c (g ∷ [])
-  tell-room r = rw holds at r
+  pub only-room : Room c (only flag f) → Room c (g ∷ [])
+  only-room r = rw holds at r
 
-  pub tell-wrote : (l l′ : List ℕ) (c′ : Counts) → Wrote (g ∷ []) l c l′ c′ → Wrote (only flag f) l c l′ c′
-  tell-wrote l l′ c′ w = rw holds (rw is at w)
+  pub only-wrote : (l l′ : List ℕ) (c′ : Counts) → Wrote (g ∷ []) l c l′ c′ → Wrote (only flag f) l c l′ c′
+  only-wrote l l′ c′ w = rw holds (rw is at w)
 
-pub tell-none : (flag : Bool) (f : Finding) (l : List ℕ) (c : Counts) → flag ≡ false → Wrote (only flag f) l c l c
-tell-none flag f l c h = rw h (wrote-none l c)
+pub only-none : (flag : Bool) (f : Finding) (l : List ℕ) (c : Counts) → flag ≡ false → Wrote (only flag f) l c l c
+only-none flag f l c h = rw h (wrote-none l c)

@@ -15,7 +15,7 @@ use Rattle.tape.specs.Forest.{Forest, end, leaf, node, followed}
 use Rattle.findings.specs.Finding.{Finding}
 use Rattle.definition.specs.State.{WalkState, initial, outside}
 use Rattle.definition.specs.Checks.{error}
-use Rattle.definition.specs.Milestones.{isStart, sameBase, visits, Mark, free, untaken, taking, met, marksFrom, marks, freeStarts, takerFrom, takenFrom}
+use Rattle.definition.specs.Milestones.{isStart, sameBase, visits, Mark, free, untaken, taking, withVisit, marksFrom, marks, freeStarts, takerFrom, takenFrom}
 use Rattle.definition.specs.Walk.{Walked, walk}
 use Rattle.definition.specs.Document.{textBefore, walked, running, unclosed, unclosedOf, those, Beginning}
 use Rattle.definition.proofs.Then.{walk-then}
@@ -65,7 +65,7 @@ falling-higher : (b d : ℕ) (ms : List Mark) → b ≤ d → Falling b ms → F
 falling-higher b d [] l h = tt
 falling-higher b d (m ∷ ms) l h = (omega (arith, h .0), h .1)
 
-falling-met : (x : Node) (b : ℕ) (ms : List Mark) → b ≤ x .number → Falling b ms → Falling (suc (x .number)) (met x ms)
+falling-met : (x : Node) (b : ℕ) (ms : List Mark) → b ≤ x .number → Falling b ms → Falling (suc (x .number)) (withVisit x ms)
 falling-met x b ms l h = (le-refl (suc (x .number)), falling-higher b (x .number) (pick (isStart x) ms (taking x ms)) l (go (isStart x)))
   where
     go : (v : Bool) → Falling b (pick v ms (taking x ms))
@@ -75,7 +75,7 @@ falling-met x b ms l h = (le-refl (suc (x .number)), falling-higher b (x .number
 falling-marks : (a b : ℕ) (ms : List Mark) (xs : List Node) → Falling a ms → Rising a b xs → Falling b (marksFrom ms xs)
 unfolding marksFrom
 falling-marks a b ms [] h (none-left l) = falling-higher a b ms l h
-falling-marks a b ms (x ∷ xs) h (rises y l r) = falling-marks (suc (x .number)) b (met x ms) xs (falling-met x a ms l h) r
+falling-marks a b ms (x ∷ xs) h (rises y l r) = falling-marks (suc (x .number)) b (withVisit x ms) xs (falling-met x a ms l h) r
 
 -- What further visits make of the marks: those numbered from m on are in front of them, and of the others only takers from m on are new.
 abbrev High : ℕ → List Mark → Type 0
@@ -130,7 +130,7 @@ taking-split m x ms (k ∷ hs) ls h hi r = go (untaken k && sameBase (k .milesto
     go true e q = record { added = record { milestone = k .milestone; taker = some x } ∷ hs; later = ls; is = rw e; high = hi; rel = r }
     go false e q = record { added = k ∷ q .added; later = q .later; is = rw e (ap (k ∷_) (q .is)); high = (hi .0, q .high); rel = q .rel }
 
-split-met : (m : ℕ) (x : Node) (ms ks : List Mark) → m ≤ x .number → Split m ms ks → Split m ms (met x ks)
+split-met : (m : ℕ) (x : Node) (ms ks : List Mark) → m ≤ x .number → Split m ms ks → Split m ms (withVisit x ks)
 split-met m x ms ks h s = go (isStart x)
   where
     go : (v : Bool) → Split m ms (record { milestone = x; taker = none } ∷ pick v ks (taking x ks))
@@ -142,7 +142,7 @@ split-met m x ms ks h s = go (isStart x)
 split-marks : (m a b : ℕ) (ms ks : List Mark) (xs : List Node) → m ≤ a → Rising a b xs → Split m ms ks → Split m ms (marksFrom ks xs)
 unfolding marksFrom
 split-marks m a b ms ks [] h r s = s
-split-marks m a b ms ks (x ∷ xs) h (rises y l r) s = split-marks m (suc (x .number)) b ms (met x ks) xs (omega arith) r (split-met m x ms ks (omega arith) s)
+split-marks m a b ms ks (x ∷ xs) h (rises y l r) s = split-marks m (suc (x .number)) b ms (withVisit x ks) xs (omega arith) r (split-met m x ms ks (omega arith) s)
 
 -- The starts numbered below m among the marks.
 

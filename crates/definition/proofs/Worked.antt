@@ -3,9 +3,9 @@
 use mathlib.Core.Path.{_≡_, refl}
 use Rattle.text.specs.Literal.{ascii}
 use Rattle.text.specs.Pick.{inAny}
-use Rattle.text.specs.Blank.{blanks, blank}
+use Rattle.text.specs.Blank.{blankRanges, blank}
 use Rattle.text.specs.Utf8 as utf8
-use Rattle.text.specs.Characters.{charsPast, before, findByte}
+use Rattle.text.specs.Characters.{charsPast, bytesBefore, findByte}
 use Rattle.text.specs.Words.{trimStart, kept, trim, blankText, wordFrom}
 use Rattle.text.specs.Number.{allDigits, valueFrom, digitsFrom, digits, parsed}
 use Rattle.tape.specs.Nodes.{half, word, nodes}
@@ -21,13 +21,13 @@ use Rattle.numbers.specs.Label.{labelOf}
 use Rattle.rows.specs.Cells.{columnsIn, cellColumns}
 use Rattle.rows.specs.Row.{rowFrom}
 use Rattle.attributes.specs.Attributes as attributes
-use Rattle.attachment.specs.Attached.{isAlternate, isPublished, plain, runOf, starts, among}
+use Rattle.attachment.specs.Attached.{isAlternate, isPublished, plain, runOf, startOffsets, among}
 use Rattle.definition.specs.Checks as checks
 use Rattle.definition.specs.Milestones.{waits, without, afterMilestone}
-use Rattle.definition.specs.Walk.{openTold, walk}
+use Rattle.definition.specs.Walk.{openChecked, walk}
 use Rattle.definition.specs.Document.{textBefore, unclosed, closing}
 use Rattle.definition.specs.Examples as worked
 
-pub worked-examples : worked.given worked.examples ≡ worked.wantedOf worked.examples
-unfolding ascii worked.given worked.wantedOf worked.examples worked.table worked.tapeOf worked.example1 worked.example2 worked.example3 worked.example4 worked.example5 worked.example6 worked.example7 worked.example8 worked.example9 worked.example10 worked.example11 worked.example12 worked.example13 worked.example14 utf8.table utf8.begins utf8.widthBy utf8.widthOf utf8.decoded utf8.decode inAny blanks blank charsPast before findByte trimStart kept trim blankText wordFrom allDigits valueFrom digitsFrom digits parsed half word nodes followed runs equal all oneOf lines.lines lines.categories lines.roles entries.position entries.entriesOf entries.entries entries.nth names.lemmaNames names.defaultOf names.frontMatter names.noteOnly books.codes books.codeFrom books.bookOf attributes.step attributes.scan attributes.attributeKinds attributes.findingsAt attributes.attributesFindings namePart partOf versePart verseEnd next inSequence labelOf columnsIn cellColumns rowFrom isAlternate isPublished plain runOf starts among checks.given checks.afterChapter checks.afterVerse checks.leafTold checks.bookCode checks.upper checks.afterId checks.inlineContent checks.hasText checks.hasAttribute checks.hasMarkers checks.numberMarkers waits without afterMilestone openTold walk textBefore unclosed closing
+pub worked-examples : worked.findingsOf worked.examples ≡ worked.wantedFindings worked.examples
+unfolding ascii worked.findingsOf worked.wantedFindings worked.examples worked.exampleTable worked.tapeOf worked.example1 worked.example2 worked.example3 worked.example4 worked.example5 worked.example6 worked.example7 worked.example8 worked.example9 worked.example10 worked.example11 worked.example12 worked.example13 worked.example14 utf8.table3-7 utf8.begins utf8.widthBy utf8.widthOf utf8.decoded utf8.decode inAny blankRanges blank charsPast bytesBefore findByte trimStart kept trim blankText wordFrom allDigits valueFrom digitsFrom digits parsed half word nodes followed runs equal all oneOf lines.lines lines.categories lines.roles entries.position entries.entriesOf entries.entries entries.nth names.lemmaNames names.defaultOf names.frontMatter names.noteOnly books.bookCodes books.codeFrom books.bookOf attributes.scanStep attributes.attributeScan attributes.attributeKinds attributes.findingsAt attributes.attributesFindings namePart partOf versePart verseEnd next inSequence labelOf columnsIn cellColumns rowFrom isAlternate isPublished plain runOf startOffsets among checks.given checks.afterChapter checks.afterVerse checks.leafChecked checks.bookCode checks.upper checks.afterId checks.inlineContent checks.hasText checks.hasAttribute checks.hasMarkers checks.numberMarkers waits without afterMilestone openChecked walk textBefore unclosed closing
 worked-examples = refl

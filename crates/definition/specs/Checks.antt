@@ -5,7 +5,7 @@ use mathlib.Core.List.{List, [], _∷_, _++_}
 use mathlib.Core.Option.{Option, some, none}
 use lib.Dec.{eqb, ltb}
 use lib.ListN.{length, getD, take, drop}
-use Rattle.text.specs.Pick.{within, cut, pick}
+use Rattle.text.specs.Pick.{within, cut, pick, known}
 use Rattle.text.specs.Words.{firstWord, blankText}
 use Rattle.tape.specs.Nodes.{Node, chapterKind, verseKind, textKind, attributeKind}
 use Rattle.tape.specs.Forest.{Forest, end, leaf, node, followed}
@@ -20,7 +20,7 @@ use Rattle.findings.specs.Written.{only}
 use Rattle.numbers.specs.Label.{isGlued, labelOf, numbered}
 use Rattle.numbers.specs.Verse.{Position, versePart, verseEnd, next, inSequence}
 use Rattle.attachment.specs.Attached.{among, isAttached}
-use Rattle.definition.specs.State.{WalkState, firstVerse, WalkContext, Anchor, Told}
+use Rattle.definition.specs.State.{WalkState, firstVerse, WalkContext, Anchor, NodeChecked}
 use Rattle.findings.specs.Codes.{missingSpaceBeforeNumber, leadingZeros, missingChapterNumber, verseOutsideParagraph, charCrossesVerseBoundary, missingVerseNumber, duplicateId, invalidBookCode, noteSubmarkerOutsideNote, nonEmptyBlankLine, bodyParagraphBeforeChapter, misplacedNumberMarker, emptyFigure, emptyWordMarker, missingRequiredAttribute, duplicateChapter, invalidChapterSequence, invalidVerseSequence, chapterForm, verseForm, shouldBeUppercase, notValid}
 use Rattle.text.specs.Literal.{ascii}
 
@@ -43,10 +43,6 @@ error x code form = about x errorSeverity code form 0 0
 
 abbrev pub warning : Node → ℕ → ℕ → Finding
 warning x code form = about x warningSeverity code form 0 0
-
-abbrev pub known : Option ℕ → Bool
-known none = false
-known (some n) = true
 
 -- the table entry of a node that bears a marker
 abbrev pub entryOf : List ℕ → Node → Option Entry
@@ -112,9 +108,9 @@ endOr none start = start
 endOr (some e) start = e
 
 -- a label that isn't read leaves the expected verse
-abbrev pub nextBy : Option Position → List ℕ → Position → Position
-nextBy none label expected = expected
-nextBy (some p) label expected = next (endOr (verseEnd label) p)
+abbrev pub expectedAfter : Option Position → List ℕ → Position → Position
+expectedAfter none label expected = expected
+expectedAfter (some p) label expected = next (endOr (verseEnd label) p)
 
 -- VerseOutsideParagraph once, CharCrossesVerseBoundary, MissingVerseNumber, InvalidVerseSequence ("expected number, letter byte or 0")
 abbrev pub verseChecks : Option Entry → WalkContext → WalkState → Node → List Check
@@ -134,15 +130,15 @@ afterVerse e o st x =
       frontMatter = st .frontMatter;
       verseOutsideWarned = (st .verseOutsideWarned || not (o .inBodyPara));
       expectedChapter = st .expectedChapter;
-      expectedVerse = nextBy (versePart (labelOf e (x .text))) (labelOf e (x .text)) (st .expectedVerse);
+      expectedVerse = expectedAfter (versePart (labelOf e (x .text))) (labelOf e (x .text)) (st .expectedVerse);
       seen = st .seen;
       openStarts = st .openStarts;
       verses = st .verses + 1;
     }
 
 -- a Chapter, a Verse, or any other leaf, of which nothing is said
-unfoldable pub leafTold : List ℕ → WalkContext → WalkState → Node → Told
-leafTold table o st x =
+unfoldable pub leafChecked : List ℕ → WalkContext → WalkState → Node → NodeChecked
+leafChecked table o st x =
     record {
       findings = given (pick (eqb (x .kind) chapterKind) (chapterChecks (entryOf table x) st x) (pick (eqb (x .kind) verseKind) (verseChecks (entryOf table x) o st x) []));
       state = pick (eqb (x .kind) chapterKind) (afterChapter st x) (pick (eqb (x .kind) verseKind) (afterVerse (entryOf table x) o st x) st);

@@ -14,8 +14,8 @@ pub record Row : Type 0 where
   pub len : ℕ
   pub link : ℕ
 
-abbrev pub at : ℕ → ℕ → ℕ → ℕ → ℕ → Row
-at kind marker start len link = record { kind = kind; marker = marker; start = start; len = len; link = link }
+abbrev pub row : ℕ → ℕ → ℕ → ℕ → ℕ → Row
+row kind marker start len link = record { kind = kind; marker = marker; start = start; len = len; link = link }
 
 -- four bytes, the lowest first
 abbrev pub four : ℕ → List ℕ
@@ -47,8 +47,8 @@ abbrev pub example : List ℕ → List Row → List Finding → Example
 example source nodes wanted = record { source = source; nodes = nodes; wanted = wanted }
 
 -- the table of all examples
-unfoldable pub table : List ℕ
-table =
+unfoldable pub exampleTable : List ℕ
+exampleTable =
     ascii "name=id\ncategory=identification\nrole=excluded\n"
     ++ ascii "name=c\ncategory=chapter\nrole=content\n"
     ++ ascii "name=v\ncategory=verse\nrole=content\n"
@@ -69,15 +69,15 @@ table =
 unfoldable pub example1 : Example
 example1 =
     example (ascii "\\id GEN\n\\c 1\n\\p\n\\v 2 Word")
-    (at 0 0 0 25 9
-    ∷ at 1 0 0 3 3
-    ∷ at 5 0 3 5 0
-    ∷ at 7 0 8 0 0
-    ∷ at 3 1 8 5 1
-    ∷ at 1 3 13 2 8
-    ∷ at 4 2 16 5 2
-    ∷ at 5 0 21 4 0
-    ∷ at 7 3 25 0 0
+    (row 0 0 0 25 9
+    ∷ row 1 0 0 3 3
+    ∷ row 5 0 3 5 0
+    ∷ row 7 0 8 0 0
+    ∷ row 3 1 8 5 1
+    ∷ row 1 3 13 2 8
+    ∷ row 4 2 16 5 2
+    ∷ row 5 0 21 4 0
+    ∷ row 7 3 25 0 0
     ∷ [])
     (found 1 11 16 5 6 0 1 0
     ∷ [])
@@ -86,15 +86,15 @@ example1 =
 unfoldable pub example2 : Example
 example2 =
     example (ascii "\\id GEN\n\\c 1\n\\p\\v 1 Word")
-    (at 0 0 0 24 9
-    ∷ at 1 0 0 3 3
-    ∷ at 5 0 3 5 0
-    ∷ at 7 0 8 0 0
-    ∷ at 3 1 8 5 1
-    ∷ at 1 3 13 2 8
-    ∷ at 4 2 15 5 1
-    ∷ at 5 0 20 4 0
-    ∷ at 7 3 24 0 0
+    (row 0 0 0 24 9
+    ∷ row 1 0 0 3 3
+    ∷ row 5 0 3 5 0
+    ∷ row 7 0 8 0 0
+    ∷ row 3 1 8 5 1
+    ∷ row 1 3 13 2 8
+    ∷ row 4 2 15 5 1
+    ∷ row 5 0 20 4 0
+    ∷ row 7 3 24 0 0
     ∷ [])
     ([])
 
@@ -102,12 +102,12 @@ example2 =
 unfoldable pub example3 : Example
 example3 =
     example (ascii "\\id \nXYZ\n\\c 1\n")
-    (at 0 0 0 14 6
-    ∷ at 1 0 0 3 4
-    ∷ at 5 0 3 2 0
-    ∷ at 5 0 5 4 0
-    ∷ at 7 0 9 0 0
-    ∷ at 3 1 9 5 1
+    (row 0 0 0 14 6
+    ∷ row 1 0 0 3 4
+    ∷ row 5 0 3 2 0
+    ∷ row 5 0 5 4 0
+    ∷ row 7 0 9 0 0
+    ∷ row 3 1 9 5 1
     ∷ [])
     ([])
 
@@ -115,14 +115,14 @@ example3 =
 unfoldable pub example4 : Example
 example4 =
     example (ascii "\\id gen\n\\id XYZ\n\\c 1\n")
-    (at 0 0 0 21 8
-    ∷ at 1 0 0 3 3
-    ∷ at 5 0 3 5 0
-    ∷ at 7 0 8 0 0
-    ∷ at 1 0 8 3 6
-    ∷ at 5 0 11 5 0
-    ∷ at 7 0 16 0 0
-    ∷ at 3 1 16 5 1
+    (row 0 0 0 21 8
+    ∷ row 1 0 0 3 3
+    ∷ row 5 0 3 5 0
+    ∷ row 7 0 8 0 0
+    ∷ row 1 0 8 3 6
+    ∷ row 5 0 11 5 0
+    ∷ row 7 0 16 0 0
+    ∷ row 3 1 16 5 1
     ∷ [])
     (found 1 5 0 3 1 0 0 0
     ∷ found 0 6 8 3 4 0 0 0
@@ -133,19 +133,19 @@ example4 =
 unfoldable pub example5 : Example
 example5 =
     example (ascii "\\id GEN\n\\c 1\n\\ca 2\\ca*\\p 2\\ca*")
-    (at 0 0 0 30 13
-    ∷ at 1 0 0 3 3
-    ∷ at 5 0 3 5 0
-    ∷ at 7 0 8 0 0
-    ∷ at 3 1 8 5 1
-    ∷ at 1 12 13 3 7
-    ∷ at 5 0 16 2 0
-    ∷ at 2 12 18 4 0
-    ∷ at 1 3 22 2 9
-    ∷ at 7 3 24 0 0
-    ∷ at 1 12 13 3 12
-    ∷ at 5 0 24 2 0
-    ∷ at 2 12 26 4 0
+    (row 0 0 0 30 13
+    ∷ row 1 0 0 3 3
+    ∷ row 5 0 3 5 0
+    ∷ row 7 0 8 0 0
+    ∷ row 3 1 8 5 1
+    ∷ row 1 12 13 3 7
+    ∷ row 5 0 16 2 0
+    ∷ row 2 12 18 4 0
+    ∷ row 1 3 22 2 9
+    ∷ row 7 3 24 0 0
+    ∷ row 1 12 13 3 12
+    ∷ row 5 0 24 2 0
+    ∷ row 2 12 26 4 0
     ∷ [])
     ([])
 
@@ -153,15 +153,15 @@ example5 =
 unfoldable pub example6 : Example
 example6 =
     example (ascii "\\id GEN\n\\c 1\nx\\ca 2\\ca*")
-    (at 0 0 0 23 9
-    ∷ at 1 0 0 3 3
-    ∷ at 5 0 3 5 0
-    ∷ at 7 0 8 0 0
-    ∷ at 3 1 8 5 1
-    ∷ at 5 0 13 1 0
-    ∷ at 1 12 14 3 8
-    ∷ at 5 0 17 2 0
-    ∷ at 2 12 19 4 0
+    (row 0 0 0 23 9
+    ∷ row 1 0 0 3 3
+    ∷ row 5 0 3 5 0
+    ∷ row 7 0 8 0 0
+    ∷ row 3 1 8 5 1
+    ∷ row 5 0 13 1 0
+    ∷ row 1 12 14 3 8
+    ∷ row 5 0 17 2 0
+    ∷ row 2 12 19 4 0
     ∷ [])
     (found 1 33 14 3 6 0 0 0
     ∷ [])
@@ -170,11 +170,11 @@ example6 =
 unfoldable pub example7 : Example
 example7 =
     example (ascii "\\id GEN\n\\c 2\n")
-    (at 0 0 0 13 5
-    ∷ at 1 0 0 3 3
-    ∷ at 5 0 3 5 0
-    ∷ at 7 0 8 0 0
-    ∷ at 3 1 8 5 1
+    (row 0 0 0 13 5
+    ∷ row 1 0 0 3 3
+    ∷ row 5 0 3 5 0
+    ∷ row 7 0 8 0 0
+    ∷ row 3 1 8 5 1
     ∷ [])
     ([])
 
@@ -182,14 +182,14 @@ example7 =
 unfoldable pub example8 : Example
 example8 =
     example (ascii "\\id GEN\n\\zz\\c 1\n\\zz*\\c 1\n")
-    (at 0 0 0 25 8
-    ∷ at 1 0 0 3 3
-    ∷ at 5 0 3 5 0
-    ∷ at 7 0 8 0 0
-    ∷ at 1 99 8 3 6
-    ∷ at 3 1 11 5 1
-    ∷ at 2 99 16 4 0
-    ∷ at 3 1 20 5 1
+    (row 0 0 0 25 8
+    ∷ row 1 0 0 3 3
+    ∷ row 5 0 3 5 0
+    ∷ row 7 0 8 0 0
+    ∷ row 1 99 8 3 6
+    ∷ row 3 1 11 5 1
+    ∷ row 2 99 16 4 0
+    ∷ row 3 1 20 5 1
     ∷ [])
     ([])
 
@@ -197,25 +197,25 @@ example8 =
 unfoldable pub example9 : Example
 example9 =
     example (ascii "\\id GEN\n\\c 1\n\\qt-s\\*\\qt-s\\*\\qt-e\\*\\p\\qt-e\\*\\qt-e\\*\\qt-s\\*")
-    (at 0 0 0 57 19
-    ∷ at 1 0 0 3 3
-    ∷ at 5 0 3 5 0
-    ∷ at 7 0 8 0 0
-    ∷ at 3 1 8 5 1
-    ∷ at 1 13 13 5 6
-    ∷ at 2 13 18 2 0
-    ∷ at 1 13 20 5 8
-    ∷ at 2 13 25 2 0
-    ∷ at 1 14 27 5 10
-    ∷ at 2 14 32 2 0
-    ∷ at 1 3 34 2 18
-    ∷ at 1 14 36 5 13
-    ∷ at 2 14 41 2 0
-    ∷ at 1 14 43 5 15
-    ∷ at 2 14 48 2 0
-    ∷ at 1 13 50 5 17
-    ∷ at 2 13 55 2 0
-    ∷ at 7 3 57 0 0
+    (row 0 0 0 57 19
+    ∷ row 1 0 0 3 3
+    ∷ row 5 0 3 5 0
+    ∷ row 7 0 8 0 0
+    ∷ row 3 1 8 5 1
+    ∷ row 1 13 13 5 6
+    ∷ row 2 13 18 2 0
+    ∷ row 1 13 20 5 8
+    ∷ row 2 13 25 2 0
+    ∷ row 1 14 27 5 10
+    ∷ row 2 14 32 2 0
+    ∷ row 1 3 34 2 18
+    ∷ row 1 14 36 5 13
+    ∷ row 2 14 41 2 0
+    ∷ row 1 14 43 5 15
+    ∷ row 2 14 48 2 0
+    ∷ row 1 13 50 5 17
+    ∷ row 2 13 55 2 0
+    ∷ row 7 3 57 0 0
     ∷ [])
     (found 0 16 43 5 14 1 0 0
     ∷ found 0 16 50 5 16 0 0 0
@@ -225,14 +225,14 @@ example9 =
 unfoldable pub example10 : Example
 example10 =
     example (ascii "\\id GEN\n\\c 1\n\\v 1-9 \\v 9a \\v 9 ")
-    (at 0 0 0 31 8
-    ∷ at 1 0 0 3 3
-    ∷ at 5 0 3 5 0
-    ∷ at 7 0 8 0 0
-    ∷ at 3 1 8 5 1
-    ∷ at 4 2 13 7 19
-    ∷ at 4 2 20 6 9
-    ∷ at 4 2 26 5 9
+    (row 0 0 0 31 8
+    ∷ row 1 0 0 3 3
+    ∷ row 5 0 3 5 0
+    ∷ row 7 0 8 0 0
+    ∷ row 3 1 8 5 1
+    ∷ row 4 2 13 7 19
+    ∷ row 4 2 20 6 9
+    ∷ row 4 2 26 5 9
     ∷ [])
     (found 1 12 13 7 5 0 0 0
     ∷ found 1 11 26 5 7 0 9 98
@@ -242,17 +242,17 @@ example10 =
 unfoldable pub example11 : Example
 example11 =
     example (ascii "\\id GEN\n\\c 1\n\\p\\w x|lemma=\"\" a=b c\\w*")
-    (at 0 0 0 37 11
-    ∷ at 1 0 0 3 3
-    ∷ at 5 0 3 5 0
-    ∷ at 7 0 8 0 0
-    ∷ at 3 1 8 5 1
-    ∷ at 1 3 13 2 10
-    ∷ at 1 9 15 2 9
-    ∷ at 5 0 17 2 0
-    ∷ at 6 0 19 15 0
-    ∷ at 2 9 34 3 0
-    ∷ at 7 3 37 0 0
+    (row 0 0 0 37 11
+    ∷ row 1 0 0 3 3
+    ∷ row 5 0 3 5 0
+    ∷ row 7 0 8 0 0
+    ∷ row 3 1 8 5 1
+    ∷ row 1 3 13 2 10
+    ∷ row 1 9 15 2 9
+    ∷ row 5 0 17 2 0
+    ∷ row 6 0 19 15 0
+    ∷ row 2 9 34 3 0
+    ∷ row 7 3 37 0 0
     ∷ [])
     (found 2 17 19 15 8 2 0 0
     ∷ found 0 22 19 15 8 0 0 0
@@ -263,17 +263,17 @@ example11 =
 unfoldable pub example12 : Example
 example12 =
     example (ascii "\\id GEN\n\\c 1\n\\tr\\tc1-2\\tc4")
-    (at 0 0 0 26 11
-    ∷ at 1 0 0 3 3
-    ∷ at 5 0 3 5 0
-    ∷ at 7 0 8 0 0
-    ∷ at 3 1 8 5 1
-    ∷ at 1 10 13 3 10
-    ∷ at 1 11 16 6 7
-    ∷ at 7 11 22 0 0
-    ∷ at 1 11 22 4 9
-    ∷ at 7 11 26 0 0
-    ∷ at 7 10 26 0 0
+    (row 0 0 0 26 11
+    ∷ row 1 0 0 3 3
+    ∷ row 5 0 3 5 0
+    ∷ row 7 0 8 0 0
+    ∷ row 3 1 8 5 1
+    ∷ row 1 10 13 3 10
+    ∷ row 1 11 16 6 7
+    ∷ row 7 11 22 0 0
+    ∷ row 1 11 22 4 9
+    ∷ row 7 11 26 0 0
+    ∷ row 7 10 26 0 0
     ∷ [])
     (found 0 27 22 4 8 0 3 4
     ∷ [])
@@ -282,13 +282,13 @@ example12 =
 unfoldable pub example13 : Example
 example13 =
     example (ascii "x\\id GEN\n\\p")
-    (at 0 0 0 11 7
-    ∷ at 5 0 0 1 0
-    ∷ at 1 0 1 3 4
-    ∷ at 5 0 4 5 0
-    ∷ at 7 0 9 0 0
-    ∷ at 1 3 9 2 6
-    ∷ at 7 3 11 0 0
+    (row 0 0 0 11 7
+    ∷ row 5 0 0 1 0
+    ∷ row 1 0 1 3 4
+    ∷ row 5 0 4 5 0
+    ∷ row 7 0 9 0 0
+    ∷ row 1 3 9 2 6
+    ∷ row 7 3 11 0 0
     ∷ [])
     (found 1 7 0 1 1 0 0 0
     ∷ found 0 24 9 2 5 0 0 0
@@ -299,8 +299,8 @@ example13 =
 unfoldable pub example14 : Example
 example14 =
     example (ascii "\\c01\n")
-    (at 0 0 0 5 2
-    ∷ at 3 1 0 5 1
+    (row 0 0 0 5 2
+    ∷ row 3 1 0 5 1
     ∷ [])
     (found 1 34 0 5 1 0 0 0
     ∷ found 0 15 0 5 1 0 0 0
@@ -325,10 +325,10 @@ examples =
     ∷ example14
     ∷ []
 
-unfoldable pub given : List Example → List (List Finding)
-given [] = []
-given (e ∷ es) = findings table (top (e .source) (tapeOf (e .nodes))) ∷ given es
+unfoldable pub findingsOf : List Example → List (List Finding)
+findingsOf [] = []
+findingsOf (e ∷ es) = findings exampleTable (top (e .source) (tapeOf (e .nodes))) ∷ findingsOf es
 
-unfoldable pub wantedOf : List Example → List (List Finding)
-wantedOf [] = []
-wantedOf (e ∷ es) = e .wanted ∷ wantedOf es
+unfoldable pub wantedFindings : List Example → List (List Finding)
+wantedFindings [] = []
+wantedFindings (e ∷ es) = e .wanted ∷ wantedFindings es

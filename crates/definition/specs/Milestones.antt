@@ -61,15 +61,15 @@ unfoldable pub without : Node → List Node → List Node
 without x [] = []
 without x (y ∷ ys) = pick (sameBase y x) ys (y ∷ without x ys)
 
-abbrev pub openAfter : Bool → Node → List Node → List Node
-openAfter begins x xs = pick begins (x ∷ xs) (without x xs)
+abbrev pub startsAfter : Bool → Node → List Node → List Node
+startsAfter begins x xs = pick begins (x ∷ xs) (without x xs)
 
 -- MilestoneMismatch: "1 end"
 abbrev pub milestoneChecks : Entry → WalkState → Node → List Check
 milestoneChecks e st x = when (isMilestone e x && (not (isStart x) && not (waits x (st .openStarts)))) (error x milestoneMismatch endAlone) ∷ []
 
 unfoldable pub afterMilestone : Entry → WalkState → Node → WalkState
-afterMilestone e st x = withOpen st (pick (isMilestone e x) (openAfter (isStart x) x (st .openStarts)) (st .openStarts))
+afterMilestone e st x = withOpen st (pick (isMilestone e x) (startsAfter (isStart x) x (st .openStarts)) (st .openStarts))
 
 -- The order of visits: the milestones of a run that are visited, in order.
 
@@ -101,13 +101,13 @@ taking x (m ∷ ms) =
     pick (untaken m && sameBase (m .milestone) x) (record { milestone = m .milestone; taker = some x } ∷ ms) (m ∷ taking x ms)
 
 -- one visit more
-abbrev pub met : Node → List Mark → List Mark
-met x ms = record { milestone = x; taker = none } ∷ pick (isStart x) ms (taking x ms)
+abbrev pub withVisit : Node → List Mark → List Mark
+withVisit x ms = record { milestone = x; taker = none } ∷ pick (isStart x) ms (taking x ms)
 
 -- the marks after all visits, the latest first
 unfoldable pub marksFrom : List Mark → List Node → List Mark
 marksFrom ms [] = ms
-marksFrom ms (x ∷ xs) = marksFrom (met x ms) xs
+marksFrom ms (x ∷ xs) = marksFrom (withVisit x ms) xs
 
 abbrev pub marks : List Node → List Mark
 marks xs = marksFrom [] xs

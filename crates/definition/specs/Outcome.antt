@@ -124,13 +124,13 @@ abbrev pub listAfter : Lent → List ℕ
 listAfter l = wordsBy (refusal l) (l .list) (overlay (l .list) 0 (listOf l))
 
 -- so many entries of nothing
-unfoldable pub blanks : {A : Type 0} → A → ℕ → List A
-blanks nothing zero = []
-blanks nothing (suc n) = nothing ∷ blanks nothing n
+unfoldable pub repeated : {A : Type 0} → A → ℕ → List A
+repeated nothing zero = []
+repeated nothing (suc n) = nothing ∷ repeated nothing n
 
 -- "After a checked document the first n entries of both working lists are zero (n nodes), the rest unchanged."
 abbrev pub cleared : {A : Type 0} → A → ℕ → List A → List A
-cleared nothing n entries = blanks nothing n ++ drop n entries
+cleared nothing n entries = repeated nothing n ++ drop n entries
 
 abbrev pub seenAfter : Lent → List ℕ
 seenAfter l = wordsBy (refusal l) (l .seen) (cleared 0 (count (l .tape)) (l .seen))

@@ -59,6 +59,6 @@ past none f = none
 past (some a) f = some (record { kind = a .kind; passed = followed (a .passed) f })
 
 -- findings, and the record after them
-pub record Told : Type 0 where
+pub record NodeChecked : Type 0 where
   pub findings : List Finding
   pub state : WalkState

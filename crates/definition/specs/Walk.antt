@@ -14,8 +14,8 @@ use Rattle.findings.specs.Finding.{Finding}
 use Rattle.attributes.specs.Attributes.{attributesFindings}
 use Rattle.rows.specs.Row.{rowFindings}
 use Rattle.numbers.specs.Label.{numbered}
-use Rattle.definition.specs.State.{WalkState, WalkContext, Anchor, past, Told}
-use Rattle.definition.specs.Checks.{given, entryOf, leafTold, idName, trName, bookCode, idChecks, afterId, isBody, placeChecks, contentChecks}
+use Rattle.definition.specs.State.{WalkState, WalkContext, Anchor, past, NodeChecked}
+use Rattle.definition.specs.Checks.{given, entryOf, leafChecked, idName, trName, bookCode, idChecks, afterId, isBody, placeChecks, contentChecks}
 use Rattle.definition.specs.Milestones.{milestoneChecks, afterMilestone}
 
 -- the findings of a run, its last anchor, and the record after it
@@ -29,7 +29,7 @@ abbrev pub leafAnchor : Option Anchor → Node → Option Anchor
 leafAnchor a x = pick (numbered (x .kind)) (some (record { kind = x .kind; passed = end })) (past a (leaf x end))
 
 -- by its table name, and the record after `id`; the row of a `tr` and the attributes stand before the milestone
-abbrev pub openBy : List ℕ → WalkState → WalkContext → Option Anchor → WalkState → Entry → Node → Forest → Forest → Told
+abbrev pub openBy : List ℕ → WalkState → WalkContext → Option Anchor → WalkState → Entry → Node → Forest → Forest → NodeChecked
 openBy name st₁ o a st e x c f =
     record {
       findings =
@@ -41,8 +41,8 @@ openBy name st₁ o a st e x c f =
     }
 
 -- all that is said of a marker before its children are walked: `f` are the siblings from it on
-unfoldable pub openTold : List ℕ → WalkContext → Option Anchor → WalkState → Entry → Node → Forest → Forest → Told
-openTold table o a st e x c f = openBy (cut (e .name) table) (afterId (equal (cut (e .name) table) idName) st c) o a st e x c f
+unfoldable pub openChecked : List ℕ → WalkContext → Option Anchor → WalkState → Entry → Node → Forest → Forest → NodeChecked
+openChecked table o a st e x c f = openBy (cut (e .name) table) (afterId (equal (cut (e .name) table) idName) st c) o a st e x c f
 
 -- what lies around the children of a marker
 abbrev pub inside : WalkContext → Entry → WalkContext
@@ -53,14 +53,14 @@ inside o e =
       inChar = (o .inChar || eqb (e .category) characterCategory);
     }
 
-abbrev pub before : List Finding → Walked → Walked
-before fs w = record { findings = fs ++ w .findings; anchor = w .anchor; state = w .state }
+abbrev pub withFindings : List Finding → Walked → Walked
+withFindings fs w = record { findings = fs ++ w .findings; anchor = w .anchor; state = w .state }
 
-abbrev pub after : Told → (WalkState → Walked) → Walked
-after t rest = before (t .findings) (rest (t .state))
+abbrev pub afterNode : NodeChecked → (WalkState → Walked) → Walked
+afterNode t rest = withFindings (t .findings) (rest (t .state))
 
 abbrev pub thenWalk : Walked → (WalkState → Walked) → Walked
-thenWalk w rest = before (w .findings) (rest (w .state))
+thenWalk w rest = withFindings (w .findings) (rest (w .state))
 
 -- "A MarkerOpen whose marker number has no table entry is passed over with all below it."
 abbrev pub byEntry : Option Entry → Walked → (Entry → Walked) → Walked
@@ -69,7 +69,7 @@ byEntry (some e) passedOver visited = visited e
 
 unfoldable pub walk : List ℕ → WalkContext → Option Anchor → Forest → WalkState → Walked
 walk table o a end st = record { findings = []; anchor = a; state = st }
-walk table o a (leaf x r) st = after (leafTold table o st x) (walk table o (leafAnchor a x) r)
+walk table o a (leaf x r) st = afterNode (leafChecked table o st x) (walk table o (leafAnchor a x) r)
 walk table o a (node x c r) st =
     byEntry (entryOf table x) (walk table o (past a (node x c end)) r st)
-    (λ e. after (openTold table o a st e x c (node x c r)) (λ st₁. thenWalk (walk table (inside o e) none c st₁) (walk table o (past a (node x c end)) r)))
+    (λ e. afterNode (openChecked table o a st e x c (node x c r)) (λ st₁. thenWalk (walk table (inside o e) none c st₁) (walk table o (past a (node x c end)) r)))

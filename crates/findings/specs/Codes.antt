@@ -2,8 +2,8 @@
 use Prim.Native.Nat.{ℕ}
 
 -- how many codes there are
-abbrev pub codes : ℕ
-codes = 35
+abbrev pub codeCount : ℕ
+codeCount = 35
 
 abbrev pub missingIdMarker : ℕ
 missingIdMarker = 4

@@ -23,9 +23,13 @@ unfoldable pub counted : Counts → List Finding → Counts
 counted c [] = c
 counted c (f ∷ fs) = counted (bySeverity (f .severity) c) fs
 
--- how many findings the list holds
+-- how many whole records of eight words a list has
+abbrev pub wholeRecords : List ℕ → ℕ
+wholeRecords l = length l / 8
+
+-- how many findings have room in a list
 abbrev pub room : List ℕ → ℕ
-room l = length l / 8
+room l = wholeRecords l
 
 -- the finding as number k, from 0, if it has room
 unfoldable pub put : List ℕ → ℕ → Finding → List ℕ
@@ -52,8 +56,8 @@ pub record Wrote (fs : List Finding) (l : List ℕ) (c : Counts) (l′ : List �
   pub counts : c′ ≡ counted c fs
 
 -- no count of them leaves 64 bits
-abbrev pub limit : ℕ
-limit = 4611686018427387904
+abbrev pub countLimit : ℕ
+countLimit = 4611686018427387904
 
 abbrev pub Room : Counts → List Finding → Type 0
-Room c fs = total c + length fs ≤ limit
+Room c fs = total c + length fs ≤ countLimit

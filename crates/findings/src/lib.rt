@@ -2,7 +2,7 @@
 ghost use Prim.Native.Nat.{_<_};
 ghost use mathlib.Core.List.{[], _∷_};
 ghost use Rattle.findings.specs.Finding.{findingOf, severityOf};
-ghost use Rattle.findings.specs.Written.{Wrote, Room, only, total, limit, bySeverity};
+ghost use Rattle.findings.specs.Written.{Wrote, Room, only, total, countLimit, bySeverity};
 ghost use mathlib.Core.Path.{_≡_};
 
 // In the Rust's order, with its names.
@@ -120,7 +120,7 @@ fn severity_number(s: Severity) -> u64
 }
 
 fn counted(c: Counts, s: Severity) -> Counts
-    requires { ⌜ total c < limit ⌝ }
+    requires { ⌜ total c < countLimit ⌝ }
     ensures { λ r. ⌜ r ≡ bySeverity (severityOf s) c ⌝ }
 {
     match s {

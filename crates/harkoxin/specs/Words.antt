@@ -26,7 +26,7 @@ answerWords (checked c) =
     reportWords (verdictOf (c .cut)) (c .total) (c .written) (c .verses) (c .errors) (c .warnings) (c .infos)
 
 -- the verdict (0 written, 2 refused), a refusal's number and place, and the text's length
-abbrev pub messageWords : message.Answer → List ℕ
+abbrev pub messageWords : message.MessageAnswer → List ℕ
 messageWords (message.refused r) = 2 ∷ r .number ∷ r .place ∷ 0 ∷ []
 messageWords (message.written n) = 0 ∷ 0 ∷ 0 ∷ n ∷ []
 

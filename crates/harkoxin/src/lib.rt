@@ -183,7 +183,7 @@ fn held(a: Answer) -> u64
 // Writes the texts of the findings that the list of a checked document holds, and both answers one behind the other.
 fn write_held<'a>(
     table: &'a [u8],
-    words: &[u64],
+    index: &[u64],
     entries: usize,
     source: &'a [u8],
     tape: &[u8],
@@ -193,14 +193,14 @@ fn write_held<'a>(
     text: &mut [u8],
     out: &mut [u64],
 )
-    requires { ⌜ (Indexed (now table) (now words) entries) × (Accepted (now source) (now tape)) × (length (now source) ≤ 1048576) × (8 * heldOf (answerOf a) ≤ length (now list)) ⌝ }
+    requires { ⌜ (Indexed (now table) (now index) entries) × (Accepted (now source) (now tape)) × (length (now source) ≤ 1048576) × (8 * heldOf (answerOf a) ≤ length (now list)) ⌝ }
     ensures answer { λ r. ⌜ now (out .exit) ≡ over (now (out .entry)) 0 (answerWords (answerOf a) ++ messagesWords (heldAnswer (now (table .entry)) (now (source .entry)) (now (tape .entry)) (heldIn (answerOf a) (now (list .entry))) (length (now (text .entry))))) ⌝ }
     ensures text { λ r. ⌜ now (text .exit) ≡ over (now (text .entry)) 0 (joined (textsOf (now (table .entry)) (now (source .entry)) (now (tape .entry)) (heldIn (answerOf a) (now (list .entry))) (length (now (text .entry))))) ⌝ }
     ensures ends { λ r. ⌜ now (ends .exit) ≡ over (now (ends .entry)) 0 (endsFrom 0 (textsOf (now (table .entry)) (now (source .entry)) (now (tape .entry)) (heldIn (answerOf a) (now (list .entry))) (length (now (text .entry))))) ⌝ }
     ensures list { λ r. ⌜ now (list .exit) ≡ now (list .entry) ⌝ }
 {
     let k = 8 * held(a) as usize;
-    let t = messages::messages_in(table, words, entries, source, tape, &list[..k], ends, text);
+    let t = messages::messages_in(table, index, entries, source, tape, &list[..k], ends, text);
     write_answer(a, out);
     write_messages_answer(t, 9, out);
 }
@@ -234,14 +234,14 @@ pub extern "C" fn harkoxin_report<'a>(
     ensures text { λ r. ⌜ now (text .exit) ≡ reportText (lent (now (table .entry)) (now (source .entry)) (now (tape .entry)) (now (seen .entry)) (now (opens .entry)) (now (list .entry))) (now (text .entry)) ⌝ }
     ensures ends { λ r. ⌜ now (ends .exit) ≡ reportEnds (lent (now (table .entry)) (now (source .entry)) (now (tape .entry)) (now (seen .entry)) (now (opens .entry)) (now (list .entry))) (length (now (text .entry))) (now (ends .entry)) ⌝ }
 {
-    let mut words = [0u64; 512];
-    match validate::check_input(table, &mut words, source, tape, seen.len(), opens.len()) {
+    let mut index = [0u64; 512];
+    match validate::check_input(table, &mut index, source, tape, seen.len(), opens.len()) {
         InputCheck::Refused(number, place) => write_turned_back(number, place, out),
         InputCheck::Accepted(entries) => {
-            let a = validate::passed(table, &words, entries, source, tape, seen, opens, list);
+            let a = validate::passed(table, &index, entries, source, tape, seen, opens, list);
             write_held(
                 table,
-                &words,
+                &index,
                 entries,
                 source,
                 tape,

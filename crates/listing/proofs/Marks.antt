@@ -10,7 +10,7 @@ use lib.ListN.{length, set, getD, length-set}
 use borrow.Author.Tests.{eq-eqb, ne-eqb}
 use Rattle.buffer.specs.Over.{over}
 use Rattle.buffer.proofs.Over.{over-none, over-set}
-use Rattle.listing.specs.Lines.{Place, afterByte, placeFrom, placeOf}
+use Rattle.listing.specs.Lines.{Place, afterByte, placeFrom, lineAndColumn}
 use Rattle.listing.specs.Marks.{eachFrom, linesFrom, columnsFrom}
 
 -- one byte further
@@ -49,30 +49,30 @@ module _ (f : ℕ → ℕ) (n : ℕ) (l₀ : List ℕ) where
 -- the places before one are written, and line and column are those of that place
 pub record Marking (s l₀ m₀ l m : List ℕ) (line column i : ℕ) : Type 0 where
   pub left : i ≤ length s
-  pub is : placeOf s i ≡ record { line = line; column = column }
+  pub is : lineAndColumn s i ≡ record { line = line; column = column }
   pub low : line ≤ i + 1
   pub near : column ≤ i + 1
-  pub lines : WritingEach (λ k. placeOf s k .line) (length s + 1) l₀ l i
-  pub columns : WritingEach (λ k. placeOf s k .column) (length s + 1) m₀ m i
+  pub lines : WritingEach (λ k. lineAndColumn s k .line) (length s + 1) l₀ l i
+  pub columns : WritingEach (λ k. lineAndColumn s k .column) (length s + 1) m₀ m i
 
 pub marking-start : (s l m : List ℕ) → Marking s l m l m 1 1 0
 unfolding placeFrom
 marking-start s l m = record { left = omega arith; is = refl; low = omega arith; near = omega arith; lines = writing-start _ _ _; columns = writing-start _ _ _ }
 
 module _ (s l₀ m₀ l m : List ℕ) (line column i : ℕ) (y : Marking s l₀ m₀ l m line column i) (h : length s < length l₀) (k : length s < length m₀) where
-  writing-line : WritingEach (λ k. placeOf s k .line) (length s + 1) l₀ (set l i line) (i + 1)
+  writing-line : WritingEach (λ k. lineAndColumn s k .line) (length s + 1) l₀ (set l i line) (i + 1)
   writing-line =
       let v = y .left in
-      let e : placeOf s i .line ≡ line = ap (λ (p : Place). p .line) (y .is) in
+      let e : lineAndColumn s i .line ≡ line = ap (λ (p : Place). p .line) (y .is) in
       rw e at (writing-on _ _ _ l i (y .lines) (omega arith) (omega arith))
 
-  writing-column : WritingEach (λ k. placeOf s k .column) (length s + 1) m₀ (set m i column) (i + 1)
+  writing-column : WritingEach (λ k. lineAndColumn s k .column) (length s + 1) m₀ (set m i column) (i + 1)
   writing-column =
       let v = y .left in
-      let e : placeOf s i .column ≡ column = ap (λ (p : Place). p .column) (y .is) in
+      let e : lineAndColumn s i .column ≡ column = ap (λ (p : Place). p .column) (y .is) in
       rw e at (writing-on _ _ _ m i (y .columns) (omega arith) (omega arith))
 
-  next : i < length s → placeOf s (i + 1) ≡ afterByte (getD s i 0) (record { line = line; column = column })
+  next : i < length s → lineAndColumn s (i + 1) ≡ afterByte (getD s i 0) (record { line = line; column = column })
   next g = rw (add-one i, place-on (record { line = 1; column = 1 }) s i g, y .is)
 
   pub marking-break : i < length s → getD s i 0 ≡ 10 → Marking s l₀ m₀ (set l i line) (set m i column) (line + 1) 1 (i + 1)
@@ -118,8 +118,8 @@ module _ (f : ℕ → ℕ) where
 
 -- what stands at a place of the two lists after `lines_and_columns`
 module _ (s l : List ℕ) (i : ℕ) (h : i ≤ length s) (k : length s < length l) where
-  pub marked-line : getD (over l 0 (linesFrom s 0 (length s + 1))) i 0 ≡ placeOf s i .line
-  marked-line = marked (λ k. placeOf s k .line) l (length s + 1) i (omega arith) (omega arith)
+  pub marked-line : getD (over l 0 (linesFrom s 0 (length s + 1))) i 0 ≡ lineAndColumn s i .line
+  marked-line = marked (λ k. lineAndColumn s k .line) l (length s + 1) i (omega arith) (omega arith)
 
-  pub marked-column : getD (over l 0 (columnsFrom s 0 (length s + 1))) i 0 ≡ placeOf s i .column
-  marked-column = marked (λ k. placeOf s k .column) l (length s + 1) i (omega arith) (omega arith)
+  pub marked-column : getD (over l 0 (columnsFrom s 0 (length s + 1))) i 0 ≡ lineAndColumn s i .column
+  marked-column = marked (λ k. lineAndColumn s k .column) l (length s + 1) i (omega arith) (omega arith)

@@ -95,5 +95,5 @@ placeFrom p s zero = p
 placeFrom p [] (suc n) = p
 placeFrom p (b ∷ s) (suc n) = placeFrom (afterByte b p) s n
 
-abbrev pub placeOf : List ℕ → ℕ → Place
-placeOf s n = placeFrom (record { line = 1; column = 1 }) s n
+abbrev pub lineAndColumn : List ℕ → ℕ → Place
+lineAndColumn s n = placeFrom (record { line = 1; column = 1 }) s n

@@ -4,7 +4,7 @@ ghost use mathlib.Core.Path.{_≡_};
 ghost use lib.ListN.{length, drop};
 ghost use Rattle.buffer.specs.Over.{Put, over};
 ghost use Rattle.buffer.specs.Decimal.{decimal};
-ghost use Rattle.table.specs.Inner.{wordsOf};
+ghost use Rattle.table.specs.Inner.{linesOf};
 ghost use Rattle.listing.specs.Lines.{tooLargeLines, refusedLines, checkedLines, findingLines, nameAt};
 ghost use Rattle.listing.specs.Marks.{linesFrom, columnsFrom};
 ghost use Rattle.listing.specs.Inner.{lineOf, farthest, Near};
@@ -49,7 +49,7 @@ fn put_count(out: &mut [u8], at: usize, key: &[u8], n: u64) -> usize
 
 // The place behind k bytes 10, or the end where there are fewer.
 fn word_start(words: &[u8], k: u64) -> usize
-    ensures { λ r. ⌜ (r ≤ length (now (words .entry))) × (nameAt (wordsOf (drop r (now (words .entry)))) 0 ≡ nameAt (wordsOf (now (words .entry))) k) ⌝ }
+    ensures { λ r. ⌜ (r ≤ length (now (words .entry))) × (nameAt (linesOf (drop r (now (words .entry)))) 0 ≡ nameAt (linesOf (now (words .entry))) k) ⌝ }
 {
     let mut at: usize = 0;
     let mut left = k;
@@ -64,7 +64,7 @@ fn word_start(words: &[u8], k: u64) -> usize
 
 // The k-th of the words that byte 10 ends; empty past the last.
 fn word<'a>(words: &'a [u8], k: u64) -> &'a [u8]
-    ensures { λ r. ⌜ (now r ≡ nameAt (wordsOf (now (words .entry))) k) × (length (now r) ≤ length (now (words .entry))) ⌝ }
+    ensures { λ r. ⌜ (now r ≡ nameAt (linesOf (now (words .entry))) k) × (length (now r) ≤ length (now (words .entry))) ⌝ }
 {
     let from = word_start(words, k);
     let rest = &words[from..];
@@ -75,7 +75,7 @@ fn word<'a>(words: &'a [u8], k: u64) -> &'a [u8]
 // Writes a line whose value is the k-th of some names; its value is empty past the last.
 fn put_named(out: &mut [u8], at: usize, key: &[u8], names: &[u8], k: u64) -> usize
     requires { ⌜ (at ≤ 2 * farthest) × (length (now key) ≤ 8) × (length (now names) ≤ 1000) ⌝ }
-    ensures { λ r. ⌜ Near (lineOf (now (key .entry)) (nameAt (wordsOf (now (names .entry))) k)) (now (out .entry)) at (now (out .exit)) r ⌝ }
+    ensures { λ r. ⌜ Near (lineOf (now (key .entry)) (nameAt (linesOf (now (names .entry))) k)) (now (out .entry)) at (now (out .exit)) r ⌝ }
 {
     put_line(out, at, key, word(names, k))
 }

@@ -11,26 +11,27 @@ use lib.ListN.{length, getD}
 use borrow.Author.Tests.{ne-eqb}
 use Rattle.text.specs.Pick.{within, pick}
 use Rattle.table.specs.Bytes.{oneOf}
-use Rattle.table.specs.Books.{codes, bookOf}
+use Rattle.table.specs.Books.{bookCodes, bookOf}
 use Rattle.table.specs.Inner as table
 use Rattle.table.proofs.Words.{one-of, every, one-passes}
-use Rattle.definition.specs.Checks.{known, isBook, upper}
+use Rattle.definition.specs.Checks.{isBook, upper}
+use Rattle.text.specs.Pick.{known}
 use Rattle.text.specs.Literal.{ascii}
 
 same-known : (o : Option ℕ) → known o ≡ table.known o
 same-known none = refl
 same-known (some n) = refl
 
-book-one : (s : List ℕ) → isBook s ≡ oneOf codes s
+book-one : (s : List ℕ) → isBook s ≡ oneOf bookCodes s
 unfolding bookOf
-book-one s = same-known (bookOf s) ∙ sym (one-of codes s 0)
+book-one s = same-known (bookOf s) ∙ sym (one-of bookCodes s 0)
 
 pub no-book : (s : List ℕ) → (length s ≡ 3 → ⊥) → false ≡ isBook s
-unfolding ascii every codes
-no-book s h = go (oneOf codes s) refl ∙ sym (book-one s)
+unfolding ascii every bookCodes
+no-book s h = go (oneOf bookCodes s) refl ∙ sym (book-one s)
   where
-    go : (t : Bool) → oneOf codes s ≡ t → false ≡ oneOf codes s
-    go true e = sym (ne-eqb (length s) 3 h) ∙ one-passes (λ (w : List ℕ). eqb (length w) 3) codes s refl e ∙ sym e
+    go : (t : Bool) → oneOf bookCodes s ≡ t → false ≡ oneOf bookCodes s
+    go true e = sym (ne-eqb (length s) 3 h) ∙ one-passes (λ (w : List ℕ). eqb (length w) 3) bookCodes s refl e ∙ sym e
     go false e = sym e
 
 pub length-upper : (s : List ℕ) → length (upper s) ≡ length s

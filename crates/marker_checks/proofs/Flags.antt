@@ -56,8 +56,8 @@ module _ (s : List ℕ) (before : Bool) where
   pub front-stays : length s ≡ 0 → before ≡ frontBy s before
   front-stays h = rw (eq-eqb (length s) 0 h)
 
-  pub front-told : (r : Bool) → (length s ≡ 0 → ⊥) → r ≡ oneOf frontMatter s → r ≡ frontBy s before
-  front-told r h e = rw (ne-eqb (length s) 0 h) e
+  pub front-listed : (r : Bool) → (length s ≡ 0 → ⊥) → r ≡ oneOf frontMatter s → r ≡ frontBy s before
+  front-listed r h e = rw (ne-eqb (length s) 0 h) e
 
 abbrev pub pair : ℕ → ℕ → List ℕ
 pair a b = a ∷ b ∷ []

@@ -26,8 +26,8 @@ use Rattle.cursor.specs.Names.{nameOf}
 use Rattle.definition.specs.Checks.{given, afterId, isBody, numberMarkers, bName, figName, idName, rbName, trName, wName}
 use Rattle.state.specs.Running.{stateOf, countsOf}
 use Rattle.state.specs.declared.State.{State}
-use Rattle.marker_checks.specs.Own.{ownFindings, ownAt, isId, childrenAt, Marked}
-use Rattle.marker_checks.specs.Skip.{onlyTexts, askedFor, placed, canSkipMarker, canSkipMarkerAt}
+use Rattle.marker_checks.specs.Own.{ownFindings, ownAt, isId, childrenAt, MarkerVisited}
+use Rattle.marker_checks.specs.Skip.{onlyTexts, hasOwnCheck, placed, canSkipMarker, canSkipMarkerAt}
 use Rattle.text.proofs.Bool.{and-left, and-right, or-parts}
 
 -- a run of Texts, a node at a time
@@ -101,7 +101,7 @@ module _ (name : List ℕ) (e : Entry) (o : state.WalkContext) (chapter : Bool) 
   skipped-texts = and-left (onlyTexts c) _ (and-right (placed e o chapter) _ h)
 
   names : (equal name bName ≡ false) × (equal name wName ≡ false) × (equal name idName ≡ false) × (equal name rbName ≡ false) × (equal name trName ≡ false) × (equal name figName ≡ false) × (oneOf numberMarkers name ≡ false)
-  names = none-of _ _ _ _ _ _ _ (not-true (askedFor name) (and-right (onlyTexts c) _ (and-right (placed e o chapter) _ h)))
+  names = none-of _ _ _ _ _ _ _ (not-true (hasOwnCheck name) (and-right (onlyTexts c) _ (and-right (placed e o chapter) _ h)))
 
   pub skipped-category : eqb (e .category) milestoneCategory ≡ false
   skipped-category = other place
@@ -121,7 +121,7 @@ module _ (table s t : List ℕ) (o : state.WalkContext) (a : Option Anchor) (e :
   unfolding afterId
   silent = skipped-silent (cut (e .name) table) e o (r .«has_chapter») (childrenAt s t i) h (stateOf s t [] [] r) (afterId (isId table e) (stateOf s t [] [] r) (childrenAt s t i)) a (nodeAt s t i) (forest s t i to) refl
 
-  pub skipped-marked : (l : List ℕ) → Marked table s t o a e i to l r l r
+  pub skipped-marked : (l : List ℕ) → MarkerVisited table s t o a e i to l r l r
   unfolding afterId
   skipped-marked l =
       record {

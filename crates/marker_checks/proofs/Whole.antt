@@ -22,7 +22,7 @@ use Rattle.definition.specs.State.{WalkContext}
 use Rattle.definition.specs.Checks.{Check, given, idName, trName, bookCode, idChecks, afterId, placeChecks, contentChecks}
 use Rattle.state.specs.Running.{stateOf, anchorOf, countsOf, withCounts}
 use Rattle.state.specs.declared.State.{State}
-use Rattle.marker_checks.specs.Own.{ownAt, childrenAt, Marked}
+use Rattle.marker_checks.specs.Own.{ownAt, childrenAt, MarkerVisited}
 use Rattle.marker_checks.specs.Inner.{withId}
 use Rattle.definition.proofs.Givens.{given-append}
 
@@ -101,7 +101,7 @@ module _ (table s t : List ℕ) (i to : ℕ) (o : WalkContext) (e : Entry) (r : 
   pub own-room : (c : Counts) → c ≡ countsOf r → Room (countsOf r) (ownAt table s t o (anchorOf s t (r .anchor) i) e i to r) → Room c (saidOf s t i to o e r name link named after)
   own-room c e h = rw (e, own-is) h
 
-  pub marked : (l l′ : List ℕ) (c d : Counts) (q : State) → c ≡ countsOf r → q ≡ withCounts after d → Wrote (saidOf s t i to o e r name link named after) l c l′ d → Marked table s t o (anchorOf s t (r .anchor) i) e i to l r l′ q
+  pub marked : (l l′ : List ℕ) (c d : Counts) (q : State) → c ≡ countsOf r → q ≡ withCounts after d → Wrote (saidOf s t i to o e r name link named after) l c l′ d → MarkerVisited table s t o (anchorOf s t (r .anchor) i) e i to l r l′ q
   unfolding afterId
   marked l l′ c d q c-is q-is w =
       rw q-is

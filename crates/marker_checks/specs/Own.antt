@@ -40,7 +40,7 @@ abbrev pub ownAt : List ℕ → List ℕ → List ℕ → state.WalkContext → 
 ownAt table s t o a e i to r =
     ownFindings (cut (e .name) table) (afterId (isId table e) (stateOf s t [] [] r) (childrenAt s t i)) o a (stateOf s t [] [] r) e (nodeAt s t i) (childrenAt s t i) (forest s t i to)
 
-pub record Marked (table s t : List ℕ) (o : state.WalkContext) (a : Option Anchor) (e : Entry) (i to : ℕ) (l : List ℕ) (r : State) (l′ : List ℕ) (q : State) : Type 0 where
+pub record MarkerVisited (table s t : List ℕ) (o : state.WalkContext) (a : Option Anchor) (e : Entry) (i to : ℕ) (l : List ℕ) (r : State) (l′ : List ℕ) (q : State) : Type 0 where
   pub wrote : Wrote (ownAt table s t o a e i to r) l (countsOf r) l′ (countsOf q)
   pub state : (seen : List ℕ) (opens : List OpenStart) → stateOf s t seen opens q ≡ afterId (isId table e) (stateOf s t seen opens r) (childrenAt s t i)
   pub same : SameLists r q

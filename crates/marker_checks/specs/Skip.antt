@@ -19,8 +19,8 @@ onlyTexts (leaf x r) = eqb (x .kind) textKind && onlyTexts r
 onlyTexts (node x c r) = false
 
 -- a name that a check asks for
-abbrev pub askedFor : List ℕ → Bool
-askedFor name =
+abbrev pub hasOwnCheck : List ℕ → Bool
+hasOwnCheck name =
     (equal name bName || equal name wName) || ((equal name idName || equal name rbName) || ((equal name trName || equal name figName) || oneOf numberMarkers name))
 
 -- a paragraph behind a chapter, or a character marker in a note
@@ -29,7 +29,7 @@ placed e o chapter = pick (eqb (e .category) paragraphCategory) chapter (eqb (e 
 
 -- by its name in the table, what lies around it, whether a chapter stands before it, and its children
 abbrev pub canSkipMarker : List ℕ → Entry → state.WalkContext → Bool → Forest → Bool
-canSkipMarker name e o chapter c = placed e o chapter && (onlyTexts c && not (askedFor name))
+canSkipMarker name e o chapter c = placed e o chapter && (onlyTexts c && not (hasOwnCheck name))
 
 -- of node i with its table entry
 abbrev pub canSkipMarkerAt : List ℕ → List ℕ → List ℕ → state.WalkContext → Entry → ℕ → Bool → Bool

@@ -37,8 +37,8 @@ ghost use Rattle.rows.specs.Row.{rowFindings};
 ghost use Rattle.definition.specs.Checks;
 ghost use Rattle.definition.specs.Checks.{given, idChecks, placeChecks, contentChecks, bookCode, isBook, upper, frontBy, inlineContent, hasText, hasAttribute, hasMarkers, numberMarkers, bName, figName, wName, rbName, trName, isBody};
 ghost use Rattle.state.specs.Running.{contextOf, anchorOf, startsFor, stateOf, countsOf};
-ghost use Rattle.marker_checks.specs.Skip.{onlyTexts, askedFor, placed, canSkipMarkerAt};
-ghost use Rattle.marker_checks.specs.Own.{ownAt, Marked, childrenAt};
+ghost use Rattle.marker_checks.specs.Skip.{onlyTexts, hasOwnCheck, placed, canSkipMarkerAt};
+ghost use Rattle.marker_checks.specs.Own.{ownAt, MarkerVisited, childrenAt};
 ghost use Rattle.marker_checks.specs.Inner.{isText, hasContent, withId};
 ghost use Rattle.findings.specs.Codes.{shouldBeUppercase, notValid};
 
@@ -388,7 +388,13 @@ fn empty_word(name: &[u8], source: &[u8], tape: &[u8], from: usize, to: usize) -
     false
 }
 
-fn lacks_attribute(name: &[u8], source: &[u8], tape: &[u8], from: usize, to: usize) -> bool
+fn lacks_required_attributes(
+    name: &[u8],
+    source: &[u8],
+    tape: &[u8],
+    from: usize,
+    to: usize,
+) -> bool
     requires { ⌜ Run (now source) (now tape) from to ⌝ }
     ensures { λ r. ⌜ r ≡ (equal (now (name .entry)) rbName && not (hasAttribute (forest (now (source .entry)) (now (tape .entry)) from to))) ⌝ }
 {
@@ -413,7 +419,7 @@ fn content_findings(
 {
     let figure = empty_figure(name, source, tape, i + 1, link);
     let word = empty_word(name, source, tape, i + 1, link);
-    let attribute = lacks_attribute(name, source, tape, i + 1, link);
+    let attribute = lacks_required_attributes(name, source, tape, i + 1, link);
     let e = Severity::Error;
     let mut d = push_for_node(tape, i, figure, e, EMPTY_FIGURE, 0, list, c);
     d = push_for_node(tape, i, word, e, EMPTY_WORD_MARKER, 0, list, d);
@@ -462,7 +468,7 @@ pub fn visit_marker(
     list: &mut [u64],
 ) -> State
     requires { ⌜ (m .«name_start» + m .«name_len» ≤ length (now table)) × (Run (now source) (now tape) i to) × (i < to) × (isOpen (kindAt (now tape) i) ≡ true) × (startsOf numbers ≡ startsFor (anchorOf (now source) (now tape) (rec .anchor) i) (forest (now source) (now tape) i to)) × Room (countsOf rec) (ownAt (now table) (now source) (now tape) (contextOf context) (anchorOf (now source) (now tape) (rec .anchor) i) (entryOfInfo m) i to rec) ⌝ }
-    ensures { λ r. ⌜ Marked (now (table .entry)) (now (source .entry)) (now (tape .entry)) (contextOf context) (anchorOf (now (source .entry)) (now (tape .entry)) (rec .anchor) i) (entryOfInfo m) i to (now (list .entry)) rec (now (list .exit)) r ⌝ }
+    ensures { λ r. ⌜ MarkerVisited (now (table .entry)) (now (source .entry)) (now (tape .entry)) (contextOf context) (anchorOf (now (source .entry)) (now (tape .entry)) (rec .anchor) i) (entryOfInfo m) i to (now (list .entry)) rec (now (list .exit)) r ⌝ }
 {
     let name = table::name(table, m);
     let link = tape::link_at(tape, i) as usize;
@@ -515,8 +521,8 @@ fn is_either(name: &[u8], a: &[u8], b: &[u8]) -> bool
 }
 
 // Whether a check asks for markers of this name.
-fn is_asked_for(name: &[u8]) -> bool
-    ensures { λ r. ⌜ r ≡ askedFor (now (name .entry)) ⌝ }
+fn has_own_check(name: &[u8]) -> bool
+    ensures { λ r. ⌜ r ≡ hasOwnCheck (now (name .entry)) ⌝ }
 {
     if is_either(name, b"b", b"w") {
         return true;
@@ -563,5 +569,5 @@ pub fn can_skip_marker(
     if !has_only_texts(source, tape, i + 1, link) {
         return false;
     }
-    !is_asked_for(table::name(table, m))
+    !has_own_check(table::name(table, m))
 }

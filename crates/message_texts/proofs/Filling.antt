@@ -12,10 +12,10 @@ use borrow.Author.Tests.{ne-eqb}
 use lib.Dec.{eqb}
 use lib.ListN.{length, take, drop, getD, length-append, length-drop, drop-of-length-le}
 use lib.Seq.{drop-cons, drop-drop, getD-drop}
-use Rattle.buffer.specs.Over.{over, Put, limit}
+use Rattle.buffer.specs.Over.{over, Put, placeLimit}
 use Rattle.buffer.proofs.Over.{over-over, over-none}
 use Rattle.message_texts.specs.Filled.{Values, byteOf, filled}
-use Rattle.message_texts.specs.Inner.{values, Short, Plain}
+use Rattle.message_texts.specs.Inner.{values, Short, NoValues}
 use Rattle.message_texts.proofs.Capitals.{length-upper}
 use Rattle.text.specs.Pick.{pick}
 
@@ -50,7 +50,7 @@ run-here (suc n) (x ∷ s) v h above =
     let z : 5 ≤ x = above 0 (omega arith) in
     rw (itself x v (λ e. omega arith) (λ e. omega arith) (λ e. omega arith) (λ e. omega arith)) (ap (x ∷_) (run-here n s v (omega arith) (λ k l. above (suc k) (omega arith))))
 
-run-filled : (text : List ℕ) (i j : ℕ) → Plain text i j → (v : Values) → filled (drop i text) v ≡ take (j - i) (drop i text) ++ filled (drop j text) v
+run-filled : (text : List ℕ) (i j : ℕ) → NoValues text i j → (v : Values) → filled (drop i text) v ≡ take (j - i) (drop i text) ++ filled (drop j text) v
 run-filled text i j z v =
     let h = z .start in
     let k = z .inside in
@@ -58,10 +58,10 @@ run-filled text i j z v =
     let far : drop (j - i) (drop i text) ≡ drop j text = rw (drop-drop (j - i) i text, e) in
     rw far at (run-here (j - i) (drop i text) v (rw (length-drop i text) (omega arith)) (λ n l. rw (getD-drop i text n 0) (z .above (i + n) (omega arith) (omega arith))))
 
-pub plain-start : (text : List ℕ) (i : ℕ) → i ≤ length text → Plain text i i
+pub plain-start : (text : List ℕ) (i : ℕ) → i ≤ length text → NoValues text i i
 plain-start text i h = record { start = omega arith; inside = h; above = λ k l m. absurd (omega arith) }
 
-pub plain-on : (text : List ℕ) (i j : ℕ) → Plain text i j → j < length text → 5 ≤ getD text j 0 → Plain text i (j + 1)
+pub plain-on : (text : List ℕ) (i j : ℕ) → NoValues text i j → j < length text → 5 ≤ getD text j 0 → NoValues text i (j + 1)
 plain-on text i j z h new = record { start = (let s = z .start in omega arith); inside = omega arith; above = λ k l m. more k l m (decLt k j) }
   where
     more : (k : ℕ) → i ≤ k → k < j + 1 → Dec (k < j) → 5 ≤ getD text k 0
@@ -91,7 +91,7 @@ module _ (text a b c l₀ l : List ℕ) (at i : ℕ) (y : Filling text (values a
         same = e ∙ y .same;
       }
 
-  pub filling-run : (j : ℕ) → Plain text i j → Put (take (j - i) (drop i text)) l at l′ r → Filling text (values a b c) l₀ l′ r j
+  pub filling-run : (j : ℕ) → NoValues text i j → Put (take (j - i) (drop i text)) l at l′ r → Filling text (values a b c) l₀ l′ r j
   filling-run j z p = filling-by (take (j - i) (drop i text)) j (z .inside) (run-filled text i j z (values a b c)) p
 
   pub filling-on : i < length text → Put (byteOf (getD text i 0) (values a b c)) l at l′ r → Filling text (values a b c) l₀ l′ r (i + 1)
@@ -103,7 +103,7 @@ module _ (text a b c l₀ l : List ℕ) (at i : ℕ) (y : Filling text (values a
       filling-by (byteOf n v) (i + 1) (omega arith) here p
 
 module _ (text a b c l₀ l : List ℕ) (at i : ℕ) (y : Filling text (values a b c) l₀ l at i) where
-  pub filling-low : length text ≤ 256 → Short a b c → at ≤ limit
+  pub filling-low : length text ≤ 256 → Short a b c → at ≤ placeLimit
   filling-low h z = omega (arith, y .ending, filled-within a b c 1048576 (omega arith) (z .a-short) (z .b-short) (z .c-short) text)
 
   pub filling-end : length text ≤ i → Put (filled text (values a b c)) l₀ 0 l at

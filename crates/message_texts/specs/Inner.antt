@@ -20,7 +20,7 @@ pub record Short (a b c : List ℕ) : Type 0 where
   pub c-short : length c ≤ 1048576
 
 -- a run of a text in which no byte stands for a value, as 1 to 4 do
-pub record Plain (text : List ℕ) (from end : ℕ) : Type 0 where
+pub record NoValues (text : List ℕ) (from end : ℕ) : Type 0 where
   pub start : from ≤ end
   pub inside : end ≤ length text
   pub above : (k : ℕ) → from ≤ k → k < end → 5 ≤ getD text k 0

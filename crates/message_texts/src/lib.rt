@@ -6,10 +6,10 @@ ghost use Prim.Native.Nat.{_-_, _≤_};
 ghost use lib.ListN.{length, drop};
 ghost use Rattle.text.specs.Pick.{within, pick};
 ghost use Rattle.definition.specs.Checks.{upper};
-ghost use Rattle.buffer.specs.Over.{Put, limit};
+ghost use Rattle.buffer.specs.Over.{Put, placeLimit};
 ghost use Rattle.message_texts.specs.Texts.{numberTexts, markerTexts, attributeTexts};
 ghost use Rattle.message_texts.specs.Filled.{byteOf, filled, allTexts};
-ghost use Rattle.message_texts.specs.Inner.{values, Short, Plain, WrittenAs, WrittenFrom, WrittenOf};
+ghost use Rattle.message_texts.specs.Inner.{values, Short, NoValues, WrittenAs, WrittenFrom, WrittenOf};
 
 fn capital(b: u8) -> u8
     ensures { λ r. ⌜ r ≡ pick (within 0x61 0x7A b) (b - 32) b ⌝ }
@@ -23,7 +23,7 @@ fn capital(b: u8) -> u8
 
 // Writes the bytes with capitals for small letters, and gives the place behind them, whether or not they had room.
 fn put_capitals(out: &mut [u8], at: usize, s: &[u8]) -> usize
-    requires { ⌜ (at ≤ limit) × (length (now s) ≤ limit) ⌝ }
+    requires { ⌜ (at ≤ placeLimit) × (length (now s) ≤ placeLimit) ⌝ }
     ensures { λ r. ⌜ Put (upper (now (s .entry))) (now (out .entry)) at (now (out .exit)) r ⌝ }
 {
     let mut i: usize = 0;
@@ -36,7 +36,7 @@ fn put_capitals(out: &mut [u8], at: usize, s: &[u8]) -> usize
 
 // Writes what a byte of a text stands for: 1, 2 and 3 for the values, 4 for the first in capitals, any other for itself.
 fn put_value(n: u8, a: &[u8], b: &[u8], c: &[u8], out: &mut [u8], at: usize) -> usize
-    requires { ⌜ (at ≤ limit) × Short (now a) (now b) (now c) ⌝ }
+    requires { ⌜ (at ≤ placeLimit) × Short (now a) (now b) (now c) ⌝ }
     ensures { λ r. ⌜ Put (byteOf n (values (now (a .entry)) (now (b .entry)) (now (c .entry)))) (now (out .entry)) at (now (out .exit)) r ⌝ }
 {
     match n {
@@ -54,7 +54,7 @@ fn put_value(n: u8, a: &[u8], b: &[u8], c: &[u8], out: &mut [u8], at: usize) -> 
 // The end of a run of bytes from a place on that stand for themselves, as all from 5 on do.
 fn plain_end(text: &[u8], from: usize) -> usize
     requires { ⌜ from ≤ length (now text) ⌝ }
-    ensures { λ r. ⌜ Plain (now (text .entry)) from r ⌝ }
+    ensures { λ r. ⌜ NoValues (now (text .entry)) from r ⌝ }
 {
     let mut i: usize = from;
     while i < text.len() && 5 <= text[i] {

@@ -23,12 +23,12 @@ use Rattle.findings.specs.Finding.{Finding, Kind, warningSeverity}
 use Rattle.findings.specs.Written.{only}
 use Rattle.numbers.specs.Label.{labelOf, numbered}
 use Rattle.attributes.specs.Attributes.{attributeKinds, findingsAt, attributeFindings, attributesFindings}
-use Rattle.rows.specs.Cells.{Range}
+use Rattle.rows.specs.Cells.{Columns}
 use Rattle.rows.specs.Row.{cellIn, outOfOrder, byColumns, rowFrom, rowFindings}
 use Rattle.definition.specs.State.{WalkState, initial, outside, WalkContext, Anchor, past}
-use Rattle.definition.specs.Checks.{about, error, warning, given, entryOf, letterByte, afterChapter, afterVerse, numberForm, chapterChecks, verseChecks, leafTold, bookCode, isBook, upper, numberMarkers, idName, trName, idChecks, afterId, attachedTo, placeChecks, contentChecks}
-use Rattle.definition.specs.Milestones.{isStart, isEnd, isMilestone, waits, openAfter, milestoneChecks, afterMilestone}
-use Rattle.definition.specs.Walk.{Walked, leafAnchor, openTold, inside, before, after, thenWalk, byEntry, walk}
+use Rattle.definition.specs.Checks.{about, error, warning, given, entryOf, letterByte, afterChapter, afterVerse, numberForm, chapterChecks, verseChecks, leafChecked, bookCode, isBook, upper, numberMarkers, idName, trName, idChecks, afterId, attachedTo, placeChecks, contentChecks}
+use Rattle.definition.specs.Milestones.{isStart, isEnd, isMilestone, waits, startsAfter, milestoneChecks, afterMilestone}
+use Rattle.definition.specs.Walk.{Walked, leafAnchor, openChecked, inside, withFindings, afterNode, thenWalk, byEntry, walk}
 use Rattle.definition.specs.Document.{textBefore, unclosed, closing, walked, running}
 use Rattle.definition.specs.Outcome.{Lent, refusal, listOf}
 use Rattle.definition.proofs.Demand3.{checked-accepted}
@@ -140,7 +140,7 @@ module _ (table s t : List ℕ) where
   entry-is i = refl
 
   -- the cells among the children of a node
-  cell-all : (i : ℕ) → i < count t → (q : Option Range) (n : ℕ) (later : ℕ → List Finding) → ((m : ℕ) → AllOf Has (later m)) → AllOf Has (byColumns q (nodeAt s t i) n later)
+  cell-all : (i : ℕ) → i < count t → (q : Option Columns) (n : ℕ) (later : ℕ → List Finding) → ((m : ℕ) → AllOf Has (later m)) → AllOf Has (byColumns q (nodeAt s t i) n later)
   cell-all i l none n later h = h n
   cell-all i l (some c) n later h =
       let differs = not (eqb (c .start) n) in
@@ -177,8 +177,8 @@ module _ (table s t : List ℕ) where
   attributes-all {d} {a} {b} (inner h z c r) l owner from low marker = rw (forest-node s t h z c r) (attributes-all r l owner from low marker)
 
   -- a leaf
-  leaf-all : (o : WalkContext) (st : WalkState) (i : ℕ) → i < count t → Fit table s t st → AllOf Has (leafTold table o st (nodeAt s t i) .findings)
-  unfolding leafTold
+  leaf-all : (o : WalkContext) (st : WalkState) (i : ℕ) → i < count t → Fit table s t st → AllOf Has (leafChecked table o st (nodeAt s t i) .findings)
+  unfolding leafChecked
   leaf-all o st i l fit = all-given Has _ (go (eqb (kindAt t i) chapterKind) (eqb (kindAt t i) verseKind) refl refl)
     where
       x : Node
@@ -189,8 +189,8 @@ module _ (table s t : List ℕ) where
       go false true p q = verse-checks i l (entryOf table x) (entry-is i) (rw (p, q)) o st (fit .letter)
       go false false p q = tt
 
-  leaf-fit : (o : WalkContext) (st : WalkState) (x : Node) → Fit table s t st → Fit table s t (leafTold table o st x .state)
-  unfolding leafTold afterChapter afterVerse
+  leaf-fit : (o : WalkContext) (st : WalkState) (x : Node) → Fit table s t st → Fit table s t (leafChecked table o st x .state)
+  unfolding leafChecked afterChapter afterVerse
   leaf-fit o st x fit = go (eqb (x .kind) chapterKind) (eqb (x .kind) verseKind)
     where
       go : (b v : Bool) → Fit table s t (pick b (afterChapter st x) (pick v (afterVerse (entryOf table x) o st x) st))
@@ -235,8 +235,8 @@ module _ (table s t : List ℕ) where
     milestone-checks st =
         (λ h. milestone-said i low (some e) known from (and-right (eqb (e .category) milestoneCategory) (isStart y || isEnd y) (and-left (isMilestone e y) (not (isStart y) && not (waits y (st .openStarts))) h)) .1, tt)
 
-    open-all : {d : ℕ} → Nested t d (i + 1) (linkAt t i) → linkAt t i ≤ count t → (o : WalkContext) (a : Option Anchor) (st : WalkState) (f : Forest) → AllOf Has (openTold table o a st e y below f .findings)
-    unfolding openTold
+    open-all : {d : ℕ} → Nested t d (i + 1) (linkAt t i) → linkAt t i ≤ count t → (o : WalkContext) (a : Option Anchor) (st : WalkState) (f : Forest) → AllOf Has (openChecked table o a st e y below f .findings)
+    unfolding openChecked
     open-all n l o a st f =
         let name = cut (e .name) table in
         let st₁ = afterId (equal name idName) st below in
@@ -247,19 +247,19 @@ module _ (table s t : List ℕ) where
         (all-append Has (given checks ++ row) attributes (all-append Has (given checks) row (all-given Has checks (open-checks name o a st st₁ f)) (all-pick Has (equal name trName) (rowFindings below) (row-all n l 1))) (attributes-all n l i from low (nameOf (y .text))))
         (all-given Has (milestoneChecks e st₁ y) (milestone-checks st₁))
 
-    open-fit : (o : WalkContext) (a : Option Anchor) (st : WalkState) (c f : Forest) → Fit table s t st → Fit table s t (openTold table o a st e y c f .state)
-    unfolding openTold afterMilestone afterId
+    open-fit : (o : WalkContext) (a : Option Anchor) (st : WalkState) (c f : Forest) → Fit table s t st → Fit table s t (openChecked table o a st e y c f .state)
+    unfolding openChecked afterMilestone afterId
     open-fit o a st c f fit = record { letter = fit .letter; starts = go (isMilestone e y) (isStart y) refl }
       where
         Unclosed : Node → Type 0
         Unclosed z = Has (error z milestoneMismatch unclosedStart)
 
-        go : (m b : Bool) → isStart y ≡ b → AllOf Unclosed (pick m (openAfter b y (st .openStarts)) (st .openStarts))
+        go : (m b : Bool) → isStart y ≡ b → AllOf Unclosed (pick m (startsAfter b y (st .openStarts)) (st .openStarts))
         go true true p = (milestone-said i low (some e) known from (rw p) .0, fit .starts)
         go true false p = all-without Unclosed y (st .openStarts) (fit .starts)
         go false b p = fit .starts
 
-  good-before : (fs : List Finding) (w : Walked) → AllOf Has fs → Good table s t w → Good table s t (before fs w)
+  good-before : (fs : List Finding) (w : Walked) → AllOf Has fs → Good table s t w → Good table s t (withFindings fs w)
   good-before fs w h g = record { findings = all-append Has fs (w .findings) h (g .findings); state = g .state }
 
   walk-all : {d a b : ℕ} → Nested t d a b → 1 ≤ a → b ≤ count t → (o : WalkContext) (p : Option Anchor) (st : WalkState) → Fit table s t st → Good table s t (walk table o p (forest s t a b) st)
@@ -268,7 +268,7 @@ module _ (table s t : List ℕ) where
   walk-all {d} {a} {b} (one h z r) from l o p st fit =
       let x = nodeAt s t a in
       let k = nested-le r in
-      let visited = leafTold table o st x in
+      let visited = leafChecked table o st x in
       rw (forest-leaf s t h z r)
       (good-before (visited .findings) (walk table o (leafAnchor p x) (forest s t (a + 1) b) (visited .state)) (leaf-all o st a (omega arith) fit) (walk-all r (omega arith) l o (leafAnchor p x) (visited .state) (leaf-fit o st x fit)))
   walk-all {d} {a} {b} (inner h z c r) from l o p st fit =
@@ -292,14 +292,14 @@ module _ (table s t : List ℕ) where
       go : (q : Option Entry) → entryOf table x ≡ q → a < count t → linkAt t a ≤ count t
           → ((q : WalkContext) (st₁ : WalkState) → Fit table s t st₁ → Good table s t (walk table q none children st₁))
           → ((st₁ : WalkState) → Fit table s t st₁ → Good table s t (walk table o passed rest st₁))
-          → Good table s t (byEntry q (walk table o passed rest st) (λ e. after (openTold table o p st e x children (node x children rest)) (λ st₁. thenWalk (walk table (inside o e) none children st₁) (walk table o passed rest))))
+          → Good table s t (byEntry q (walk table o passed rest st) (λ e. afterNode (openChecked table o p st e x children (node x children rest)) (λ st₁. thenWalk (walk table (inside o e) none children st₁) (walk table o passed rest))))
       go none e low m below later = later st fit
       go (some e) entry low m below later =
-          let visited = openTold table o p st e x children (node x children rest) in
+          let visited = openChecked table o p st e x children (node x children rest) in
           let w = walk table (inside o e) none children (visited .state) in
           let v = walk table o passed rest (w .state) in
           let g = below (inside o e) (visited .state) (open-fit a from low h e entry o p st children (node x children rest) fit) in
-          good-before (visited .findings) (before (w .findings) v) (open-all a from low h e entry c m o p st (node x children rest)) (good-before (w .findings) v (g .findings) (later (w .state) (g .state)))
+          good-before (visited .findings) (withFindings (w .findings) v) (open-all a from low h e entry c m o p st (node x children rest)) (good-before (w .findings) v (g .findings) (later (w .state) (g .state)))
 
   -- text before the book, and the closing findings
   text-all : {d a b : ℕ} → Nested t d a b → b ≤ count t → AllOf Has (textBefore (forest s t a b))

@@ -84,15 +84,15 @@ glued-fits e text name label g is l =
     omega arith
 
 -- what the table shows
-pub entry-fits : (table words : List ℕ) (n : ℕ) → Indexed table words n → (t : List ℕ) (i : ℕ) (name : List ℕ) → name ≡ nameOr table (infoAt table t i) → length name ≤ 1048576
-entry-fits table words n ix t i name is = go (infoAt table t i) refl
+pub entry-fits : (table index : List ℕ) (n : ℕ) → Indexed table index n → (t : List ℕ) (i : ℕ) (name : List ℕ) → name ≡ nameOr table (infoAt table t i) → length name ≤ 1048576
+entry-fits table index n ix t i name is = go (infoAt table t i) refl
   where
     go : (o : Option Entry) → infoAt table t i ≡ o → length name ≤ 1048576
     go none z = let l : length name ≡ 0 = ap length (is ∙ ap (nameOr table) z) in omega arith
     go (some k) z =
         let l = ap length (is ∙ ap (nameOr table) z) in
         let m = length-take (k .name .len) (drop (k .name .start) table) in
-        omega (arith, entry-sound table words n ix t i k z .short)
+        omega (arith, entry-sound table index n ix t i k z .short)
 
 -- none of the four names is empty
 pub four-named : (name : List ℕ) → oneOf numberMarkers name ≡ true → 1 ≤ length name

@@ -10,13 +10,13 @@ use lib.Dec.{eqb}
 use borrow.Author.Tests.{ne-eqb}
 use lib.ListN.{length, take, drop}
 use Rattle.text.specs.Pick.{within, cut, pick}
-use Rattle.text.specs.Characters.{findByte, charsPast, before}
+use Rattle.text.specs.Characters.{findByte, charsPast, bytesBefore}
 use Rattle.text.specs.Words.{trimStart}
 use Rattle.text.specs.Number.{digits}
 use Rattle.text.proofs.Rows.{within-hi}
 use Rattle.numbers.specs.Verse.{Position, letterOf, withLetter, digitsEnd, partOf, versePart, endStart, verseEnd, next}
 use Rattle.numbers.specs.Verse as verse
-use Rattle.definition.specs.Checks.{letterByte, breaks, endOr, nextBy}
+use Rattle.definition.specs.Checks.{letterByte, breaks, endOr, expectedAfter}
 
 -- a letter that is read is no higher than `z`
 abbrev UpToZ : Option Position → Type 0
@@ -54,20 +54,20 @@ after-low : (p : Position) → UpToZ (some p) → letterByte (next p .letter) �
 unfolding next
 after-low p h = go (p .letter) h
   where
-    go : (l : Option ℕ) → letterByte l ≤ 0x7A → letterByte (verse.nextBy (p .number) l .letter) ≤ 127
+    go : (l : Option ℕ) → letterByte l ≤ 0x7A → letterByte (verse.nextPosition (p .number) l .letter) ≤ 127
     go none h = omega arith
     go (some b) h = omega arith
 
 -- the expected verse after a label
-pub next-low : (label : List ℕ) (expected : Position) → letterByte (expected .letter) ≤ 127 → letterByte (nextBy (versePart label) label expected .letter) ≤ 127
+pub next-low : (label : List ℕ) (expected : Position) → letterByte (expected .letter) ≤ 127 → letterByte (expectedAfter (versePart label) label expected .letter) ≤ 127
 next-low label expected h = go (versePart label) (start-low label)
   where
-    go : (o : Option Position) → UpToZ o → letterByte (nextBy o label expected .letter) ≤ 127
+    go : (o : Option Position) → UpToZ o → letterByte (expectedAfter o label expected .letter) ≤ 127
     go none k = h
     go (some p) k = after-low (endOr (verseEnd label) p) (end-or-low (verseEnd label) p (end-low label) k)
 
 -- of an empty label nothing is read
 pub breaks-some : (label : List ℕ) (expected : Position) → breaks (versePart label) expected ≡ true → not (eqb (length label) 0) ≡ true
-unfolding versePart partOf trimStart digits findByte charsPast before
+unfolding versePart partOf trimStart digits findByte charsPast bytesBefore
 breaks-some [] expected h = absurd (false≢true h)
 breaks-some (b ∷ label) expected h = rw (ne-eqb (suc (length label)) 0 (omega arith))

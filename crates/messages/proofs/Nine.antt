@@ -27,7 +27,7 @@ use Rattle.message_texts.specs.Inner.{WrittenAs}
 use Rattle.buffer.specs.Over.{over}
 use Rattle.messages.specs.Message.{Request, messageText}
 use Rattle.messages.specs.Inner.{WrittenBy}
-use Rattle.messages.specs.Answer.{document, firstNine, Answer, refused, written, byRoom, bytesBy}
+use Rattle.messages.specs.Answer.{document, firstNine, MessageAnswer, refused, written, byRoom, bytesBy}
 use Rattle.text.proofs.Bool.{or-parts}
 
 or-none : (x : Option Refusal) → orElse x none ≡ x
@@ -82,7 +82,7 @@ unfolding refusal firstNine
 nine-none l z = first-five (of1 l) (of2 l) (of3 l) (ofTape l) (of9 l) (of10 l) z
 
 -- the answer, by what the function that writes the text gives and the length of the list
-unfoldable pub answerFor : ℕ → ℕ → Answer
+unfoldable pub answerFor : ℕ → ℕ → MessageAnswer
 answerFor zero room = refused (record { number = noMessage; place = 0 })
 answerFor (suc n) room = pick (ltb room n) (refused (record { number = messageListTooShort; place = n })) (written n)
 
@@ -116,6 +116,6 @@ module _ (table s t : List ℕ) (q : Request) where
   off-tape h = rw (le-ltb (q .node) (count t) h)
 
   -- a text of one that is, by the room for it
-  pub on-tape : q .node < count t → (l l′ : List ℕ) (r : ℕ) (a : Answer) → WrittenBy table s t q l l′ r → a ≡ answerFor r (length l) → (a ≡ byRoom (messageText table s t q) (length l)) × (l′ ≡ bytesBy none (messageText table s t q) l)
+  pub on-tape : q .node < count t → (l l′ : List ℕ) (r : ℕ) (a : MessageAnswer) → WrittenBy table s t q l l′ r → a ≡ answerFor r (length l) → (a ≡ byRoom (messageText table s t q) (length l)) × (l′ ≡ bytesBy none (messageText table s t q) l)
   unfolding messageText
   on-tape h l l′ r a y e = let z = by-room _ l l′ r y in rw (lt-ltb (q .node) (count t) h) (e ∙ z .0, z .1)

@@ -14,7 +14,7 @@ use Rattle.tape.proofs.Nest.{forest-done, forest-leaf, forest-node}
 use Rattle.cursor.specs.Inner.{Run}
 use Rattle.definition.specs.Checks.{bookCode}
 use Rattle.message_texts.proofs.Filling.{pick-within}
-use Rattle.messages.specs.Message.{letter}
+use Rattle.messages.specs.Message.{letterBytes}
 use Rattle.messages.proofs.Lengths.{cut-short}
 
 -- the book code of a run
@@ -32,10 +32,10 @@ pub code-inside : (s t : List ℕ) (a b : ℕ) (code : List ℕ) → Run s t a b
 code-inside s t a b code run is = rw is (code-short s t (run .nested))
 
 -- the letter of a verse position
-pub letter-none : (n : ℕ) → n ≡ 0 → letter n ≡ []
+pub letter-none : (n : ℕ) → n ≡ 0 → letterBytes n ≡ []
 letter-none zero e = refl
 letter-none (suc n) e = absurd (omega arith)
 
-pub letter-one : (n : ℕ) → (n ≡ 0 → ⊥) → letter n ≡ n ∷ []
+pub letter-one : (n : ℕ) → (n ≡ 0 → ⊥) → letterBytes n ≡ n ∷ []
 letter-one zero e = absurd (e refl)
 letter-one (suc n) e = refl

@@ -25,7 +25,7 @@ use Rattle.definition.specs.Milestones.{isStart, isEnd, baseOf}
 use Rattle.buffer.specs.Decimal.{decimal}
 use Rattle.message_texts.specs.Texts as texts
 use Rattle.message_texts.specs.Inner.{values}
-use Rattle.messages.specs.Message.{Request, letter, labelIn, glued, nameIn, codeIn, isNumber, ofChapter, unitOf, hasBase, onlyIfTrue, shown, shownOf, three}
+use Rattle.messages.specs.Message.{Request, letterBytes, labelIn, hasGluedLabel, nameIn, codeIn, isNumber, ofChapter, unitOf, hasBase, onlyIfTrue, shown, shownOf, three}
 use Rattle.messages.specs.Inner.{isTables, nameOr}
 
 -- a label, empty for a node that has none
@@ -69,7 +69,7 @@ module _ (table s t : List ℕ) (q : Request) where
     unfolding shownOf
     verse-lacks h k = rw (le-leb (q .second) 127 h, label-lacks e x label is k)
 
-    pub verse-shown : q .second ≤ 127 → (length label ≡ 0 → ⊥) → three (shown table s t q texts.position) (shown table s t q texts.label) (shown table s t q texts.empty) ≡ some (values (decimal (q .first) ++ letter (q .second)) label [])
+    pub verse-shown : q .second ≤ 127 → (length label ≡ 0 → ⊥) → three (shown table s t q texts.position) (shown table s t q texts.label) (shown table s t q texts.empty) ≡ some (values (decimal (q .first) ++ letterBytes (q .second)) label [])
     unfolding shownOf
     verse-shown h k = rw (le-leb (q .second) 127 h, label-there e x label is k)
 
@@ -154,7 +154,7 @@ cut-length : (p : Part) (s : List ℕ) → p .start + p .len ≤ length s → le
 cut-length p s h = length-take-le (p .len) (drop (p .start) s) (rw length-drop (omega arith))
 
 -- 13 and 24: an entry of a well-formed table has a name that isn't empty
-module _ (table words : List ℕ) (n : ℕ) (ix : Indexed table words n) (t : List ℕ) (i : ℕ) where
+module _ (table index : List ℕ) (n : ℕ) (ix : Indexed table index n) (t : List ℕ) (i : ℕ) where
   pub entry-sound : (k : Entry) → infoAt table t i ≡ some k → Sound table k
   unfolding infoAt
   entry-sound k h = go (hasMarker (kindAt t i)) h

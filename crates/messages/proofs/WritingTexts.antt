@@ -15,12 +15,13 @@ use borrow.Author.Tests.{le-ltb, eq-eqb, ne-eqb, ltb-false}
 use borrow.Rule.Slice.PartMut.{midOf, putMid, put-same, mid-len}
 use Rattle.buffer.specs.Over.{over}
 use Rattle.buffer.proofs.Over.{over-over, over-none, over-past, length-over}
-use Rattle.messages.specs.Inner.{answerOf}
+use Rattle.messages.specs.Inner.{messageAnswerOf}
 use Rattle.messages.specs.declared.MessageAnswer as declared
 use Rattle.messages.specs.declared.MessageAnswer.the-variants as answer
 use Rattle.messages.specs.Answer.{refused, written, byRoom, bytesBy}
+use Rattle.message_texts.specs.Filled.{joined}
 use Rattle.messages.specs.Messages as answers
-use Rattle.messages.specs.Messages.{fitting, textsFrom, joined, endsFrom, turnedBack, answerByTexts}
+use Rattle.messages.specs.Messages.{fitting, textsFrom, endsFrom, turnedBack, answerByTexts}
 use Rattle.text.specs.Pick.{pick}
 use Rattle.refusals.specs.Refusal.{messageListTooShort}
 
@@ -149,20 +150,20 @@ module _ (text : ℕ → Option (List ℕ)) (n : ℕ) (ends₀ out₀ : List ℕ
         (rw (count z, width z, eq-eqb k n (omega arith)), lists z)
 
     -- what `message_in` makes of the part of the list that is left
-    module _ (h : k < n) (r : declared.MessageAnswer) (ys : List ℕ) (e : (answerOf r ≡ byRoom (text k) (length (midOf at (length out - at) out))) × (ys ≡ bytesBy none (text k) (midOf at (length out - at) out))) where
+    module _ (h : k < n) (r : declared.MessageAnswer) (ys : List ℕ) (e : (messageAnswerOf r ≡ byRoom (text k) (length (midOf at (length out - at) out))) × (ys ≡ bytesBy none (text k) (midOf at (length out - at) out))) where
       free : length (midOf at (length out - at) out) ≡ length out₀ - at
       free = mid-len at (length out) out (omega arith) ∙ ap (_- at) (y .same-out)
 
       pub writing-stopped : (a b : ℕ) → r ≡ answer.Refused a b → Ended (answers.stopped k at (record { number = a; place = b })) ends (putMid at (length out - at) out ys)
       writing-stopped a b q =
-          let w = answer-refused (text k) _ ys a b (sym (ap answerOf q) ∙ e .0) (e .1) in
+          let w = answer-refused (text k) _ ys a b (sym (ap messageAnswerOf q) ∙ e .0) (e .1) in
           let z = left-stopped text n (length out₀) k at h (rw free at (w .stops)) in
           let l = lists z in
           (rw (count z, width z, ne-eqb k n (omega arith), w .why), (rw (w .list, put-same at (length out - at) out) (l .0), l .1))
 
       module _ (len : ℕ) (q : r ≡ answer.Written len) where
         found : Fits (text k) (midOf at (length out - at) out) ys len
-        found = answer-written (text k) _ ys len (sym (ap answerOf q) ∙ e .0) (e .1)
+        found = answer-written (text k) _ ys len (sym (ap messageAnswerOf q) ∙ e .0) (e .1)
 
         pub within : at + len ≤ length out₀
         within =

@@ -21,21 +21,21 @@ firstNine table s t =
     orElse (of1 (document table s t)) (orElse (of2 (document table s t)) (orElse (of3 (document table s t)) (orElse (ofTape (document table s t)) (of9 (document table s t)))))
 
 -- a refusal, or how many bytes were written
-pub data Answer : Type 0 where
-  refused : Refusal → Answer
-  written : ℕ → Answer
+pub data MessageAnswer : Type 0 where
+  refused : Refusal → MessageAnswer
+  written : ℕ → MessageAnswer
 
 -- 13: "Message list too short; place: length needed."
-abbrev pub byRoom : Option (List ℕ) → ℕ → Answer
+abbrev pub byRoom : Option (List ℕ) → ℕ → MessageAnswer
 byRoom none room = refused (record { number = noMessage; place = 0 })
 byRoom (some text) room = pick (ltb room (length text)) (refused (record { number = messageListTooShort; place = length text })) (written (length text))
 
-abbrev pub answerBy : Option Refusal → Option (List ℕ) → ℕ → Answer
-answerBy (some r) text room = refused r
-answerBy none text room = byRoom text room
+abbrev pub messageAnswerBy : Option Refusal → Option (List ℕ) → ℕ → MessageAnswer
+messageAnswerBy (some r) text room = refused r
+messageAnswerBy none text room = byRoom text room
 
-abbrev pub messageAnswer : List ℕ → List ℕ → List ℕ → Request → List ℕ → Answer
-messageAnswer table s t q out = answerBy (firstNine table s t) (messageText table s t q) (length out)
+abbrev pub messageAnswer : List ℕ → List ℕ → List ℕ → Request → List ℕ → MessageAnswer
+messageAnswer table s t q out = messageAnswerBy (firstNine table s t) (messageText table s t q) (length out)
 
 -- "from the list's start, with their length; bytes beyond are untouched"; a refusal writes nothing
 abbrev pub bytesBy : Option Refusal → Option (List ℕ) → List ℕ → List ℕ

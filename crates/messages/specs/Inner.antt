@@ -23,13 +23,13 @@ abbrev pub requestBy : code.MessageRequest → message.Request
 requestBy q = record { code = q .code; form = q .form; node = q .node; first = q .first; second = q .second }
 
 -- what the answer says
-abbrev pub answerOf : declared.MessageAnswer → answers.Answer
-answerOf (answer.Written n) = answers.written n
-answerOf (answer.Refused number place) = answers.refused (record { number = number; place = place })
+abbrev pub messageAnswerOf : declared.MessageAnswer → answers.MessageAnswer
+messageAnswerOf (answer.Written n) = answers.written n
+messageAnswerOf (answer.Refused number place) = answers.refused (record { number = number; place = place })
 
 -- a document that numbers 1 to 9 pass, with its table's index, and a node of it
-pub record Readable (table words : List ℕ) (entries : ℕ) (s t : List ℕ) (node : ℕ) : Type 0 where
-  pub indexed : Indexed table words entries
+pub record DocumentNode (table index : List ℕ) (entries : ℕ) (s t : List ℕ) (node : ℕ) : Type 0 where
+  pub indexed : Indexed table index entries
   pub accepted : Accepted s t
   pub short : length s ≤ 1048576
   pub inside : node < count t

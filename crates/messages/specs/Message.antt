@@ -38,9 +38,9 @@ onlyIfTrue true s = some s
 onlyIfTrue false s = none
 
 -- the letter of a verse position: a byte, or none
-abbrev pub letter : ℕ → List ℕ
-letter zero = []
-letter (suc n) = suc n ∷ []
+abbrev pub letterBytes : ℕ → List ℕ
+letterBytes zero = []
+letterBytes (suc n) = suc n ∷ []
 
 -- the name in the table: "`\fr` outside a note shows the table's name"
 abbrev pub nameIn : List ℕ → Option Entry → Option (List ℕ)
@@ -51,8 +51,8 @@ nameIn table (some e) = some (cut (e .name) table)
 abbrev pub labelIn : Option Entry → Node → Option (List ℕ)
 labelIn e x = onlyIfTrue (numbered (x .kind) && not (eqb (length (labelOf e (x .text))) 0)) (labelOf e (x .text))
 
-abbrev pub glued : Option Entry → Node → Bool
-glued e x = numbered (x .kind) && isGlued e (nameOf (x .text))
+abbrev pub hasGluedLabel : Option Entry → Node → Bool
+hasGluedLabel e x = numbered (x .kind) && isGlued e (nameOf (x .text))
 
 abbrev pub unitOf : Bool → List ℕ
 unitOf true = ascii "chapter"
@@ -78,13 +78,13 @@ unfoldable pub shownOf : List ℕ → List ℕ → List ℕ → Request → Opti
 shownOf table s t q e x texts.empty = some []
 shownOf table s t q e x texts.first = some (decimal (q .first))
 shownOf table s t q e x texts.second = some (decimal (q .second))
-shownOf table s t q e x texts.position = onlyIfTrue (leb (q .second) 127) (decimal (q .first) ++ letter (q .second))
+shownOf table s t q e x texts.position = onlyIfTrue (leb (q .second) 127) (decimal (q .first) ++ letterBytes (q .second))
 shownOf table s t q e x texts.entryName = nameIn table e
 shownOf table s t q e x texts.ownerName = onlyIfTrue (not (eqb (q .first) 0) && ltb (q .first) (count t)) (nameOf (nodeAt s t (q .first) .text))
 shownOf table s t q e x texts.label = labelIn e x
-shownOf table s t q e x texts.gluedLabel = onlyIfTrue (glued e x) (labelOf e (x .text))
-shownOf table s t q e x texts.bareName = onlyIfTrue (glued e x) (take (length (nameOf (x .text)) - length (labelOf e (x .text))) (nameOf (x .text)))
-shownOf table s t q e x texts.gluedName = onlyIfTrue (glued e x) (nameOf (x .text))
+shownOf table s t q e x texts.gluedLabel = onlyIfTrue (hasGluedLabel e x) (labelOf e (x .text))
+shownOf table s t q e x texts.bareName = onlyIfTrue (hasGluedLabel e x) (take (length (nameOf (x .text)) - length (labelOf e (x .text))) (nameOf (x .text)))
+shownOf table s t q e x texts.gluedName = onlyIfTrue (hasGluedLabel e x) (nameOf (x .text))
 shownOf table s t q e x texts.base = onlyIfTrue (hasBase (q .node) x) (baseOf x)
 shownOf table s t q e x texts.numberName = onlyIfTrue (isNumber (q .node) x) (nameOf (x .text))
 shownOf table s t q e x texts.owner = onlyIfTrue (isNumber (q .node) x) (take 1 (nameOf (x .text)))

@@ -7,6 +7,8 @@ use lib.Dec.{eqb, ltb}
 use lib.ListN.{length, getD}
 use Rattle.refusals.specs.Refusal.{Refusal, noMessage, messageListTooShort}
 use Rattle.buffer.specs.Over.{over}
+use Rattle.findings.specs.Written.{wholeRecords}
+use Rattle.message_texts.specs.Filled.{joined}
 use Rattle.messages.specs.Message.{Request, messageText}
 use Rattle.messages.specs.Answer.{firstNine}
 use Rattle.messages.specs.declared.MessagesAnswer as declared
@@ -24,10 +26,6 @@ requestAt l k =
       second = getD l (8 * k + 7) 0;
     }
 
--- how many whole records a list holds
-abbrev pub whole : List ℕ → ℕ
-whole l = length l / 8
-
 abbrev pub fitting : Option (List ℕ) → ℕ → (ℕ → List (List ℕ)) → List (List ℕ)
 fitting none room rest = []
 fitting (some x) room rest = pick (ltb room (length x)) [] (x ∷ rest (room - length x))
@@ -36,10 +34,6 @@ fitting (some x) room rest = pick (ltb room (length x)) [] (x ∷ rest (room - l
 unfoldable pub textsFrom : (ℕ → Option (List ℕ)) → ℕ → ℕ → ℕ → List (List ℕ)
 textsFrom text k zero room = []
 textsFrom text k (suc n) room = fitting (text k) room (textsFrom text (suc k) n)
-
-unfoldable pub joined : List (List ℕ) → List ℕ
-joined [] = []
-joined (x ∷ xs) = x ++ joined xs
 
 -- where each text ends
 unfoldable pub endsFrom : ℕ → List (List ℕ) → List ℕ
@@ -66,14 +60,14 @@ textAt table s t l k = messageText table s t (requestAt l k)
 
 -- the texts that are written over a list with so much room
 abbrev pub textsOf : List ℕ → List ℕ → List ℕ → List ℕ → ℕ → List (List ℕ)
-textsOf table s t l room = textsFrom (textAt table s t l) 0 (whole l) room
+textsOf table s t l room = textsFrom (textAt table s t l) 0 (wholeRecords l) room
 
 abbrev pub refusedOr : Option Refusal → MessagesAnswer → MessagesAnswer
 refusedOr (some r) a = refused r
 refusedOr none a = a
 
 abbrev pub messagesAnswer : List ℕ → List ℕ → List ℕ → List ℕ → ℕ → MessagesAnswer
-messagesAnswer table s t l room = refusedOr (firstNine table s t) (answerByTexts (textAt table s t l) (whole l) (textsOf table s t l room))
+messagesAnswer table s t l room = refusedOr (firstNine table s t) (answerByTexts (textAt table s t l) (wholeRecords l) (textsOf table s t l room))
 
 -- a lent list after it: as it was after a refusal, else with the words or bytes written over its start as far as there is room
 abbrev pub writtenUnless : Option Refusal → List ℕ → List ℕ → List ℕ

@@ -33,10 +33,10 @@ ghost use Rattle.numbers.specs.Label.{labelOf, numbered};
 ghost use Rattle.definition.specs.Milestones.{endsIn};
 ghost use Rattle.buffer.specs.Over.{over};
 ghost use Rattle.buffer.specs.Decimal.{decimal};
-ghost use Rattle.messages.specs.Message.{letter, unitOf, messageText};
+ghost use Rattle.messages.specs.Message.{letterBytes, unitOf, messageText};
 ghost use Rattle.messages.specs.Answer.{byRoom, bytesBy, messageAnswer, messageAfter};
-ghost use Rattle.messages.specs.Messages.{requestAt, whole, textAt, textsOf, joined, endsFrom, answerByTexts, messagesAnswer, messagesAnswerOf, messagesAfter, endsAfter};
-ghost use Rattle.messages.specs.Inner.{requestBy, answerOf, Readable, WrittenBy, nameOr, isTables};
+ghost use Rattle.messages.specs.Messages.{requestAt, textAt, textsOf, endsFrom, answerByTexts, messagesAnswer, messagesAnswerOf, messagesAfter, endsAfter};
+ghost use Rattle.messages.specs.Inner.{requestBy, messageAnswerOf, DocumentNode, WrittenBy, nameOr, isTables};
 ghost use Rattle.message_texts.specs.Filled.{allTexts};
 ghost use Rattle.message_texts.specs.Inner.{WrittenFrom};
 
@@ -104,7 +104,7 @@ fn label_shown<'a, 'b, 'c, 'd>(
     tape: &'d [u8],
     i: usize,
 ) -> &'a [u8]
-    requires { ⌜ Readable (now table) (now words) entries (now source) (now tape) i ⌝ }
+    requires { ⌜ DocumentNode (now table) (now words) entries (now source) (now tape) i ⌝ }
     ensures { λ r. ⌜ now r ≡ pick (numbered (kindAt (now (tape .entry)) i)) (labelOf (infoAt (now (table .entry)) (now (tape .entry)) i) (nodeAt (now (source .entry)) (now (tape .entry)) i .text)) [] ⌝ }
 {
     if !numbers::is_numbered(tape::kind_at(tape, i)) {
@@ -137,7 +137,7 @@ fn write_position(
     out: &mut [u8],
 ) -> usize
     requires { ⌜ (second ≤ 127) × (length (now label) ≤ 1048576) ⌝ }
-    ensures { λ r. ⌜ WrittenFrom allTexts code form (decimal first ++ letter second) (now (label .entry)) [] (now (out .entry)) (now (out .exit)) r ⌝ }
+    ensures { λ r. ⌜ WrittenFrom allTexts code form (decimal first ++ letterBytes second) (now (label .entry)) [] (now (out .entry)) (now (out .exit)) r ⌝ }
 {
     let mut x = [0u8; 21];
     let k = buffer::put_decimal(&mut x, 0, first);
@@ -152,20 +152,20 @@ fn write_position(
 // InvalidVerseSequence.
 fn write_verse(
     table: &[u8],
-    words: &[u64],
+    index: &[u64],
     entries: usize,
     source: &[u8],
     tape: &[u8],
     q: MessageRequest,
     out: &mut [u8],
 ) -> usize
-    requires { ⌜ (Readable (now table) (now words) entries (now source) (now tape) (q .node)) × (q .code ≡ 11) ⌝ }
+    requires { ⌜ (DocumentNode (now table) (now index) entries (now source) (now tape) (q .node)) × (q .code ≡ 11) ⌝ }
     ensures { λ r. ⌜ WrittenBy (now (table .entry)) (now (source .entry)) (now (tape .entry)) (requestBy q) (now (out .entry)) (now (out .exit)) r ⌝ }
 {
     if 127 < q.second {
         return 0;
     }
-    let label = label_shown(table, words, entries, source, tape, q.node as usize);
+    let label = label_shown(table, index, entries, source, tape, q.node as usize);
     if label.len() == 0 {
         return 0;
     }
@@ -175,17 +175,17 @@ fn write_verse(
 // LeadingZeros.
 fn write_label(
     table: &[u8],
-    words: &[u64],
+    index: &[u64],
     entries: usize,
     source: &[u8],
     tape: &[u8],
     q: MessageRequest,
     out: &mut [u8],
 ) -> usize
-    requires { ⌜ (Readable (now table) (now words) entries (now source) (now tape) (q .node)) × (q .code ≡ 15) ⌝ }
+    requires { ⌜ (DocumentNode (now table) (now index) entries (now source) (now tape) (q .node)) × (q .code ≡ 15) ⌝ }
     ensures { λ r. ⌜ WrittenBy (now (table .entry)) (now (source .entry)) (now (tape .entry)) (requestBy q) (now (out .entry)) (now (out .exit)) r ⌝ }
 {
-    let label = label_shown(table, words, entries, source, tape, q.node as usize);
+    let label = label_shown(table, index, entries, source, tape, q.node as usize);
     if label.len() == 0 {
         return 0;
     }
@@ -204,26 +204,26 @@ fn write_parts(code: u64, form: u64, name: &[u8], label: &[u8], out: &mut [u8]) 
 // MissingSpaceBeforeNumber.
 fn write_glued<'a>(
     table: &'a [u8],
-    words: &[u64],
+    index: &[u64],
     entries: usize,
     source: &'a [u8],
     tape: &[u8],
     q: MessageRequest,
     out: &mut [u8],
 ) -> usize
-    requires { ⌜ (Readable (now table) (now words) entries (now source) (now tape) (q .node)) × (q .code ≡ 34) ⌝ }
+    requires { ⌜ (DocumentNode (now table) (now index) entries (now source) (now tape) (q .node)) × (q .code ≡ 34) ⌝ }
     ensures { λ r. ⌜ WrittenBy (now (table .entry)) (now (source .entry)) (now (tape .entry)) (requestBy q) (now (out .entry)) (now (out .exit)) r ⌝ }
 {
     let i = q.node as usize;
     if !numbers::is_numbered(tape::kind_at(tape, i)) {
         return 0;
     }
-    let info = cursor::marker_info(table, words, entries, tape, i);
+    let info = cursor::marker_info(table, index, entries, tape, i);
     let text = cursor::text(source, tape, i);
     if !numbers::is_glued(info, text) {
         return 0;
     }
-    let name = name_shown(table, words, entries, source, tape, i, q.code);
+    let name = name_shown(table, index, entries, source, tape, i, q.code);
     let label = numbers::number_label(info, text);
     write_parts(q.code, q.form, name, label, out)
 }
@@ -231,21 +231,21 @@ fn write_glued<'a>(
 // NoteSubmarkerOutsideNote and BodyParagraphBeforeChapter.
 fn write_entry<'a>(
     table: &'a [u8],
-    words: &[u64],
+    index: &[u64],
     entries: usize,
     source: &'a [u8],
     tape: &[u8],
     q: MessageRequest,
     out: &mut [u8],
 ) -> usize
-    requires { ⌜ (Readable (now table) (now words) entries (now source) (now tape) (q .node)) × ((q .code ≡ 13) ⊎ (q .code ≡ 24)) ⌝ }
+    requires { ⌜ (DocumentNode (now table) (now index) entries (now source) (now tape) (q .node)) × ((q .code ≡ 13) ⊎ (q .code ≡ 24)) ⌝ }
     ensures { λ r. ⌜ WrittenBy (now (table .entry)) (now (source .entry)) (now (tape .entry)) (requestBy q) (now (out .entry)) (now (out .exit)) r ⌝ }
 {
     if q.node == 0 {
         return 0;
     }
     let i = q.node as usize;
-    let name = name_shown(table, words, entries, source, tape, i, q.code);
+    let name = name_shown(table, index, entries, source, tape, i, q.code);
     if name.len() == 0 {
         return 0;
     }
@@ -255,21 +255,21 @@ fn write_entry<'a>(
 // MilestoneMismatch.
 fn write_base<'a>(
     table: &'a [u8],
-    words: &[u64],
+    index: &[u64],
     entries: usize,
     source: &'a [u8],
     tape: &[u8],
     q: MessageRequest,
     out: &mut [u8],
 ) -> usize
-    requires { ⌜ (Readable (now table) (now words) entries (now source) (now tape) (q .node)) × (q .code ≡ 16) ⌝ }
+    requires { ⌜ (DocumentNode (now table) (now index) entries (now source) (now tape) (q .node)) × (q .code ≡ 16) ⌝ }
     ensures { λ r. ⌜ WrittenBy (now (table .entry)) (now (source .entry)) (now (tape .entry)) (requestBy q) (now (out .entry)) (now (out .exit)) r ⌝ }
 {
     if q.node == 0 {
         return 0;
     }
     let i = q.node as usize;
-    let name = name_shown(table, words, entries, source, tape, i, q.code);
+    let name = name_shown(table, index, entries, source, tape, i, q.code);
     if !is_paired(name) {
         return 0;
     }
@@ -289,14 +289,14 @@ fn is_paired(name: &[u8]) -> bool
 // DefaultAttributeNotDefined.
 fn write_owner<'a>(
     table: &'a [u8],
-    words: &[u64],
+    index: &[u64],
     entries: usize,
     source: &'a [u8],
     tape: &[u8],
     q: MessageRequest,
     out: &mut [u8],
 ) -> usize
-    requires { ⌜ (Readable (now table) (now words) entries (now source) (now tape) (q .node)) × (q .code ≡ 32) ⌝ }
+    requires { ⌜ (DocumentNode (now table) (now index) entries (now source) (now tape) (q .node)) × (q .code ≡ 32) ⌝ }
     ensures { λ r. ⌜ WrittenBy (now (table .entry)) (now (source .entry)) (now (tape .entry)) (requestBy q) (now (out .entry)) (now (out .exit)) r ⌝ }
 {
     if q.first == 0 {
@@ -306,7 +306,7 @@ fn write_owner<'a>(
         return 0;
     }
     let i = q.first as usize;
-    let name = name_shown(table, words, entries, source, tape, i, q.code);
+    let name = name_shown(table, index, entries, source, tape, i, q.code);
     message_texts::write_text(q.code, q.form, name, b"", b"", out)
 }
 
@@ -324,21 +324,21 @@ fn write_unit(code: u64, form: u64, name: &[u8], out: &mut [u8]) -> usize
 // MisplacedNumberMarker.
 fn write_number<'a>(
     table: &'a [u8],
-    words: &[u64],
+    index: &[u64],
     entries: usize,
     source: &'a [u8],
     tape: &[u8],
     q: MessageRequest,
     out: &mut [u8],
 ) -> usize
-    requires { ⌜ (Readable (now table) (now words) entries (now source) (now tape) (q .node)) × (q .code ≡ 33) ⌝ }
+    requires { ⌜ (DocumentNode (now table) (now index) entries (now source) (now tape) (q .node)) × (q .code ≡ 33) ⌝ }
     ensures { λ r. ⌜ WrittenBy (now (table .entry)) (now (source .entry)) (now (tape .entry)) (requestBy q) (now (out .entry)) (now (out .exit)) r ⌝ }
 {
     if q.node == 0 {
         return 0;
     }
     let i = q.node as usize;
-    let name = name_shown(table, words, entries, source, tape, i, q.code);
+    let name = name_shown(table, index, entries, source, tape, i, q.code);
     if !marker_checks::is_number_marker(name) {
         return 0;
     }
@@ -364,14 +364,14 @@ fn write_book(source: &[u8], tape: &[u8], q: MessageRequest, out: &mut [u8]) -> 
 // Writes the text of a finding: its code says which values the text shows.
 fn write_message<'a>(
     table: &'a [u8],
-    words: &[u64],
+    index: &[u64],
     entries: usize,
     source: &'a [u8],
     tape: &[u8],
     q: MessageRequest,
     out: &mut [u8],
 ) -> usize
-    requires { ⌜ Readable (now table) (now words) entries (now source) (now tape) (q .node) ⌝ }
+    requires { ⌜ DocumentNode (now table) (now index) entries (now source) (now tape) (q .node) ⌝ }
     ensures { λ r. ⌜ WrittenBy (now (table .entry)) (now (source .entry)) (now (tape .entry)) (requestBy q) (now (out .entry)) (now (out .exit)) r ⌝ }
 {
     let code = q.code;
@@ -379,15 +379,15 @@ fn write_message<'a>(
         INVALID_BOOK_CODE => write_book(source, tape, q, out),
         INVALID_CHAPTER_SEQUENCE => write_numbers(code, q.form, q.first, q.second, out),
         DUPLICATE_CHAPTER => write_numbers(code, q.form, q.first, q.second, out),
-        INVALID_VERSE_SEQUENCE => write_verse(table, words, entries, source, tape, q, out),
-        NOTE_SUBMARKER_OUTSIDE_NOTE => write_entry(table, words, entries, source, tape, q, out),
-        LEADING_ZEROS => write_label(table, words, entries, source, tape, q, out),
-        MILESTONE_MISMATCH => write_base(table, words, entries, source, tape, q, out),
-        BODY_PARAGRAPH_BEFORE_CHAPTER => write_entry(table, words, entries, source, tape, q, out),
+        INVALID_VERSE_SEQUENCE => write_verse(table, index, entries, source, tape, q, out),
+        NOTE_SUBMARKER_OUTSIDE_NOTE => write_entry(table, index, entries, source, tape, q, out),
+        LEADING_ZEROS => write_label(table, index, entries, source, tape, q, out),
+        MILESTONE_MISMATCH => write_base(table, index, entries, source, tape, q, out),
+        BODY_PARAGRAPH_BEFORE_CHAPTER => write_entry(table, index, entries, source, tape, q, out),
         INVALID_TABLE_COLUMN_SEQUENCE => write_numbers(code, q.form, q.first, q.second, out),
-        DEFAULT_ATTRIBUTE_NOT_DEFINED => write_owner(table, words, entries, source, tape, q, out),
-        MISPLACED_NUMBER_MARKER => write_number(table, words, entries, source, tape, q, out),
-        MISSING_SPACE_BEFORE_NUMBER => write_glued(table, words, entries, source, tape, q, out),
+        DEFAULT_ATTRIBUTE_NOT_DEFINED => write_owner(table, index, entries, source, tape, q, out),
+        MISPLACED_NUMBER_MARKER => write_number(table, index, entries, source, tape, q, out),
+        MISSING_SPACE_BEFORE_NUMBER => write_glued(table, index, entries, source, tape, q, out),
         _ => message_texts::write_text(q.code, q.form, b"", b"", b"", out),
     }
 }
@@ -395,20 +395,20 @@ fn write_message<'a>(
 // Numbers 12 and 13, or the text.
 pub fn message_in<'a>(
     table: &'a [u8],
-    words: &[u64],
+    index: &[u64],
     entries: usize,
     source: &'a [u8],
     tape: &[u8],
     q: MessageRequest,
     out: &mut [u8],
 ) -> MessageAnswer
-    requires { ⌜ (Indexed (now table) (now words) entries) × (Accepted (now source) (now tape)) × (length (now source) ≤ 1048576) ⌝ }
-    ensures { λ r. ⌜ (answerOf r ≡ byRoom (messageText (now (table .entry)) (now (source .entry)) (now (tape .entry)) (requestBy q)) (length (now (out .entry)))) × (now (out .exit) ≡ bytesBy none (messageText (now (table .entry)) (now (source .entry)) (now (tape .entry)) (requestBy q)) (now (out .entry))) ⌝ }
+    requires { ⌜ (Indexed (now table) (now index) entries) × (Accepted (now source) (now tape)) × (length (now source) ≤ 1048576) ⌝ }
+    ensures { λ r. ⌜ (messageAnswerOf r ≡ byRoom (messageText (now (table .entry)) (now (source .entry)) (now (tape .entry)) (requestBy q)) (length (now (out .entry)))) × (now (out .exit) ≡ bytesBy none (messageText (now (table .entry)) (now (source .entry)) (now (tape .entry)) (requestBy q)) (now (out .entry))) ⌝ }
 {
     if tape.len() as u64 / 16 <= q.node {
         return MessageAnswer::Refused(12, 0);
     }
-    let n = write_message(table, words, entries, source, tape, q, out);
+    let n = write_message(table, index, entries, source, tape, q, out);
     if n == 0 {
         return MessageAnswer::Refused(12, 0);
     }
@@ -427,19 +427,19 @@ pub fn message<'a>(
     q: MessageRequest,
     out: &mut [u8],
 ) -> MessageAnswer
-    ensures answer { λ r. ⌜ answerOf r ≡ messageAnswer (now (table .entry)) (now (source .entry)) (now (tape .entry)) (requestBy q) (now (out .entry)) ⌝ }
+    ensures answer { λ r. ⌜ messageAnswerOf r ≡ messageAnswer (now (table .entry)) (now (source .entry)) (now (tape .entry)) (requestBy q) (now (out .entry)) ⌝ }
     ensures bytes { λ r. ⌜ now (out .exit) ≡ messageAfter (now (table .entry)) (now (source .entry)) (now (tape .entry)) (requestBy q) (now (out .entry)) ⌝ }
 {
-    let mut words = [0u64; 512];
-    match validate::check_input(table, &mut words, source, tape, 65535, 65535) {
+    let mut index = [0u64; 512];
+    match validate::check_input(table, &mut index, source, tape, 65535, 65535) {
         InputCheck::Refused(number, place) => MessageAnswer::Refused(number, place),
-        InputCheck::Accepted(entries) => message_in(table, &words, entries, source, tape, q, out),
+        InputCheck::Accepted(entries) => message_in(table, &index, entries, source, tape, q, out),
     }
 }
 
 // The request for the text of a record of a list.
 fn request_at(list: &[u64], k: usize) -> MessageRequest
-    requires { ⌜ k < whole (now list) ⌝ }
+    requires { ⌜ k < wholeRecords (now list) ⌝ }
     ensures { λ r. ⌜ requestBy r ≡ requestAt (now (list .entry)) k ⌝ }
 {
     let at = 8 * k;
@@ -455,7 +455,7 @@ fn request_at(list: &[u64], k: usize) -> MessageRequest
 // Writes the texts of a list's records, for a document that numbers 1 to 9 pass, with its table's index.
 pub fn messages_in<'a>(
     table: &'a [u8],
-    words: &[u64],
+    index: &[u64],
     entries: usize,
     source: &'a [u8],
     tape: &[u8],
@@ -463,8 +463,8 @@ pub fn messages_in<'a>(
     ends: &mut [u64],
     out: &mut [u8],
 ) -> MessagesAnswer
-    requires { ⌜ (Indexed (now table) (now words) entries) × (Accepted (now source) (now tape)) × (length (now source) ≤ 1048576) ⌝ }
-    ensures answer { λ r. ⌜ messagesAnswerOf r ≡ answerByTexts (textAt (now (table .entry)) (now (source .entry)) (now (tape .entry)) (now (list .entry))) (whole (now (list .entry))) (textsOf (now (table .entry)) (now (source .entry)) (now (tape .entry)) (now (list .entry)) (length (now (out .entry)))) ⌝ }
+    requires { ⌜ (Indexed (now table) (now index) entries) × (Accepted (now source) (now tape)) × (length (now source) ≤ 1048576) ⌝ }
+    ensures answer { λ r. ⌜ messagesAnswerOf r ≡ answerByTexts (textAt (now (table .entry)) (now (source .entry)) (now (tape .entry)) (now (list .entry))) (wholeRecords (now (list .entry))) (textsOf (now (table .entry)) (now (source .entry)) (now (tape .entry)) (now (list .entry)) (length (now (out .entry)))) ⌝ }
     ensures bytes { λ r. ⌜ now (out .exit) ≡ over (now (out .entry)) 0 (joined (textsOf (now (table .entry)) (now (source .entry)) (now (tape .entry)) (now (list .entry)) (length (now (out .entry))))) ⌝ }
     ensures ends { λ r. ⌜ now (ends .exit) ≡ over (now (ends .entry)) 0 (endsFrom 0 (textsOf (now (table .entry)) (now (source .entry)) (now (tape .entry)) (now (list .entry)) (length (now (out .entry))))) ⌝ }
 {
@@ -473,7 +473,7 @@ pub fn messages_in<'a>(
     let mut at: usize = 0;
     while k < n {
         let q = request_at(list, k);
-        match message_in(table, words, entries, source, tape, q, &mut out[at..]) {
+        match message_in(table, index, entries, source, tape, q, &mut out[at..]) {
             MessageAnswer::Refused(number, place) => return MessagesAnswer::Stopped(
                 k,
                 at,
@@ -505,12 +505,12 @@ pub fn messages<'a>(
     ensures bytes { λ r. ⌜ now (out .exit) ≡ messagesAfter (now (table .entry)) (now (source .entry)) (now (tape .entry)) (now (list .entry)) (now (out .entry)) ⌝ }
     ensures ends { λ r. ⌜ now (ends .exit) ≡ endsAfter (now (table .entry)) (now (source .entry)) (now (tape .entry)) (now (list .entry)) (length (now (out .entry))) (now (ends .entry)) ⌝ }
 {
-    let mut words = [0u64; 512];
-    match validate::check_input(table, &mut words, source, tape, 65535, 65535) {
+    let mut index = [0u64; 512];
+    match validate::check_input(table, &mut index, source, tape, 65535, 65535) {
         InputCheck::Refused(number, place) => MessagesAnswer::Refused(number, place),
         InputCheck::Accepted(entries) => messages_in(
             table,
-            &words,
+            &index,
             entries,
             source,
             tape,

@@ -24,7 +24,7 @@ use Rattle.table.proofs.Words.{equal-apart, equal-ends}
 use Rattle.cursor.specs.Names.{namePart, nameOf}
 use Rattle.numbers.proofs.Labels.{part-from}
 use Rattle.definition.specs.Milestones.{endsIn, baseOf}
-use Rattle.milestones.specs.Inner.{baseIn, named, Measured}
+use Rattle.milestones.specs.Inner.{baseIn, isMilestoneNamed, Measured}
 
 pub too-short : (name : List ℕ) (letter : ℕ) → length name < 2 → false ≡ endsIn letter name
 too-short name letter h = sym (equal-apart (drop (length name - 2) name) (0x2D ∷ letter ∷ []) (λ e. omega (arith, e, length-drop (length name - 2) name)))

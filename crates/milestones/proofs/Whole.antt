@@ -14,12 +14,12 @@ use Rattle.findings.specs.Finding.{Finding}
 use Rattle.findings.specs.declared.Counts.{Counts}
 use Rattle.findings.specs.Written.{counted, overlay, only, Wrote, Room}
 use Rattle.definition.specs.Checks.{given, when, error}
-use Rattle.definition.specs.Milestones.{isStart, isMilestone, baseOf, waits, milestoneChecks, openAfter, without, withOpen, afterMilestone}
+use Rattle.definition.specs.Milestones.{isStart, isMilestone, baseOf, waits, milestoneChecks, startsAfter, without, withOpen, afterMilestone}
 use Rattle.definition.specs.declared.OpenStart.{OpenStart}
-use Rattle.state.specs.Running.{starts, stateOf, countsOf, withCounts, Opens}
+use Rattle.state.specs.Running.{openNodes, stateOf, countsOf, withCounts, Opens}
 use Rattle.state.specs.declared.State.{State}
-use Rattle.milestones.specs.Inner.{Measured, Read, nearestIn, removed, takenBy, opensBy, pairedBy, withOpens, ToldAlone, Counted, Countable}
-use Rattle.milestones.specs.Steps.{Stepped, Milestoned}
+use Rattle.milestones.specs.Inner.{Measured, Read, nearestIn, removed, takenBy, opensBy, pairedBy, withOpens, WroteEndAlone, Counted, Countable}
+use Rattle.milestones.specs.Steps.{MilestoneStep, Milestoned}
 use Rattle.milestones.specs.declared.Step.{Step}
 use Rattle.milestones.specs.declared.Step.the-variants as step
 use Rattle.milestones.specs.declared.Paired.{Paired}
@@ -44,10 +44,10 @@ module _ (b b′ : Bool) (f f′ : Finding) (b-is : b′ ≡ b) (f-is : f′ ≡
   one-wrote c c′ l l′ d e w = rw one (rw e at w)
 
 -- the record with the counts of a finding written
-pub told-alone : (t : List ℕ) (i : ℕ) (l l′ : List ℕ) (r q : State) (f : Finding) (c d : Counts) → f ≡ error (nodeAt [] t i) milestoneMismatch endAlone → c ≡ countsOf r → Wrote (f ∷ []) l c l′ d → q ≡ withCounts r d → ToldAlone t i l r l′ q
-told-alone t i l l′ r q f c d f-is c-is w q-is =
+pub wrote-end-alone : (t : List ℕ) (i : ℕ) (l l′ : List ℕ) (r q : State) (f : Finding) (c d : Counts) → f ≡ error (nodeAt [] t i) milestoneMismatch endAlone → c ≡ countsOf r → Wrote (f ∷ []) l c l′ d → q ≡ withCounts r d → WroteEndAlone t i l r l′ q
+wrote-end-alone t i l l′ r q f c d f-is c-is w q-is =
     let w′ : Wrote (error (nodeAt [] t i) milestoneMismatch endAlone ∷ []) l (countsOf r) l′ d = subst (λ (z : Finding). Wrote (z ∷ []) l (countsOf r) l′ d) f-is (subst (λ (z : Counts). Wrote (f ∷ []) l z l′ d) c-is w) in
-    subst (ToldAlone t i l r l′) (sym q-is) (record { wrote = w′; same = refl })
+    subst (WroteEndAlone t i l r l′) (sym q-is) (record { wrote = w′; same = refl })
 
 -- a node among the open starts
 module _ (e : Entry) (s t : List ℕ) (i : ℕ) (opens : List OpenStart) (l : List ℕ) (r : State) (o : Opens s t opens (r .«open_len»)) where
@@ -55,19 +55,19 @@ module _ (e : Entry) (s t : List ℕ) (i : ℕ) (opens : List OpenStart) (l : Li
   x = nodeAt s t i
 
   abbrev alone : Bool
-  alone = isMilestone e x && (not (isStart x) && not (waits x (starts s t opens (r .«open_len»))))
+  alone = isMilestone e x && (not (isStart x) && not (waits x (openNodes s t opens (r .«open_len»))))
 
   -- without a finding the counts are the same
-  quiet : false ≡ alone → {opens′ : List OpenStart} {q : State} → Stepped e s t i opens r opens′ q → Milestoned e s t i opens l r opens′ l q
+  quiet : false ≡ alone → {opens′ : List OpenStart} {q : State} → MilestoneStep e s t i opens r opens′ q → Milestoned e s t i opens l r opens′ l q
   unfolding overlay counted
   quiet h {opens′} {q} st =
       record {
         wrote = one-wrote alone false (error x milestoneMismatch endAlone) (error x milestoneMismatch endAlone) h refl (countsOf r) (countsOf r) l l (countsOf q) refl (record { words = refl; counts = st .counts });
-        step = subst (λ (k : Counts). Stepped e s t i opens (withCounts r k) opens′ q) (sym (st .counts)) st;
+        step = subst (λ (k : Counts). MilestoneStep e s t i opens (withCounts r k) opens′ q) (sym (st .counts)) st;
       }
 
   -- a step doesn't read the counts
-  recounted : (k : Counts) {opens′ : List OpenStart} {q : State} → Stepped e s t i opens r opens′ q → Stepped e s t i opens (withCounts r k) opens′ (withCounts q k)
+  recounted : (k : Counts) {opens′ : List OpenStart} {q : State} → MilestoneStep e s t i opens r opens′ q → MilestoneStep e s t i opens (withCounts r k) opens′ (withCounts q k)
   recounted k st =
       record {
         state = st .state;
@@ -80,7 +80,7 @@ module _ (e : Entry) (s t : List ℕ) (i : ℕ) (opens : List OpenStart) (l : Li
         verses = st .verses;
       }
 
-  stepped : (opens′ : List OpenStart) (n : ℕ) → starts s t opens′ n ≡ pick (isMilestone e x) (openAfter (isStart x) x (starts s t opens (r .«open_len»))) (starts s t opens (r .«open_len»)) → Opens s t opens′ n → n ≤ r .«open_len» + 1 → Stepped e s t i opens r opens′ (withOpens r n)
+  stepped : (opens′ : List OpenStart) (n : ℕ) → openNodes s t opens′ n ≡ pick (isMilestone e x) (startsAfter (isStart x) x (openNodes s t opens (r .«open_len»))) (openNodes s t opens (r .«open_len»)) → Opens s t opens′ n → n ≤ r .«open_len» + 1 → MilestoneStep e s t i opens r opens′ (withOpens r n)
   unfolding afterMilestone
   stepped opens′ n p o′ h =
       record {
@@ -102,7 +102,7 @@ module _ (e : Entry) (s t : List ℕ) (i : ℕ) (opens : List OpenStart) (l : Li
   started : (b : OpenStart) → isMilestone e x ≡ true → isStart x ≡ true → b .node ≡ i → b .«base_len» ≡ length (baseOf x) → Spanned s t i → r .«open_len» < length opens → Milestoned e s t i opens l r (set opens (r .«open_len») b) l (withOpens r (r .«open_len» + 1))
   started b y z here len sp room =
       let m : Measured s t (b .node) (b .«base_len») = rw here (record { spanned = sp; is = len }) in
-      let w : starts s t (set opens (r .«open_len») b) (r .«open_len» + 1) ≡ x ∷ starts s t opens (r .«open_len») = starts-pushed opens (r .«open_len») b room s t ∙ ap (λ (n : ℕ). nodeAt s t n ∷ starts s t opens (r .«open_len»)) here in
+      let w : openNodes s t (set opens (r .«open_len») b) (r .«open_len» + 1) ≡ x ∷ openNodes s t opens (r .«open_len») = starts-pushed opens (r .«open_len») b room s t ∙ ap (λ (n : ℕ). nodeAt s t n ∷ openNodes s t opens (r .«open_len»)) here in
       let v : false ≡ alone = rw (y, z) in
       quiet v (stepped (set opens (r .«open_len») b) (r .«open_len» + 1) (rw (y, z) w) (opens-pushed opens (r .«open_len») b room s t o m) (omega arith))
 
@@ -110,15 +110,15 @@ module _ (e : Entry) (s t : List ℕ) (i : ℕ) (opens : List OpenStart) (l : Li
   module _ (y : isMilestone e x ≡ true) (z : isStart x ≡ false) where
     alone-is : (f : Found) → nearestIn s t opens (r .«open_len») (baseOf x) ≡ f → not (isFound f) ≡ alone
     alone-is f h =
-        let w : waits x (starts s t opens (r .«open_len»)) ≡ isFound f = waits-found s t opens x (r .«open_len») ∙ ap isFound h in
+        let w : waits x (openNodes s t opens (r .«open_len»)) ≡ isFound f = waits-found s t opens x (r .«open_len») ∙ ap isFound h in
         rw (y, z, w)
 
-    by-itself : nearestIn s t opens (r .«open_len») (baseOf x) ≡ Nothing → (l′ : List ℕ) (r′ : State) → ToldAlone t i l r l′ r′ → Milestoned e s t i opens l r opens l′ r′
-    by-itself n l′ r′ told =
-        let st : Stepped e s t i opens r opens r = stepped opens (r .«open_len») (rw (y, z) (sym (none-taken s t opens x (r .«open_len») n))) o (omega arith) in
+    by-itself : nearestIn s t opens (r .«open_len») (baseOf x) ≡ Nothing → (l′ : List ℕ) (r′ : State) → WroteEndAlone t i l r l′ r′ → Milestoned e s t i opens l r opens l′ r′
+    by-itself n l′ r′ w =
+        let st : MilestoneStep e s t i opens r opens r = stepped opens (r .«open_len») (rw (y, z) (sym (none-taken s t opens x (r .«open_len») n))) o (omega arith) in
         record {
-          wrote = one-wrote alone true (error x milestoneMismatch endAlone) (error x milestoneMismatch endAlone) (alone-is Nothing n) refl (countsOf r) (countsOf r) l l′ (countsOf r′) refl (told .wrote);
-          step = subst (λ (q : State). Stepped e s t i opens (withCounts r (countsOf r′)) opens q) (sym (told .same)) (recounted (countsOf r′) st);
+          wrote = one-wrote alone true (error x milestoneMismatch endAlone) (error x milestoneMismatch endAlone) (alone-is Nothing n) refl (countsOf r) (countsOf r) l l′ (countsOf r′) refl (w .wrote);
+          step = subst (λ (q : State). MilestoneStep e s t i opens (withCounts r (countsOf r′)) opens q) (sym (w .same)) (recounted (countsOf r′) st);
         }
 
     room-alone : nearestIn s t opens (r .«open_len») (baseOf x) ≡ Nothing → Room (countsOf r) (given (milestoneChecks e (stateOf s t [] opens r) x)) → Room (countsOf r) (error (nodeAt [] t i) milestoneMismatch endAlone ∷ [])
@@ -131,7 +131,7 @@ module _ (e : Entry) (s t : List ℕ) (i : ℕ) (opens : List OpenStart) (l : Li
         let up′ : r .«open_len» ≡ r .«open_len» - 1 + 1 = omega arith in
         let g : Gone opens opens′ (r .«open_len» - 1) at = rw w (gone opens (r .«open_len») at a (o .room)) in
         let found : nearestIn s t opens (suc (r .«open_len» - 1)) (baseOf x) ≡ At at = ap (λ (n : ℕ). nearestIn s t opens n (baseOf x)) (sym up) ∙ n in
-        let taken : without x (starts s t opens (r .«open_len»)) ≡ starts s t opens′ (r .«open_len» - 1) = ap (λ (n : ℕ). without x (starts s t opens n)) up ∙ one-taken s t opens opens′ at x (r .«open_len» - 1) g found in
+        let taken : without x (openNodes s t opens (r .«open_len»)) ≡ openNodes s t opens′ (r .«open_len» - 1) = ap (λ (n : ℕ). without x (openNodes s t opens n)) up ∙ one-taken s t opens opens′ at x (r .«open_len» - 1) g found in
         let o′ : Opens s t opens (r .«open_len» - 1 + 1) = rw up′ at o in
         quiet (alone-is (At at) n) (stepped opens′ (r .«open_len» - 1) (rw (y, z) (sym taken)) (opens-gone s t opens opens′ (r .«open_len» - 1) at g (omega arith) len o′) (omega arith))
 

@@ -30,8 +30,8 @@ abbrev pub baseIn : List ℕ → List ℕ
 baseIn name = take (length name - 2) name
 
 -- a milestone by its table entry and its name
-abbrev pub named : Entry → List ℕ → Bool
-named e name = eqb (e .category) milestoneCategory && (endsIn 0x73 name || endsIn 0x65 name)
+abbrev pub isMilestoneNamed : Entry → List ℕ → Bool
+isMilestoneNamed e name = eqb (e .category) milestoneCategory && (endsIn 0x73 name || endsIn 0x65 name)
 
 -- a node with the length of its base
 pub record Measured (s t : List ℕ) (node len : ℕ) : Type 0 where
@@ -105,14 +105,14 @@ withOpens r n =
     }
 
 -- the finding of an end that nothing waits for is written, and nothing but the counts is another
-pub record ToldAlone (t : List ℕ) (i : ℕ) (l : List ℕ) (r : State) (l′ : List ℕ) (q : State) : Type 0 where
+pub record WroteEndAlone (t : List ℕ) (i : ℕ) (l : List ℕ) (r : State) (l′ : List ℕ) (q : State) : Type 0 where
   pub wrote : Wrote (error (nodeAt [] t i) milestoneMismatch endAlone ∷ []) l (countsOf r) l′ (countsOf q)
   pub same : q ≡ withCounts r (countsOf q)
 
 -- the record after a marker, by how many open starts there are now: an end that stands alone is told
 abbrev pub Counted : List ℕ → ℕ → Paired → List ℕ → State → List ℕ → State → Type 0
 Counted t i (paired.Now n) l r l′ q = (q ≡ withOpens r n) × (l′ ≡ l)
-Counted t i paired.Alone l r l′ q = ToldAlone t i l r l′ q
+Counted t i paired.Alone l r l′ q = WroteEndAlone t i l r l′ q
 
 -- there is room for what is told
 abbrev pub Countable : List ℕ → ℕ → Paired → State → Type 0

@@ -14,7 +14,7 @@ use Rattle.state.specs.Running.{stateOf, countsOf, withCounts, Opens}
 use Rattle.state.specs.declared.State.{State}
 
 -- the record and the open starts are those after node i with its table entry; the chapters seen may be any
-pub record Stepped (e : Entry) (s t : List ℕ) (i : ℕ) (opens : List OpenStart) (r : State) (opens′ : List OpenStart) (q : State) : Type 0 where
+pub record MilestoneStep (e : Entry) (s t : List ℕ) (i : ℕ) (opens : List OpenStart) (r : State) (opens′ : List OpenStart) (q : State) : Type 0 where
   pub state : (seen : List ℕ) → stateOf s t seen opens′ q ≡ afterMilestone e (stateOf s t seen opens r) (nodeAt s t i)
   pub stays : Opens s t opens′ (q .«open_len»)
   pub few : q .«open_len» ≤ r .«open_len» + 1
@@ -27,7 +27,7 @@ pub record Stepped (e : Entry) (s t : List ℕ) (i : ℕ) (opens : List OpenStar
 -- the finding is written if there is one, and the step is that of the record with it counted
 pub record Milestoned (e : Entry) (s t : List ℕ) (i : ℕ) (opens : List OpenStart) (l : List ℕ) (r : State) (opens′ : List OpenStart) (l′ : List ℕ) (q : State) : Type 0 where
   pub wrote : Wrote (given (milestoneChecks e (stateOf s t [] opens r) (nodeAt s t i))) l (countsOf r) l′ (countsOf q)
-  pub step : Stepped e s t i opens (withCounts r (countsOf q)) opens′ q
+  pub step : MilestoneStep e s t i opens (withCounts r (countsOf q)) opens′ q
 
 -- what a marker asks for: it is a node of the tape, the open starts are known and have room for one more, and there is room for its finding
 pub record Steppable (e : Entry) (s t : List ℕ) (i : ℕ) (opens : List OpenStart) (r : State) : Type 0 where

@@ -15,7 +15,7 @@ ghost use Rattle.findings.specs.Written.{Room};
 ghost use Rattle.definition.specs.Checks.{given, error};
 ghost use Rattle.definition.specs.Milestones.{endsIn, baseOf, milestoneChecks};
 ghost use Rattle.state.specs.Running.{stateOf, countsOf, Opens};
-ghost use Rattle.milestones.specs.Inner.{baseIn, Measured, Read, Placed, baseAt, nearestIn, removed, takenBy, opensBy, pairedBy, withOpens, ToldAlone, Counted, Countable};
+ghost use Rattle.milestones.specs.Inner.{baseIn, Measured, Read, Placed, baseAt, nearestIn, removed, takenBy, opensBy, pairedBy, withOpens, WroteEndAlone, Counted, Countable};
 ghost use Rattle.milestones.specs.Steps.{Milestoned, Steppable};
 ghost use Rattle.findings.specs.Codes.{milestoneMismatch, endAlone};
 
@@ -126,9 +126,9 @@ fn with_open(r: State, n: usize) -> State
 }
 
 // The finding of an end that no open start waits for.
-fn tell_alone(tape: &[u8], i: usize, rec: State, list: &mut [u64]) -> State
+fn push_end_alone(tape: &[u8], i: usize, rec: State, list: &mut [u64]) -> State
     requires { ⌜ (i < count (now tape)) × Room (countsOf rec) (error (nodeAt [] (now tape) i) milestoneMismatch endAlone ∷ []) ⌝ }
-    ensures { λ r. ⌜ ToldAlone (now (tape .entry)) i (now (list .entry)) rec (now (list .exit)) r ⌝ }
+    ensures { λ r. ⌜ WroteEndAlone (now (tape .entry)) i (now (list .entry)) rec (now (list .exit)) r ⌝ }
 {
     let f = state::about(
         tape,
@@ -215,7 +215,7 @@ pub fn after_pair(tape: &[u8], i: usize, p: Paired, rec: State, list: &mut [u64]
 {
     match p {
         Paired::Now(n) => with_open(rec, n),
-        Paired::Alone => tell_alone(tape, i, rec, list),
+        Paired::Alone => push_end_alone(tape, i, rec, list),
     }
 }
 

@@ -16,8 +16,8 @@ use lib.Seq.{length-take-le, take-add, drop-at, drop-drop, getD-take, getD-drop}
 use Rattle.text.specs.Pick.{cut, end, within, pick}
 use Rattle.text.specs.Utf8.{decode}
 use Rattle.text.specs.Blank.{blank}
-use Rattle.text.specs.Characters.{find, starts}
-use Rattle.text.specs.Words.{solid, wordFrom, firstWord, secondWord}
+use Rattle.text.specs.Characters.{find, isBoundary}
+use Rattle.text.specs.Words.{notBlank, wordFrom, firstWord, secondWord}
 use Rattle.text.proofs.Blank.{blank-key, low-not-blank}
 use Rattle.text.proofs.Boundary.{inside}
 use Rattle.text.proofs.Chars.{stops}
@@ -34,7 +34,7 @@ use Rattle.cursor.specs.declared.NameSpan.{NameSpan}
 use Rattle.cursor.specs.Names.{endsName, namePart, nameOf}
 use Rattle.cursor.specs.Info.{infoAt}
 use Rattle.cursor.specs.Inner.{Named}
-use Rattle.cursor.proofs.Named.{one-hit, one-miss, is-plain, name-cut, name-solid}
+use Rattle.cursor.proofs.Named.{one-hit, one-miss, is-plain, name-cut, name-not-blank}
 use Rattle.numbers.specs.declared.LabelSpan.{LabelSpan}
 use Rattle.numbers.specs.Inner.{splitAt, Labelled, LabelledBy, Usual}
 use Rattle.numbers.specs.Label.{baseLen, isGlued, labelOf, splits, numbered, badLabel, labelRefusal}
@@ -49,8 +49,8 @@ glued-by e text name base named based = rw (based, named)
 pub first-end : (s : List ℕ) (e : ℕ) → e ≡ end (namePart s) → 0 < e → e ≤ length s → e + find blank (drop e s) ≡ end (firstWord s)
 unfolding wordFrom
 first-end s e is more h =
-    let on : 0 + find blank s ≡ e + find blank (drop e s) = name-solid s ∙ rw is in
-    let z : 0 + find solid s ≡ 0 = stops solid s 0 (omega arith) (ap not (go (blank (decode s .cp)) refl on)) in
+    let on : 0 + find blank s ≡ e + find blank (drop e s) = name-not-blank s ∙ rw is in
+    let z : 0 + find notBlank s ≡ 0 = stops notBlank s 0 (omega arith) (ap not (go (blank (decode s .cp)) refl on)) in
     sym (rw z on)
   where
     go : (v : Bool) → blank (decode s .cp) ≡ v → 0 + find blank s ≡ e + find blank (drop e s) → blank (decode s .cp) ≡ false
@@ -86,7 +86,7 @@ module _ (s : List ℕ) (at : NameSpan) (base : ℕ) (named : Named s at) where
         inside = named .inside;
       }
 
-  pub past-name : (f a z : ℕ) → length name ≤ base → f ≡ end (firstWord s) → a ≡ f + find solid (drop f s) → z ≡ a + find blank (drop a s) → z ≤ length s → LabelledBy base s (record { start = a; end = z; glued = false })
+  pub past-name : (f a z : ℕ) → length name ≤ base → f ≡ end (firstWord s) → a ≡ f + find notBlank (drop f s) → z ≡ a + find blank (drop a s) → z ≤ length s → LabelledBy base s (record { start = a; end = z; glued = false })
   past-name f a z h is-first is-start is-end inside =
       let v = le-ltb base (length name) h in
       record {
@@ -121,13 +121,13 @@ module _ (s : List ℕ) (u : Usual s) where
       let f = stops-ascii blank s 2 (omega arith) (rw (u .space) (omega arith)) space-blank in
       sym f ∙ first-end s 2 (n .stops) (omega arith) (omega arith)
 
-  usual-label : 3 ≡ 2 + find solid (drop 2 s)
+  usual-label : 3 ≡ 2 + find notBlank (drop 2 s)
   usual-label =
       let long = u .long in
       let lo = within-lo 0x30 0x39 (getD s 3 0) (u .digit) in
       let hi = within-hi 0x30 0x39 (getD s 3 0) (u .digit) in
-      let e = past-ascii solid s 2 (omega arith) (rw (u .space) (omega arith)) (rw space-blank) in
-      let f = stops-ascii solid s 3 (omega arith) (omega arith) (rw (low-not-blank (getD s 3 0) (omega arith) (λ e. omega arith) (inr (omega arith)))) in
+      let e = past-ascii notBlank s 2 (omega arith) (rw (u .space) (omega arith)) (rw space-blank) in
+      let f = stops-ascii notBlank s 3 (omega arith) (omega arith) (rw (low-not-blank (getD s 3 0) (omega arith) (λ e. omega arith) (inr (omega arith)))) in
       omega (arith, e, f)
 
   pub usual : (base z : ℕ) → 1 ≤ base → z ≡ 3 + find blank (drop 3 s) → z ≤ length s → LabelledBy base s (record { start = 3; end = z; glued = false })
@@ -156,7 +156,7 @@ module _ (s : List ℕ) (b base : ℕ) (is-start : b ≡ namePart s .start) wher
   pub split-past : length s - b ≤ base → false ≡ splitAt (nameOf s) base
   split-past h = rw (le-ltb base (length (nameOf s)) (omega (arith, short)))
 
-  name-starts : (n : ℕ) → n < length (nameOf s) → starts s (b + n) ≡ true → starts (nameOf s) n ≡ true
+  name-starts : (n : ℕ) → n < length (nameOf s) → isBoundary s (b + n) ≡ true → isBoundary (nameOf s) n ≡ true
   name-starts zero l h = refl
   name-starts (suc k) l h =
       let in-part : suc k < namePart s .len = omega (arith, length-take (namePart s .len) (drop (namePart s .start) s)) in
@@ -166,7 +166,7 @@ module _ (s : List ℕ) (b base : ℕ) (is-start : b ≡ namePart s .start) wher
       ∙ sym (inside s (b + suc k) (λ z. omega arith) (omega (arith, short)))
       ∙ h
 
-  pub split-none : starts s (b + base) ≡ true → false ≡ splitAt (nameOf s) base
+  pub split-none : isBoundary s (b + base) ≡ true → false ≡ splitAt (nameOf s) base
   split-none h = go (decLt base (length (nameOf s)))
     where
       whole : (v t : Bool) → t ≡ true → false ≡ (v && not t)
@@ -174,11 +174,11 @@ module _ (s : List ℕ) (b base : ℕ) (is-start : b ≡ namePart s .start) wher
       whole false t e = refl
 
       go : Dec (base < length (nameOf s)) → false ≡ splitAt (nameOf s) base
-      go (yes l) = whole (ltb base (length (nameOf s))) (starts (nameOf s) base) (name-starts base l h)
+      go (yes l) = whole (ltb base (length (nameOf s))) (isBoundary (nameOf s) base) (name-starts base l h)
       go (no l) = rw (le-ltb base (length (nameOf s)) (omega arith))
 
 -- by its own bytes
-pub split-by : (s name : List ℕ) (base : ℕ) → name ≡ nameOf s → (v : Bool) → ltb base (length name) ≡ v → (v && not (starts name base)) ≡ splitAt (nameOf s) base
+pub split-by : (s name : List ℕ) (base : ℕ) → name ≡ nameOf s → (v : Bool) → ltb base (length name) ≡ v → (v && not (isBoundary name base)) ≡ splitAt (nameOf s) base
 split-by s name base named v h = rw (← h, named)
 
 pub split-known : (m : MarkerInfo) (i : Info) (s : List ℕ) → i ≡ info.Known m → splitAt (nameOf s) (m .«name_len») ≡ splits (infoOf i) s

@@ -20,7 +20,7 @@ use Rattle.text.proofs.Cuts.{rest-all}
 use Rattle.numbers.specs.declared.Suffix.{Suffix}
 use Rattle.numbers.specs.declared.Suffix.the-variants.{Letter, None}
 use Rattle.numbers.specs.declared.VersePart.{VersePart}
-use Rattle.numbers.specs.Verse.{Position, Readable, letterOf, withLetter, digitsEnd, partOf, versePart, verseEnd, next, nextBy, noEarlier, otherNumber, inSequence, suffixOf, positionOf, letterLow}
+use Rattle.numbers.specs.Verse.{Position, Readable, letterOf, withLetter, digitsEnd, partOf, versePart, verseEnd, next, nextPosition, noEarlier, otherNumber, inSequence, suffixOf, positionOf, letterLow}
 
 -- the order of letters
 pub letters : (e a : Suffix) (x y : ℕ) → e ≡ Letter x → a ≡ Letter y → leb x y ≡ noEarlier (suffixOf e) (suffixOf a)
@@ -42,7 +42,7 @@ sequence e a v x h y = rw h y
 pub letter-low : (p : VersePart) (b : ℕ) → Readable (positionOf p) → p .suffix ≡ Letter b → b < 255
 letter-low p b r h = ltb-true b 255 (ap (λ (s : Suffix). letterLow (suffixOf s)) (sym h) ∙ r .letter-low)
 
-pub next-by : (p : VersePart) (s : Suffix) (q : Position) → p .suffix ≡ s → q ≡ nextBy (p .num) (suffixOf s) → q ≡ next (positionOf p)
+pub next-by : (p : VersePart) (s : Suffix) (q : Position) → p .suffix ≡ s → q ≡ nextPosition (p .num) (suffixOf s) → q ≡ next (positionOf p)
 unfolding next
 next-by p s q h e = rw h e
 

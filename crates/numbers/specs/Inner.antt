@@ -7,7 +7,7 @@ use mathlib.Core.Option.{Option, none}
 use lib.Dec.{ltb}
 use lib.ListN.{length, getD, take, drop}
 use Rattle.text.specs.Pick.{within, cut, pick}
-use Rattle.text.specs.Characters.{starts}
+use Rattle.text.specs.Characters.{isBoundary}
 use Rattle.tape.specs.Nodes.{kindAt}
 use Rattle.refusals.specs.Refusal.{Refusal, refuse, onlyIf, orElse, splitLabel}
 use Rattle.table.specs.Entries.{Entry}
@@ -18,7 +18,7 @@ use Rattle.numbers.specs.Label.{isGlued, labelOf, numbered}
 
 -- the name is longer, and that length splits a character of it
 abbrev pub splitAt : List ℕ → ℕ → Bool
-splitAt name n = ltb n (length name) && not (starts name n)
+splitAt name n = ltb n (length name) && not (isBoundary name n)
 
 -- the places of the label in the text of a node
 pub record Labelled (e : Option Entry) (s : List ℕ) (r : LabelSpan) : Type 0 where

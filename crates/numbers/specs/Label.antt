@@ -6,7 +6,7 @@ use mathlib.Core.Option.{Option, some, none}
 use lib.Dec.{eqb, ltb}
 use lib.ListN.{length, drop}
 use Rattle.text.specs.Pick.{cut, pick}
-use Rattle.text.specs.Characters.{starts}
+use Rattle.text.specs.Characters.{isBoundary}
 use Rattle.text.specs.Words.{secondWord}
 use Rattle.tape.specs.Nodes.{count, kindAt, span, chapterKind, verseKind}
 use Rattle.refusals.specs.Refusal.{Refusal, refuse, firstBad, splitLabel}
@@ -31,7 +31,7 @@ labelOf e text = pick (isGlued e (nameOf text)) (drop (baseLen e (nameOf text)) 
 
 -- "longer than its table name and the cut splits a character"
 unfoldable pub splits : Option Entry → List ℕ → Bool
-splits e text = isGlued e (nameOf text) && not (starts (nameOf text) (baseLen e (nameOf text)))
+splits e text = isGlued e (nameOf text) && not (isBoundary (nameOf text) (baseLen e (nameOf text)))
 
 -- Chapter and Verse
 abbrev pub numbered : ℕ → Bool
@@ -46,6 +46,6 @@ unfoldable pub labelRefusal : List ℕ → List ℕ → List ℕ → Option Refu
 labelRefusal table s t = firstBad splitLabel (badLabel table s t) 1 (count t - 1)
 
 -- what the answer says
-abbrev pub refusalOf : LabelCheck → Option Refusal
-refusalOf label.Good = none
-refusalOf (label.Split i) = refuse splitLabel i
+abbrev pub labelCheckRefusal : LabelCheck → Option Refusal
+labelCheckRefusal label.Good = none
+labelCheckRefusal (label.Split i) = refuse splitLabel i

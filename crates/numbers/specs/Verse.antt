@@ -49,13 +49,13 @@ endStart s = pick (ltb (findByte (eqb 0x2D) s) (length s)) (findByte (eqb 0x2D) 
 unfoldable pub verseEnd : List ℕ → Option Position
 verseEnd s = versePart (drop (endStart s) s)
 
-abbrev pub nextBy : ℕ → Option ℕ → Position
-nextBy n none = record { number = n + 1; letter = none }
-nextBy n (some b) = record { number = n; letter = some (b + 1) }
+abbrev pub nextPosition : ℕ → Option ℕ → Position
+nextPosition n none = record { number = n + 1; letter = none }
+nextPosition n (some b) = record { number = n; letter = some (b + 1) }
 
 -- "Next: number + 1, or the letter's byte + 1."
 unfoldable pub next : Position → Position
-next p = nextBy (p .number) (p .letter)
+next p = nextPosition (p .number) (p .letter)
 
 -- "no letter before any letter": the second stands no earlier than the first
 abbrev pub noEarlier : Option ℕ → Option ℕ → Bool

@@ -8,13 +8,13 @@ ghost use Prim.Native.Nat.{ℕ, _-_, _+_, _<_, _≤_, min};
 ghost use lib.ListN.{length, getD, take};
 ghost use Rattle.text.specs.Pick.{end};
 ghost use Rattle.text.specs.Words.{firstWord};
-ghost use Rattle.tape.specs.Nodes.{count as nodes};
+ghost use Rattle.tape.specs.Nodes.{count};
 ghost use Rattle.refusals.specs.Refusal.{firstBad, splitLabel};
 ghost use Rattle.tape.specs.Forest.{Accepted};
 ghost use Rattle.table.specs.Entries.{Indexed, infoOf};
 ghost use Rattle.cursor.specs.Names.{nameOf};
 ghost use Rattle.cursor.specs.Inner.{Spanned, Named, Reached};
-ghost use Rattle.numbers.specs.Label.{baseLen, isGlued, labelOf, splits, numbered, badLabel, labelRefusal, refusalOf};
+ghost use Rattle.numbers.specs.Label.{baseLen, isGlued, labelOf, splits, numbered, badLabel, labelRefusal, labelCheckRefusal};
 ghost use Rattle.numbers.specs.Inner.{splitAt, Labelled, LabelledBy, Usual, numbersIn, firstAmong};
 ghost use Rattle.numbers.specs.Verse.{versePart, verseEnd, next, inSequence, letterOf, noEarlier, otherNumber, suffixOf, positionOf, readOf, Readable};
 
@@ -188,26 +188,26 @@ pub fn is_numbered(kind: u8) -> bool
 
 fn bad_label(
     table: &[u8],
-    words: &[u64],
-    count: usize,
+    index: &[u64],
+    entries: usize,
     source: &[u8],
     tape: &[u8],
     i: usize,
 ) -> bool
-    requires { ⌜ (Indexed (now table) (now words) count) × (Spanned (now source) (now tape) i) ⌝ }
+    requires { ⌜ (Indexed (now table) (now index) entries) × (Spanned (now source) (now tape) i) ⌝ }
     ensures { λ r. ⌜ r ≡ badLabel (now (table .entry)) (now (source .entry)) (now (tape .entry)) i ⌝ }
 {
     if !is_numbered(tape::kind_at(tape, i)) {
         return false;
     }
-    let info = cursor::marker_info(table, words, count, tape, i);
+    let info = cursor::marker_info(table, index, entries, tape, i);
     label_splits(info, cursor::text(source, tape, i))
 }
 
 // The Chapters and Verses from one node up to another, in order, and how many they are. Nodes differ in kind with no order that a
 // processor foretells, so no jump here depends on it: what is no Chapter and no Verse is written too, and then over it.
 fn gather(tape: &[u8], from: usize, to: usize, found: &mut [usize]) -> usize
-    requires { ⌜ (from ≤ to) × (to ≤ nodes (now tape)) × (to - from < length (now found)) ⌝ }
+    requires { ⌜ (from ≤ to) × (to ≤ count (now tape)) × (to - from < length (now found)) ⌝ }
     ensures { λ r. ⌜ (r ≤ length (now (found .exit))) × (take r (now (found .exit)) ≡ numbersIn (now (tape .entry)) from (to - from)) ⌝ }
 {
     let mut k: usize = 0;
@@ -223,19 +223,19 @@ fn gather(tape: &[u8], from: usize, to: usize, found: &mut [usize]) -> usize
 // The first of some Chapters and Verses whose name is cut inside a character.
 fn first_split(
     table: &[u8],
-    words: &[u64],
-    count: usize,
+    index: &[u64],
+    entries: usize,
     source: &[u8],
     tape: &[u8],
     found: &[usize],
 ) -> LabelCheck
-    requires { ⌜ (Indexed (now table) (now words) count) × ((j : ℕ) → j < length (now found) → Spanned (now source) (now tape) (getD (now found) j 0)) ⌝ }
-    ensures { λ r. ⌜ refusalOf r ≡ firstAmong (badLabel (now (table .entry)) (now (source .entry)) (now (tape .entry))) (now (found .entry)) ⌝ }
+    requires { ⌜ (Indexed (now table) (now index) entries) × ((j : ℕ) → j < length (now found) → Spanned (now source) (now tape) (getD (now found) j 0)) ⌝ }
+    ensures { λ r. ⌜ labelCheckRefusal r ≡ firstAmong (badLabel (now (table .entry)) (now (source .entry)) (now (tape .entry))) (now (found .entry)) ⌝ }
 {
     let mut j: usize = 0;
     while j < found.len() {
         let i = found[j];
-        if bad_label(table, words, count, source, tape, i) {
+        if bad_label(table, index, entries, source, tape, i) {
             return LabelCheck::Split(i);
         }
         j += 1;
@@ -246,19 +246,19 @@ fn first_split(
 // Number 9 of the nodes from one up to another.
 fn split_in(
     table: &[u8],
-    words: &[u64],
-    count: usize,
+    index: &[u64],
+    entries: usize,
     source: &[u8],
     tape: &[u8],
     from: usize,
     to: usize,
 ) -> LabelCheck
-    requires { ⌜ (Indexed (now table) (now words) count) × (Accepted (now source) (now tape)) × (1 ≤ from) × (from ≤ to) × (to ≤ nodes (now tape)) × (to ≤ from + 64) ⌝ }
-    ensures { λ r. ⌜ refusalOf r ≡ firstBad splitLabel (badLabel (now (table .entry)) (now (source .entry)) (now (tape .entry))) from (to - from) ⌝ }
+    requires { ⌜ (Indexed (now table) (now index) entries) × (Accepted (now source) (now tape)) × (1 ≤ from) × (from ≤ to) × (to ≤ count (now tape)) × (to ≤ from + 64) ⌝ }
+    ensures { λ r. ⌜ labelCheckRefusal r ≡ firstBad splitLabel (badLabel (now (table .entry)) (now (source .entry)) (now (tape .entry))) from (to - from) ⌝ }
 {
     let mut found = [0usize; 65];
     let k = gather(tape, from, to, &mut found);
-    first_split(table, words, count, source, tape, &found[..k])
+    first_split(table, index, entries, source, tape, &found[..k])
 }
 
 fn least(a: usize, b: usize) -> usize
@@ -270,19 +270,19 @@ fn least(a: usize, b: usize) -> usize
 // Number 9, over a tape that numbers 4 to 8 pass, by 64 nodes at a time.
 pub fn label_check(
     table: &[u8],
-    words: &[u64],
-    count: usize,
+    index: &[u64],
+    entries: usize,
     source: &[u8],
     tape: &[u8],
 ) -> LabelCheck
-    requires { ⌜ (Indexed (now table) (now words) count) × (Accepted (now source) (now tape)) ⌝ }
-    ensures { λ r. ⌜ refusalOf r ≡ labelRefusal (now (table .entry)) (now (source .entry)) (now (tape .entry)) ⌝ }
+    requires { ⌜ (Indexed (now table) (now index) entries) × (Accepted (now source) (now tape)) ⌝ }
+    ensures { λ r. ⌜ labelCheckRefusal r ≡ labelRefusal (now (table .entry)) (now (source .entry)) (now (tape .entry)) ⌝ }
 {
     let n = tape.len() / 16;
     let mut i: usize = 1;
     while i < n {
         let next = least(i + 64, n);
-        if let LabelCheck::Split(at) = split_in(table, words, count, source, tape, i, next) {
+        if let LabelCheck::Split(at) = split_in(table, index, entries, source, tape, i, next) {
             return LabelCheck::Split(at);
         }
         i = next;

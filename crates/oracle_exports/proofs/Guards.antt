@@ -20,7 +20,7 @@ use Rattle.cursor.proofs.Around.{spanned}
 use Rattle.cursor.proofs.Runs.{run-top, run-inside}
 use Rattle.findings.specs.declared.Counts.{Counts}
 use Rattle.findings.specs.Finding.{Finding}
-use Rattle.findings.specs.Written.{Wrote, Room, total, limit}
+use Rattle.findings.specs.Written.{Wrote, Room, total, countLimit}
 use Rattle.findings.proofs.Overlay.{counted-total}
 use Rattle.rows.specs.Row.{rowFindings}
 use Rattle.rows.proofs.Few.{row-few}
@@ -28,12 +28,12 @@ use Rattle.attributes.specs.Attributes.{attributesFindings}
 use Rattle.attributes.proofs.Few.{attributes-few}
 use Rattle.oracle_exports.specs.Inner.{Child, Holds}
 
-none-told : (x : Option Refusal) → isNone x ≡ true → x ≡ none
-none-told none e = refl
-none-told (some r) e = absurd (false≢true e)
+none-is : (x : Option Refusal) → isNone x ≡ true → x ≡ none
+none-is none e = refl
+none-is (some r) e = absurd (false≢true e)
 
 pub good-tape : (s t : List ℕ) (b : Bool) → b ≡ isNone (tapeRefusal s t) → b ≡ true → Accepted s t
-good-tape s t b e h = accepted s t .0 (none-told (tapeRefusal s t) (sym e ∙ h))
+good-tape s t b e h = accepted s t .0 (none-is (tapeRefusal s t) (sym e ∙ h))
 
 pub child-spanned : (s t : List ℕ) (i : ℕ) → Child s t i → Spanned s t i
 child-spanned s t i h = spanned s t i (h .accepted) (h .from) (h .inside)
@@ -66,7 +66,7 @@ module _ (s t : List ℕ) (i link : ℕ) (short : length s ≤ 1048576) (holds :
   abbrev inner : Forest
   inner = forest s t (i + 1) link
 
-  few-findings : (fs : List Finding) → length fs ≤ breadth inner → length fs ≤ limit
+  few-findings : (fs : List Finding) → length fs ≤ breadth inner → length fs ≤ countLimit
   few-findings fs few =
       let w = breadth-le inner in
       let v = weight-le s t short (run .nested) in
@@ -77,7 +77,7 @@ module _ (s t : List ℕ) (i link : ℕ) (short : length s ≤ 1048576) (holds :
   asked : (fs : List Finding) → length fs ≤ breadth inner → Run s t (i + 1) link × Room nothing fs
   asked fs few = let m = few-findings fs few in (run, omega arith)
 
-  few-counted : (fs : List Finding) → length fs ≤ breadth inner → (l l′ : List ℕ) (c : Counts) → Wrote fs l nothing l′ c → total c ≤ limit
+  few-counted : (fs : List Finding) → length fs ≤ breadth inner → (l l′ : List ℕ) (c : Counts) → Wrote fs l nothing l′ c → total c ≤ countLimit
   few-counted fs few l l′ c w =
       let e = counted-total nothing fs in
       let m = few-findings fs few in
@@ -86,7 +86,7 @@ module _ (s t : List ℕ) (i link : ℕ) (short : length s ≤ 1048576) (holds :
   pub row-asked : Run s t (i + 1) link × Room nothing (rowFindings inner)
   row-asked = asked (rowFindings inner) (row-few 1 inner)
 
-  pub row-total : (l l′ : List ℕ) (c : Counts) → Wrote (rowFindings inner) l nothing l′ c → total c ≤ limit
+  pub row-total : (l l′ : List ℕ) (c : Counts) → Wrote (rowFindings inner) l nothing l′ c → total c ≤ countLimit
   row-total = few-counted (rowFindings inner) (row-few 1 inner)
 
   pub attributes-asked : (marker : List ℕ) → Child s t i → Run s t (i + 1) link × Spanned s t i × Room nothing (attributesFindings i marker inner)
@@ -94,5 +94,5 @@ module _ (s t : List ℕ) (i link : ℕ) (short : length s ≤ 1048576) (holds :
       let a = asked (attributesFindings i marker inner) (attributes-few i marker inner) in
       (a .0, child-spanned s t i child, a .1)
 
-  pub attributes-total : (marker l l′ : List ℕ) (c : Counts) → Wrote (attributesFindings i marker inner) l nothing l′ c → total c ≤ limit
+  pub attributes-total : (marker l l′ : List ℕ) (c : Counts) → Wrote (attributesFindings i marker inner) l nothing l′ c → total c ≤ countLimit
   attributes-total marker = few-counted (attributesFindings i marker inner) (attributes-few i marker inner)

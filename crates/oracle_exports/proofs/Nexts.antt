@@ -7,17 +7,17 @@ use mathlib.Core.Bool.{true}
 use lib.Dec.{leb, ltb}
 use borrow.Author.Tests.{le-leb, lt-leb, lt-ltb, le-ltb}
 use Rattle.numbers.specs.Verse.{Position, Readable, letterLow, next}
-use Rattle.oracle_exports.specs.Told.{positionTold, nextTold}
+use Rattle.oracle_exports.specs.Words.{positionFrom, nextFrom}
 
-pub told-large : (n b : ℕ) → 4294967295 < n → positionTold n b ≡ nextTold n b
-told-large n b h = rw (lt-leb n 4294967295 h)
+pub next-large : (n b : ℕ) → 4294967295 < n → positionFrom n b ≡ nextFrom n b
+next-large n b h = rw (lt-leb n 4294967295 h)
 
-pub told-last : (n b : ℕ) → n ≤ 4294967295 → b ≡ 255 → positionTold n b ≡ nextTold n b
-told-last n b l e = rw (le-leb n 4294967295 l, le-ltb b 255 (omega arith))
+pub next-last : (n b : ℕ) → n ≤ 4294967295 → b ≡ 255 → positionFrom n b ≡ nextFrom n b
+next-last n b l e = rw (le-leb n 4294967295 l, le-ltb b 255 (omega arith))
 
-pub told-next : (n b : ℕ) → n ≤ 4294967295 → b < 255 → next (positionTold n b) ≡ nextTold n b
-told-next n b l h = rw (le-leb n 4294967295 l, lt-ltb b 255 h)
+pub next-in-range : (n b : ℕ) → n ≤ 4294967295 → b < 255 → next (positionFrom n b) ≡ nextFrom n b
+next-in-range n b l h = rw (le-leb n 4294967295 l, lt-ltb b 255 h)
 
-pub told-readable : (n b : ℕ) → n ≤ 4294967295 → b < 255 → Readable (positionTold n b)
-told-readable n zero l h = record { number-low = l; letter-low = refl }
-told-readable n (suc b) l h = record { number-low = l; letter-low = lt-ltb (suc b) 255 h }
+pub position-readable : (n b : ℕ) → n ≤ 4294967295 → b < 255 → Readable (positionFrom n b)
+position-readable n zero l h = record { number-low = l; letter-low = refl }
+position-readable n (suc b) l h = record { number-low = l; letter-low = lt-ltb (suc b) 255 h }

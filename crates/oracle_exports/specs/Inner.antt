@@ -17,7 +17,7 @@ pub record Holds (s t : List ℕ) (i : ℕ) : Type 0 where
   pub run : Run s t (i + 1) (linkAt t i)
 
 -- a node and one of its children, whose next siblings begin at a node
-pub record Anchored (s t : List ℕ) (parent i from : ℕ) : Type 0 where
+pub record SiblingsAfter (s t : List ℕ) (parent i from : ℕ) : Type 0 where
   pub outer : parent < count t
   pub inside : i < count t
   pub run : Run s t from (linkAt t parent)

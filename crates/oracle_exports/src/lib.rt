@@ -27,26 +27,26 @@ ghost use lib.Dec.{eqb};
 ghost use lib.ListN.{length, take, drop};
 ghost use Rattle.table.specs.Bytes.{oneOf};
 ghost use Rattle.table.specs.Names.{frontMatter, noteOnly, strippedLength};
-ghost use Rattle.oracle_exports.specs.Told.{orElse, numberTold, letterTold, positionTold, nextTold, low, startTold, endTold};
-ghost use Rattle.oracle_exports.specs.Inner.{Child, Holds, Anchored};
+ghost use Rattle.oracle_exports.specs.Words.{numberOr, numberWord, letterWord, positionFrom, nextFrom, low, startWord, endWord};
+ghost use Rattle.oracle_exports.specs.Inner.{Child, Holds, SiblingsAfter};
 ghost use Rattle.rows.specs.Cells.{cellColumns, cellOf};
 ghost use Rattle.numbers.specs.Verse.{readOf, positionOf, suffixOf, versePart, verseEnd, next, inSequence};
 ghost use Rattle.text.specs.Pick.{cut};
 ghost use Rattle.text.specs.Utf8.{firstIllFormed, decode};
 ghost use Rattle.text.specs.Blank.{blank};
-ghost use Rattle.text.specs.Characters.{find, findByte, starts};
+ghost use Rattle.text.specs.Characters.{find, findByte, isBoundary};
 ghost use Rattle.text.specs.Words.{trimStart, trim, firstWord, secondWord};
 ghost use Rattle.text.specs.Number.{digit, parsed};
 ghost use Rattle.refusals.specs.Refusal.{isNone};
 ghost use Rattle.tape.specs.Reading.{tapeRefusal};
 ghost use Rattle.cursor.specs.Inner.{Spanned, Run};
-ghost use Rattle.findings.specs.Written.{total, limit};
+ghost use Rattle.findings.specs.Written.{total, countLimit};
 ghost use Rattle.attachment.specs.Attached.{startsOf};
 
 // The place of the first ill-formed sequence, or the length.
 #[no_mangle]
 pub extern "C" fn compared_utf8_check(s: &[u8]) -> usize
-    ensures { λ r. ⌜ r ≡ orElse (length (now (s .entry))) (firstIllFormed (now (s .entry))) ⌝ }
+    ensures { λ r. ⌜ r ≡ numberOr (length (now (s .entry))) (firstIllFormed (now (s .entry))) ⌝ }
 {
     match text::utf8_check(s) {
         Utf8::WellFormed => s.len(),
@@ -72,7 +72,7 @@ pub extern "C" fn compared_width(s: &[u8], at: usize) -> usize
 
 #[no_mangle]
 pub extern "C" fn compared_is_char_boundary(s: &[u8], at: usize) -> bool
-    ensures { λ r. ⌜ r ≡ starts (now (s .entry)) at ⌝ }
+    ensures { λ r. ⌜ r ≡ isBoundary (now (s .entry)) at ⌝ }
 {
     text::is_char_boundary(s, at)
 }
@@ -108,7 +108,7 @@ pub extern "C" fn compared_find_non_digit(s: &[u8]) -> usize
 // The number, or 2 to the power of 32.
 #[no_mangle]
 pub extern "C" fn compared_parse(s: &[u8]) -> u64
-    ensures { λ r. ⌜ r ≡ orElse 4294967296 (parsed (now (s .entry))) ⌝ }
+    ensures { λ r. ⌜ r ≡ numberOr 4294967296 (parsed (now (s .entry))) ⌝ }
 {
     match text::parse(s) {
         Parsed::Value(n) => n as u64,
@@ -157,7 +157,7 @@ pub extern "C" fn compared_second_word(s: &[u8], out: &mut [u8]) -> usize
 }
 
 // A number and a place in one word.
-fn told(number: u64, place: usize) -> u64
+fn answer_word(number: u64, place: usize) -> u64
     requires { ⌜ number < 16 ⌝ }
     ensures { λ r. ⌜ r ≡ number * 4294967296 + place % 4294967296 ⌝ }
 {
@@ -169,11 +169,11 @@ fn told(number: u64, place: usize) -> u64
 pub extern "C" fn compared_tape_check(source: &[u8], tape: &[u8]) -> u64 {
     match tape::tape_check(source, tape) {
         TapeCheck::Good => 0,
-        TapeCheck::Length => told(4, 0),
-        TapeCheck::Kind(i) => told(5, i),
-        TapeCheck::Span(i) => told(6, i),
-        TapeCheck::Links(i) => told(7, i),
-        TapeCheck::Deep(i) => told(8, i),
+        TapeCheck::Length => answer_word(4, 0),
+        TapeCheck::Kind(i) => answer_word(5, i),
+        TapeCheck::Span(i) => answer_word(6, i),
+        TapeCheck::Links(i) => answer_word(7, i),
+        TapeCheck::Deep(i) => answer_word(8, i),
     }
 }
 
@@ -249,21 +249,21 @@ pub extern "C" fn compared_number(tape: &[u8], i: usize) -> u64 {
 // The number of a table's entries, or 2 to the power of 32 and the place of its first bad line.
 #[no_mangle]
 pub extern "C" fn compared_table(table: &[u8]) -> u64 {
-    let mut words = [0u64; 512];
-    match table::index(table, &mut words) {
-        Layout::Good(n) => told(0, n),
-        Layout::Bad(at) => told(1, at),
+    let mut index = [0u64; 512];
+    match table::index(table, &mut index) {
+        Layout::Good(n) => answer_word(0, n),
+        Layout::Bad(at) => answer_word(1, at),
     }
 }
 
 // The number of the marker that a name stands for, or 2 to the power of 32, also where the table is badly laid out.
 #[no_mangle]
 pub extern "C" fn compared_lookup(table: &[u8], name: &[u8]) -> u64 {
-    let mut words = [0u64; 512];
-    let Layout::Good(n) = table::index(table, &mut words) else {
+    let mut index = [0u64; 512];
+    let Layout::Good(n) = table::index(table, &mut index) else {
         return 4294967296;
     };
-    match MarkerId::lookup(table, &words, n, name) {
+    match MarkerId::lookup(table, &index, n, name) {
         Lookup::Found(id) => id.0 as u64,
         Lookup::Unknown => 4294967296,
     }
@@ -305,24 +305,24 @@ fn info_number(i: Info) -> u64 {
 // Of marker number k of a table.
 #[no_mangle]
 pub extern "C" fn compared_info(table: &[u8], k: u16) -> u64 {
-    let mut words = [0u64; 512];
-    let Layout::Good(n) = table::index(table, &mut words) else {
+    let mut index = [0u64; 512];
+    let Layout::Good(n) = table::index(table, &mut index) else {
         return 4294967296;
     };
-    info_number(MarkerId::info(table, &words, n, MarkerId(k)))
+    info_number(MarkerId::info(table, &index, n, MarkerId(k)))
 }
 
 // Of a node's marker.
 #[no_mangle]
 pub extern "C" fn compared_marker_info(table: &[u8], tape: &[u8], i: usize) -> u64 {
-    let mut words = [0u64; 512];
-    let Layout::Good(n) = table::index(table, &mut words) else {
+    let mut index = [0u64; 512];
+    let Layout::Good(n) = table::index(table, &mut index) else {
         return 4294967296;
     };
     if tape.len() / 16 <= i {
         return 4294967296;
     }
-    info_number(cursor::marker_info(table, &words, n, tape, i))
+    info_number(cursor::marker_info(table, &index, n, tape, i))
 }
 
 #[no_mangle]
@@ -370,8 +370,8 @@ pub extern "C" fn compared_is_note_only_marker(name: &[u8]) -> bool
     table::is_note_only_marker(name)
 }
 
-fn letter_told(suffix: Suffix) -> u8
-    ensures { λ r. ⌜ r ≡ orElse 0 (suffixOf suffix) ⌝ }
+fn letter_byte(suffix: Suffix) -> u8
+    ensures { λ r. ⌜ r ≡ numberOr 0 (suffixOf suffix) ⌝ }
 {
     match suffix {
         Suffix::Letter(b) => b,
@@ -380,7 +380,7 @@ fn letter_told(suffix: Suffix) -> u8
 }
 
 fn part_number(read: PartRead) -> u64
-    ensures { λ r. ⌜ r ≡ numberTold (readOf read) ⌝ }
+    ensures { λ r. ⌜ r ≡ numberWord (readOf read) ⌝ }
 {
     match read {
         PartRead::Is(p) => p.num,
@@ -389,19 +389,19 @@ fn part_number(read: PartRead) -> u64
 }
 
 fn part_letter(read: PartRead) -> u8
-    ensures { λ r. ⌜ r ≡ letterTold (readOf read) ⌝ }
+    ensures { λ r. ⌜ r ≡ letterWord (readOf read) ⌝ }
 {
     match read {
         PartRead::Is(p) => {
             let suffix = p.suffix;
-            letter_told(suffix)
+            letter_byte(suffix)
         }
         PartRead::NotRead => 0,
     }
 }
 
 fn position(num: u64, letter: u8) -> VersePart
-    ensures { λ r. ⌜ positionOf r ≡ positionTold num letter ⌝ }
+    ensures { λ r. ⌜ positionOf r ≡ positionFrom num letter ⌝ }
 {
     if letter == 0 {
         return VersePart {
@@ -417,28 +417,28 @@ fn position(num: u64, letter: u8) -> VersePart
 
 #[no_mangle]
 pub extern "C" fn compared_part_number(s: &[u8]) -> u64
-    ensures { λ r. ⌜ r ≡ numberTold (versePart (now (s .entry))) ⌝ }
+    ensures { λ r. ⌜ r ≡ numberWord (versePart (now (s .entry))) ⌝ }
 {
     part_number(numbers::parse_verse_part(s))
 }
 
 #[no_mangle]
 pub extern "C" fn compared_part_letter(s: &[u8]) -> u8
-    ensures { λ r. ⌜ r ≡ letterTold (versePart (now (s .entry))) ⌝ }
+    ensures { λ r. ⌜ r ≡ letterWord (versePart (now (s .entry))) ⌝ }
 {
     part_letter(numbers::parse_verse_part(s))
 }
 
 #[no_mangle]
 pub extern "C" fn compared_end_number(s: &[u8]) -> u64
-    ensures { λ r. ⌜ r ≡ numberTold (verseEnd (now (s .entry))) ⌝ }
+    ensures { λ r. ⌜ r ≡ numberWord (verseEnd (now (s .entry))) ⌝ }
 {
     part_number(numbers::parse_verse_range_end(s))
 }
 
 #[no_mangle]
 pub extern "C" fn compared_end_letter(s: &[u8]) -> u8
-    ensures { λ r. ⌜ r ≡ letterTold (verseEnd (now (s .entry))) ⌝ }
+    ensures { λ r. ⌜ r ≡ letterWord (verseEnd (now (s .entry))) ⌝ }
 {
     part_letter(numbers::parse_verse_range_end(s))
 }
@@ -446,7 +446,7 @@ pub extern "C" fn compared_end_letter(s: &[u8]) -> u8
 // Whether a position may stand where another is expected. Numbers past 4,294,967,296 never may: no label has them.
 #[no_mangle]
 pub extern "C" fn compared_sequence(expected: u64, wanted: u8, actual: u64, given: u8) -> bool
-    ensures { λ r. ⌜ r ≡ (low expected && (low actual && inSequence (positionTold expected wanted) (positionTold actual given))) ⌝ }
+    ensures { λ r. ⌜ r ≡ (low expected && (low actual && inSequence (positionFrom expected wanted) (positionFrom actual given))) ⌝ }
 {
     if 4294967296 < expected {
         return false;
@@ -457,8 +457,8 @@ pub extern "C" fn compared_sequence(expected: u64, wanted: u8, actual: u64, give
     numbers::is_valid_verse_sequence(position(expected, wanted), position(actual, given))
 }
 
-fn next_told(num: u64, letter: u8) -> VersePart
-    ensures { λ r. ⌜ positionOf r ≡ nextTold num letter ⌝ }
+fn next_position(num: u64, letter: u8) -> VersePart
+    ensures { λ r. ⌜ positionOf r ≡ nextFrom num letter ⌝ }
 {
     let p = position(num, letter);
     if 4294967295 < num {
@@ -474,23 +474,23 @@ fn next_told(num: u64, letter: u8) -> VersePart
 // these.
 #[no_mangle]
 pub extern "C" fn compared_next_number(num: u64, letter: u8) -> u64
-    ensures { λ r. ⌜ r ≡ nextTold num letter .number ⌝ }
+    ensures { λ r. ⌜ r ≡ nextFrom num letter .number ⌝ }
 {
-    let p = next_told(num, letter);
+    let p = next_position(num, letter);
     p.num
 }
 
 #[no_mangle]
 pub extern "C" fn compared_next_letter(num: u64, letter: u8) -> u8
-    ensures { λ r. ⌜ r ≡ orElse 0 (nextTold num letter .letter) ⌝ }
+    ensures { λ r. ⌜ r ≡ numberOr 0 (nextFrom num letter .letter) ⌝ }
 {
-    let p = next_told(num, letter);
+    let p = next_position(num, letter);
     let suffix = p.suffix;
-    letter_told(suffix)
+    letter_byte(suffix)
 }
 
 fn cell_start(cell: Cell) -> u64
-    ensures { λ r. ⌜ r ≡ startTold (cellOf cell) ⌝ }
+    ensures { λ r. ⌜ r ≡ startWord (cellOf cell) ⌝ }
 {
     match cell {
         Cell::At(c) => c.start as u64,
@@ -499,7 +499,7 @@ fn cell_start(cell: Cell) -> u64
 }
 
 fn cell_end(cell: Cell) -> u64
-    ensures { λ r. ⌜ r ≡ endTold (cellOf cell) ⌝ }
+    ensures { λ r. ⌜ r ≡ endWord (cellOf cell) ⌝ }
 {
     match cell {
         Cell::At(c) => c.end as u64,
@@ -509,14 +509,14 @@ fn cell_end(cell: Cell) -> u64
 
 #[no_mangle]
 pub extern "C" fn compared_cell_start(name: &[u8]) -> u64
-    ensures { λ r. ⌜ r ≡ startTold (cellColumns (now (name .entry))) ⌝ }
+    ensures { λ r. ⌜ r ≡ startWord (cellColumns (now (name .entry))) ⌝ }
 {
     cell_start(rows::table_cell_columns(name))
 }
 
 #[no_mangle]
 pub extern "C" fn compared_cell_end(name: &[u8]) -> u64
-    ensures { λ r. ⌜ r ≡ endTold (cellColumns (now (name .entry))) ⌝ }
+    ensures { λ r. ⌜ r ≡ endWord (cellColumns (now (name .entry))) ⌝ }
 {
     cell_end(rows::table_cell_columns(name))
 }
@@ -558,14 +558,14 @@ pub extern "C" fn compared_label(
     i: usize,
     out: &mut [u8],
 ) -> usize {
-    let mut words = [0u64; 512];
-    let Layout::Good(n) = table::index(table, &mut words) else {
+    let mut index = [0u64; 512];
+    let Layout::Good(n) = table::index(table, &mut index) else {
         return 0;
     };
     if !is_node(source, tape, i) {
         return 0;
     }
-    let info = cursor::marker_info(table, &words, n, tape, i);
+    let info = cursor::marker_info(table, &index, n, tape, i);
     copy(
         numbers::number_label(info, cursor::text(source, tape, i)),
         out,
@@ -574,28 +574,28 @@ pub extern "C" fn compared_label(
 
 #[no_mangle]
 pub extern "C" fn compared_is_glued(table: &[u8], source: &[u8], tape: &[u8], i: usize) -> bool {
-    let mut words = [0u64; 512];
-    let Layout::Good(n) = table::index(table, &mut words) else {
+    let mut index = [0u64; 512];
+    let Layout::Good(n) = table::index(table, &mut index) else {
         return false;
     };
     if !is_node(source, tape, i) {
         return false;
     }
-    let info = cursor::marker_info(table, &words, n, tape, i);
+    let info = cursor::marker_info(table, &index, n, tape, i);
     numbers::is_glued(info, cursor::text(source, tape, i))
 }
 
 // The place of number 9, or 2 to the power of 32, also where table or tape is turned back.
 #[no_mangle]
 pub extern "C" fn compared_label_check(table: &[u8], source: &[u8], tape: &[u8]) -> u64 {
-    let mut words = [0u64; 512];
-    let Layout::Good(n) = table::index(table, &mut words) else {
+    let mut index = [0u64; 512];
+    let Layout::Good(n) = table::index(table, &mut index) else {
         return 4294967296;
     };
     if !accepted(source, tape) {
         return 4294967296;
     }
-    match numbers::label_check(table, &words, n, source, tape) {
+    match numbers::label_check(table, &index, n, source, tape) {
         LabelCheck::Good => 4294967296,
         LabelCheck::Split(i) => i as u64,
     }
@@ -622,7 +622,7 @@ fn holds_run(source: &[u8], tape: &[u8], i: usize) -> bool
 }
 
 fn total_of(c: Counts) -> u64
-    requires { ⌜ total c ≤ limit ⌝ }
+    requires { ⌜ total c ≤ countLimit ⌝ }
     ensures { λ r. ⌜ r ≡ total c ⌝ }
 {
     c.errors + c.warnings + c.infos
@@ -693,7 +693,7 @@ fn put(list: &mut [u64], k: usize, x: u32) {
 }
 
 // The start offsets of attached numbers, as far as there is room, and how many they are.
-fn starts_told(numbers: Attached, list: &mut [u64]) -> u64
+fn write_starts(numbers: Attached, list: &mut [u64]) -> u64
     ensures { λ r. ⌜ r ≡ length (startsOf numbers) ⌝ }
 {
     if numbers.count == 0 {
@@ -710,7 +710,7 @@ fn starts_told(numbers: Attached, list: &mut [u64]) -> u64
 // Where the siblings after a chapter or a verse begin that is among a node's children, or 0 where it is no such child of a
 // root or an open node of an accepted tape.
 fn after_anchor(source: &[u8], tape: &[u8], parent: usize, i: usize) -> usize
-    ensures { λ r. ⌜ (1 ≤ r → Anchored (now (source .entry)) (now (tape .entry)) parent i r) ⌝ }
+    ensures { λ r. ⌜ (1 ≤ r → SiblingsAfter (now (source .entry)) (now (tape .entry)) parent i r) ⌝ }
 {
     if tape.len() / 16 <= i {
         return 0;
@@ -747,7 +747,7 @@ pub extern "C" fn compared_attached(
     }
     let kind = tape::kind_at(tape, i);
     let to = tape::link_at(tape, parent) as usize;
-    starts_told(
+    write_starts(
         attachment::attached_numbers(source, tape, kind, from, to),
         list,
     )

@@ -15,7 +15,7 @@ use Rattle.rows.specs.declared.Cell.the-variants as cell
 use Rattle.text.specs.Literal.{ascii}
 
 -- the columns of a cell, first and last
-pub record Range : Type 0 where
+pub record Columns : Type 0 where
   pub start : ℕ
   pub end : ℕ
 
@@ -31,7 +31,7 @@ isAligned name = eqb (getD name 2 0) 0x72 || eqb (getD name 2 0) 0x63
 abbrev pub afterLetters : List ℕ → List ℕ
 afterLetters name = drop (pick (isAligned name) 3 2) name
 
-abbrev pub pair : Option ℕ → Option ℕ → Option Range
+abbrev pub pair : Option ℕ → Option ℕ → Option Columns
 pair none b = none
 pair (some a) none = none
 pair (some a) (some b) = some (record { start = a; end = b })
@@ -41,17 +41,17 @@ abbrev pub hyphen : List ℕ → ℕ
 hyphen s = findByte (eqb 0x2D) s
 
 -- "`tc1`→(1,1), `tcr1-2`→(1,2)"
-unfoldable pub columnsIn : List ℕ → Option Range
+unfoldable pub columnsIn : List ℕ → Option Columns
 columnsIn s = pick (ltb (hyphen s) (length s)) (pair (parsed (take (hyphen s) s)) (parsed (drop (hyphen s + 1) s))) (pair (parsed s) (parsed s))
 
 -- "`None` if it isn't a numbered table cell"
-unfoldable pub cellColumns : List ℕ → Option Range
+unfoldable pub cellColumns : List ℕ → Option Columns
 cellColumns name = pick (isCell name) (columnsIn (afterLetters name)) none
 
 -- what the answer says
-abbrev pub rangeOf : Columns → Range
+abbrev pub rangeOf : Columns → Columns
 rangeOf c = record { start = c .start; end = c .end }
 
-abbrev pub cellOf : Cell → Option Range
+abbrev pub cellOf : Cell → Option Columns
 cellOf (cell.At c) = some (rangeOf c)
 cellOf cell.NoColumns = none

@@ -5,9 +5,9 @@ use mathlib.Core.Path.{_≡_, refl, ap}
 use mathlib.Core.List.{List}
 use lib.ListN.{length}
 use Rattle.definition.specs.declared.OpenStart.{OpenStart}
-use Rattle.state.specs.Running.{starts}
+use Rattle.state.specs.Running.{openNodes}
 
-pub starts-length : (s t : List ℕ) (opens : List OpenStart) (k : ℕ) → length (starts s t opens k) ≡ k
-unfolding starts
+pub starts-length : (s t : List ℕ) (opens : List OpenStart) (k : ℕ) → length (openNodes s t opens k) ≡ k
+unfolding openNodes
 starts-length s t opens zero = refl
 starts-length s t opens (suc k) = ap suc (starts-length s t opens k)

@@ -26,9 +26,9 @@ latest words zero = []
 latest words (suc k) = getD words k 0 ∷ latest words k
 
 -- the open starts of the first k entries, the last of them first
-unfoldable pub starts : List ℕ → List ℕ → List OpenStart → ℕ → List Node
-starts s t opens zero = []
-starts s t opens (suc k) = nodeAt s t (getD opens k noStart .node) ∷ starts s t opens k
+unfoldable pub openNodes : List ℕ → List ℕ → List OpenStart → ℕ → List Node
+openNodes s t opens zero = []
+openNodes s t opens (suc k) = nodeAt s t (getD opens k noStart .node) ∷ openNodes s t opens k
 
 -- the definition's record
 abbrev pub stateOf : List ℕ → List ℕ → List ℕ → List OpenStart → State → state.WalkState
@@ -42,7 +42,7 @@ stateOf s t seen opens r =
       expectedChapter = r .«expected_chapter»;
       expectedVerse = positionOf (r .«expected_verse»);
       seen = latest seen (r .«seen_len»);
-      openStarts = starts s t opens (r .«open_len»);
+      openStarts = openNodes s t opens (r .«open_len»);
       verses = r .verses;
     }
 
@@ -85,11 +85,11 @@ pub record Opens (s t : List ℕ) (opens : List OpenStart) (k : ℕ) : Type 0 wh
 -- the start offsets of the numbers attached to an anchor, of the siblings passed since and those from here on
 abbrev pub startsFor : Option state.Anchor → Forest → List ℕ
 startsFor none f = []
-startsFor (some a) f = attached.starts (attachedNumbers (a .kind) (followed (a .passed) f))
+startsFor (some a) f = attached.startOffsets (attachedNumbers (a .kind) (followed (a .passed) f))
 
 -- what holds of the running record in every step: the expected verse is one that a label can lead to
-abbrev pub Sane : State → Type 0
-Sane r = r .«expected_verse» .num ≤ 4294967296
+abbrev pub VerseBounded : State → Type 0
+VerseBounded r = r .«expected_verse» .num ≤ 4294967296
 
 -- fields that a step leaves as they were
 pub record SameLists (r q : State) : Type 0 where

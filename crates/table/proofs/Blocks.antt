@@ -122,7 +122,7 @@ small (x ∷ h) e zero = omega (arith, ltb-true x 256 (and-left (ltb x 256) (all
 small (x ∷ h) e (suc k) = small h (and-right (ltb x 256) (all (λ (b : ℕ). ltb b 256) h) e) k
 
 -- what the number of a text's first eight bytes tells
-pub record Told (s : List ℕ) (r : ℕ) : Type 0 where
+pub record HeadIs (s : List ℕ) (r : ℕ) : Type 0 where
   pub begins : (h : List ℕ) → eight h ≡ true → r ≡ eightBytes h 0 → starting h s ≡ true
   pub differs : (h : List ℕ) → eight h ≡ true → (r ≡ eightBytes h 0 → ⊥) → starting h s ≡ false
   pub long : 0 < r → 8 ≤ length s
@@ -145,8 +145,8 @@ module _ (s : List ℕ) (r : ℕ) (p : Small s) (is : r ≡ headOf s) where
           let l : 8 ≤ length s = ltb-false (length s) 8 f in
           same-eight h s (small h (and-left _ (ltb 0 (eightBytes h 0)) rest)) p 0 0 (omega (arith, long)) (omega arith) ∙ rw (← long, take-length h)
 
-  pub head-tells : Told s r
-  head-tells =
+  pub head-is : HeadIs s r
+  head-is =
       record {
         begins = λ h e f. sym (tested h e) ∙ eq-eqb (eightBytes h 0) r (sym f);
         differs = λ h e f. sym (tested h e) ∙ ne-eqb (eightBytes h 0) r (λ z. f (sym z));

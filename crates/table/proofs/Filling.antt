@@ -13,7 +13,7 @@ use lib.Seq.{getD-set-same, getD-set-other}
 use borrow.Author.Tests.{ltb-true, ltb-false}
 use Rattle.table.specs.Lines.{lines, badFrom, badTable}
 use Rattle.table.specs.Entries.{Entry, entries, entriesOf, nth, pack, Sound, Indexed}
-use Rattle.table.specs.Inner.{Passed}
+use Rattle.table.specs.Inner.{LinesGood}
 use Rattle.table.proofs.Parts.{line-there, line-none}
 use Rattle.table.proofs.Unpack.{info-past}
 
@@ -45,7 +45,7 @@ starts t ix h =
     }
 
 module _ (t ix : List ℕ) (at k : ℕ) (g : Going t ix at k) where
-  module _ (l : k < 512) (w next : ℕ) (p : Passed t at w next) where
+  module _ (l : k < 512) (w next : ℕ) (p : LinesGood t at w next) where
     -- the entry that the marker gives is the next of the table
     here : nth (entries t) k ≡ some (p .entry)
     unfolding nth

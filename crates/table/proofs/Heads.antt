@@ -19,10 +19,10 @@ use Rattle.table.specs.declared.Step.the-variants as step
 use Rattle.table.specs.Bytes.{equal, all, starting}
 use Rattle.table.specs.Lines.{nameByte}
 use Rattle.table.specs.Books.{codeFrom}
-use Rattle.table.specs.Inner.{nameOf, keyed, stepBy, stepWith, behindKey}
+use Rattle.table.specs.Inner.{nameLength, keyed, stepBy, stepWith, behindKey}
 use Rattle.table.proofs.Parts.{width}
 use Rattle.table.proofs.Words.{equal-true, every}
-use Rattle.table.proofs.Blocks.{parts, eight, Told}
+use Rattle.table.proofs.Blocks.{parts, eight, HeadIs}
 use Rattle.text.proofs.Bool.{and-left, and-right}
 
 step-none : (t : Bool) (next : ℕ) → stepBy t none next ≡ step.Bad
@@ -132,11 +132,11 @@ module _ (n : ℕ) (ws : List (List ℕ)) (l : List ℕ) (r k : ℕ) where
   abbrev w : List ℕ
   w = getD ws k []
 
-  pub front-there : every plain ws ≡ true → plain w ≡ true → eight (front w) ≡ true → codeFrom 0 ws w ≡ some k → ((m : List ℕ) → starting (back w) m ≡ false → every (absent (front w ++ m)) ws ≡ true) → Told l r → r ≡ eightBytes (front w) 0 → stepBy (starting (back w) (drop 8 l)) (some k) (n + length w + 1) ≡ stepWith (codeFrom 0 ws) n l
-  front-there hs h long is alone told f = go (starting (back w) (drop 8 l)) refl
+  pub front-there : every plain ws ≡ true → plain w ≡ true → eight (front w) ≡ true → codeFrom 0 ws w ≡ some k → ((m : List ℕ) → starting (back w) m ≡ false → every (absent (front w ++ m)) ws ≡ true) → HeadIs l r → r ≡ eightBytes (front w) 0 → stepBy (starting (back w) (drop 8 l)) (some k) (n + length w + 1) ≡ stepWith (codeFrom 0 ws) n l
+  front-there hs h long is alone head-of f = go (starting (back w) (drop 8 l)) refl
     where
       there : starting (front w) l ≡ true
-      there = told .begins (front w) long f
+      there = head-of .begins (front w) long f
 
       split : front w ++ drop 8 l ≡ l
       split =
@@ -170,7 +170,7 @@ name-fills (b ∷ l) = go (eqb 10 b) (nameByte b) refl refl (name-fills l)
 
 -- the tests of a text whose first r bytes, and no more of them, are name bytes
 module _ (l : List ℕ) (r : ℕ) (is : r ≡ findByte unnamed l) where
-  name-not : eqb (getD l r 0) 10 ≡ false → step.Bad ≡ stepWith nameOf 5 l
+  name-not : eqb (getD l r 0) 10 ≡ false → step.Bad ≡ stepWith nameLength 5 l
   name-not e = go (ltb (width l) (length l)) (within 1 16 (length (take (width l) l))) (all nameByte (take (width l) l)) (name-fills l .0 ∙ rw is at e)
     where
       go : (t u v : Bool) → (t && v) ≡ false → step.Bad ≡ stepBy t (pick (u && v) (some (length (take (width l) l))) none) (5 + width l + 1)
@@ -179,14 +179,14 @@ module _ (l : List ℕ) (r : ℕ) (is : r ≡ findByte unnamed l) where
       go true true false f = refl
       go false u v f = refl
 
-  pub name-open : r ≡ length l → step.Bad ≡ stepWith nameOf 5 l
+  pub name-open : r ≡ length l → step.Bad ≡ stepWith nameLength 5 l
   name-open h = let z : length l ≤ r = omega arith in name-not (rw (List·getD-eq-default l 0 z))
 
-  pub name-other : (getD l r 0 ≡ 10 → ⊥) → step.Bad ≡ stepWith nameOf 5 l
+  pub name-other : (getD l r 0 ≡ 10 → ⊥) → step.Bad ≡ stepWith nameLength 5 l
   name-other h = name-not (ne-eqb (getD l r 0) 10 h)
 
   module _ (h : getD l r 0 ≡ 10) where
-    name-there : (t : Bool) → within 1 16 r ≡ t → stepBy true (pick t (some r) none) (r + 6) ≡ stepWith nameOf 5 l
+    name-there : (t : Bool) → within 1 16 r ≡ t → stepBy true (pick t (some r) none) (r + 6) ≡ stepWith nameLength 5 l
     name-there t e =
         let f : eqb (getD l (findByte unnamed l) 0) 10 ≡ true = rw is at (eq-eqb (getD l r 0) 10 h) in
         let g = name-fills l .0 ∙ f in
@@ -201,11 +201,11 @@ module _ (l : List ℕ) (r : ℕ) (is : r ≡ findByte unnamed l) where
         go true = refl
         go false = refl
 
-    pub name-good : 1 ≤ r → r < 17 → step.Good r (r + 6) ≡ stepWith nameOf 5 l
+    pub name-good : 1 ≤ r → r < 17 → step.Good r (r + 6) ≡ stepWith nameLength 5 l
     name-good a b = name-there true (rw (le-leb 1 r a, le-leb r 16 (omega arith)))
 
-    pub name-empty : r < 1 → step.Bad ≡ stepWith nameOf 5 l
+    pub name-empty : r < 1 → step.Bad ≡ stepWith nameLength 5 l
     name-empty a = name-there false (rw (lt-leb 1 r a))
 
-    pub name-long : 17 ≤ r → step.Bad ≡ stepWith nameOf 5 l
+    pub name-long : 17 ≤ r → step.Bad ≡ stepWith nameLength 5 l
     name-long a = name-there false (rw (lt-leb r 16 (omega arith)) (and-false (leb 1 r)))

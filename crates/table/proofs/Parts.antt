@@ -17,7 +17,7 @@ use Rattle.text.proofs.Cuts.{rest-all}
 use Rattle.table.specs.Bytes.{equal}
 use Rattle.table.specs.Lines.{Line, lines, onFirst, lineBy}
 use Rattle.table.specs.Books.{codeFrom}
-use Rattle.table.specs.Inner.{onWord, wordsOf}
+use Rattle.table.specs.Inner.{onWord, linesOf}
 use Rattle.table.proofs.Words.{code-hit, code-miss, code-none}
 use Rattle.text.specs.Pick.{pick}
 
@@ -87,8 +87,8 @@ unfoldable pub bodies : List Line → List (List ℕ)
 bodies [] = []
 bodies (l ∷ ls) = l .body ∷ bodies ls
 
-pub words-are : (at : ℕ) (l : List ℕ) → wordsOf l ≡ bodies (lines at l)
-unfolding wordsOf bodies lines
+pub words-are : (at : ℕ) (l : List ℕ) → linesOf l ≡ bodies (lines at l)
+unfolding linesOf bodies lines
 words-are at [] = refl
 words-are at (b ∷ s) = rw (words-are (suc at) s) (go (eqb b 10) (lines (suc at) s))
   where

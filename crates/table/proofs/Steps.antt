@@ -15,8 +15,9 @@ use Rattle.table.specs.declared.Step.{Step}
 use Rattle.table.specs.declared.Step.the-variants as step
 use Rattle.table.specs.declared.Marker.the-variants as marker
 use Rattle.table.specs.Lines.{lines, goodBody, badFrom, categoryKey, categories, roleKey, roles}
-use Rattle.table.specs.Entries.{Entry, entryOf, entriesOf}
-use Rattle.table.specs.Inner.{known, lineValue, stepBy, stepOf, further, pastOf, Marked}
+use Rattle.table.specs.Entries.{Entry, entryFrom, entriesOf}
+use Rattle.table.specs.Inner.{lineValue, stepBy, stepOf, further, pastOf, LinesRead}
+use Rattle.text.specs.Pick.{known}
 use Rattle.table.proofs.Parts.{width, first, line-there, line-none}
 use Rattle.table.proofs.Values.{good-known, Named, name-says, shorter, Worded, word-says}
 use Rattle.table.proofs.Words.{every}
@@ -111,21 +112,21 @@ roles-short = refl
 
 -- the answers of `marker_at`
 module _ (t : List ℕ) (at : ℕ) (h : at < length t) where
-  pub marked-first : step.Bad ≡ stepOf 0 at (drop at t) → Marked t at (marker.Bad at)
+  pub marked-first : step.Bad ≡ stepOf 0 at (drop at t) → LinesRead t at (marker.Bad at)
   marked-first e = λ m l. stopped t at 0 (3 * m) (omega arith) (λ z. h) (omega arith) e
 
   module _ (v b : ℕ) (e : step.Good v b ≡ stepOf 0 at (drop at t)) where
     pub good-first : Stepped t at 0 v b
     good-first = stepped t at 0 v b e
 
-    pub marked-second : step.Bad ≡ stepOf 1 b (drop b t) → Marked t at (marker.Bad b)
+    pub marked-second : step.Bad ≡ stepOf 1 b (drop b t) → LinesRead t at (marker.Bad b)
     marked-second f = λ m l. good-first .good (3 * m) (omega arith) (omega arith) ∙ stopped t b 1 (suc (3 * m)) (good-first .inside) (λ z. absurd (omega arith)) (omega arith) f
 
     module _ (u c : ℕ) (f : step.Good u c ≡ stepOf 1 b (drop b t)) where
       pub good-second : Stepped t b 1 u c
       good-second = stepped t b 1 u c f
 
-      pub marked-third : step.Bad ≡ stepOf 2 c (drop c t) → Marked t at (marker.Bad c)
+      pub marked-third : step.Bad ≡ stepOf 2 c (drop c t) → LinesRead t at (marker.Bad c)
       marked-third g = λ m l.
           good-first .good (3 * m) (omega arith) (omega arith) ∙ good-second .good (suc (3 * m)) (omega arith) (omega arith) ∙
           stopped t c 2 (suc (suc (3 * m))) (good-second .inside) (λ z. absurd (omega arith)) (omega arith) g
@@ -144,7 +145,7 @@ module _ (t : List ℕ) (at : ℕ) (h : at < length t) where
         role = word-says roleKey roles 8 _ r roles-short (good-third .value)
 
         abbrev entry : Entry
-        entry = entryOf (first at (drop at t)) (first b (drop b t)) (first c (drop c t))
+        entry = entryFrom (first at (drop at t)) (first b (drop b t)) (first c (drop c t))
 
         pub low : (v ≤ 16) × (u < 8) × (r < 3)
         unfolding ascii categories roles
@@ -157,7 +158,7 @@ module _ (t : List ℕ) (at : ℕ) (h : at < length t) where
         unfolding ascii
         near = omega (arith, named .long, named .high, category .long, role .long, good-first .long, good-second .long, good-third .long)
 
-        pub marked-whole : at < 65000 → Marked t at (marker.Good (at + 5 + 65536 * (v + 32 * (u + 8 * r))) next)
+        pub marked-whole : at < 65000 → LinesRead t at (marker.Good (at + 5 + 65536 * (v + 32 * (u + 8 * r))) next)
         unfolding entriesOf
         marked-whole a =
             record {

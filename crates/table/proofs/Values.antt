@@ -15,7 +15,8 @@ use Rattle.table.specs.Bytes.{all, starting, beyond}
 use Rattle.table.specs.Lines.{nameKey, nameByte, goodBody, categoryKey, categories, roleKey, roles}
 use Rattle.table.specs.Entries.{position}
 use Rattle.table.specs.Books.{codeFrom}
-use Rattle.table.specs.Inner.{known, nameOf, keyed, lineValue}
+use Rattle.table.specs.Inner.{nameLength, keyed, lineValue}
+use Rattle.text.specs.Pick.{known}
 use Rattle.table.proofs.Words.{starts-long, one-of, every, one-passes, found}
 use Rattle.text.proofs.Bool.{and-left}
 use Rattle.text.specs.Literal.{ascii}
@@ -33,7 +34,7 @@ keyed-known key value s t e = go (starting key s)
     go false = refl
 
 pub good-known : (j : ℕ) (s : List ℕ) → goodBody j s ≡ known (lineValue j s)
-good-known zero s = let b = beyond nameKey s in keyed-known nameKey nameOf s _ (known-pick (within 1 16 (length b) && all nameByte b) (length b))
+good-known zero s = let b = beyond nameKey s in keyed-known nameKey nameLength s _ (known-pick (within 1 16 (length b) && all nameByte b) (length b))
 good-known (suc zero) s = keyed-known categoryKey (codeFrom 0 categories) s _ (one-of categories (beyond categoryKey s) 0)
 good-known (suc (suc j)) s = keyed-known roleKey (codeFrom 0 roles) s _ (one-of roles (beyond roleKey s) 0)
 
@@ -47,11 +48,11 @@ pub record Named (s : List ℕ) (v : ℕ) : Type 0 where
   pub low : 1 ≤ v
   pub high : v ≤ 16
 
-pub name-says : (s : List ℕ) (v : ℕ) → keyed nameKey nameOf s ≡ some v → Named s v
+pub name-says : (s : List ℕ) (v : ℕ) → keyed nameKey nameLength s ≡ some v → Named s v
 unfolding ascii
 name-says s v e =
     let b = beyond nameKey s in
-    let k = pick-says (starting nameKey s) (nameOf b) v e in
+    let k = pick-says (starting nameKey s) (nameLength b) v e in
     let g = pick-says (within 1 16 (length b) && all nameByte b) (some (length b)) v (k .1) in
     let size = and-left (within 1 16 (length b)) (all nameByte b) (g .0) in
     let f = g .1 in

@@ -17,7 +17,8 @@ use Rattle.table.specs.Bytes.{equal, oneOf, starting, beyond}
 use Rattle.table.specs.Entries.{position}
 use Rattle.table.specs.Names.{noteOnly}
 use Rattle.table.specs.Books.{codeFrom}
-use Rattle.table.specs.Inner.{triples, known}
+use Rattle.table.specs.Inner.{triples}
+use Rattle.text.specs.Pick.{known}
 use Rattle.text.proofs.Bool.{and-left, and-right}
 use Rattle.text.specs.Literal.{ascii}
 

@@ -17,8 +17,8 @@ use Rattle.text.specs.Literal.{ascii}
 -- 3MA 4MA 1ES 2ES MAN PS2 ODA PSS EZA 5EZ 6EZ DAG PS3
 -- 2BA LBA JUB ENO 1MQ 2MQ 3MQ REP 4BA LAO FRT BAK OTH
 -- INT CNC GLO TDX NDX XXA XXB XXC XXD XXE XXF XXG
-unfoldable pub codes : List (List ℕ)
-codes =
+unfoldable pub bookCodes : List (List ℕ)
+bookCodes =
     ascii "GEN"
     ∷ ascii "EXO"
     ∷ ascii "LEV"
@@ -143,7 +143,7 @@ codeFrom k [] s = none
 codeFrom k (c ∷ cs) s = pick (equal c s) (some k) (codeFrom (suc k) cs s)
 
 unfoldable pub bookOf : List ℕ → Option ℕ
-bookOf s = codeFrom 0 codes s
+bookOf s = codeFrom 0 bookCodes s
 
 abbrev pub idOf : Book → Option ℕ
 idOf (book.Known b) = some (b .0)

@@ -29,8 +29,8 @@ pub record Entry : Type 0 where
   pub category : ℕ
   pub role : ℕ
 
-abbrev pub entryOf : Line → Line → Line → Entry
-entryOf a b c =
+abbrev pub entryFrom : Line → Line → Line → Entry
+entryFrom a b c =
     record {
       name = record { start = a .at + 5; len = length (a .body) - 5 };
       category = position categories (beyond categoryKey (b .body));
@@ -41,7 +41,7 @@ unfoldable pub entriesOf : List Line → List Entry
 entriesOf [] = []
 entriesOf (a ∷ []) = []
 entriesOf (a ∷ b ∷ []) = []
-entriesOf (a ∷ b ∷ c ∷ ls) = entryOf a b c ∷ entriesOf ls
+entriesOf (a ∷ b ∷ c ∷ ls) = entryFrom a b c ∷ entriesOf ls
 
 unfoldable pub entries : List ℕ → List Entry
 entries t = entriesOf (lines 0 t)
@@ -133,9 +133,9 @@ pub record Indexed (t ix : List ℕ) (n : ℕ) : Type 0 where
   pub sound : (k : ℕ) (e : Entry) → nth (entries t) k ≡ some e → Sound t e
 
 -- what the check of the layout says: number 1's place, or none
-abbrev pub placeOf : Layout → Option ℕ
-placeOf (layout.Good n) = none
-placeOf (layout.Bad at) = some at
+abbrev pub layoutPlace : Layout → Option ℕ
+layoutPlace (layout.Good n) = none
+layoutPlace (layout.Bad at) = some at
 
 -- what it leaves in the index where there is none
 abbrev pub leaves : List ℕ → List ℕ → Layout → Type 0

@@ -24,7 +24,7 @@ use Rattle.table.specs.declared.Category.{Category}
 use Rattle.table.specs.declared.Category.the-variants.{Identification, Chapter, Verse, Paragraph, Character, Note, Milestone, Other}
 use Rattle.table.specs.declared.TextRole.{TextRole}
 use Rattle.table.specs.declared.TextRole.the-variants.{Content, Excluded, Boundary}
-use Rattle.table.specs.Names.{strippedLength, glued, named}
+use Rattle.table.specs.Names.{strippedLength, gluedDigit, entryNamed}
 use Rattle.table.specs.Books.{codeFrom}
 
 -- the words of a list in which byte 10 ends each
@@ -33,9 +33,9 @@ onWord true b ws = [] ∷ ws
 onWord false b [] = (b ∷ []) ∷ []
 onWord false b (w ∷ ws) = (b ∷ w) ∷ ws
 
-unfoldable pub wordsOf : List ℕ → List (List ℕ)
-wordsOf [] = []
-wordsOf (b ∷ s) = onWord (eqb b 10) b (wordsOf s)
+unfoldable pub linesOf : List ℕ → List (List ℕ)
+linesOf [] = []
+linesOf (b ∷ s) = onWord (eqb b 10) b (linesOf s)
 
 -- the codes of a list in which each has three bytes
 unfoldable pub triples : List ℕ → List (List ℕ)
@@ -45,21 +45,17 @@ triples (a ∷ b ∷ []) = []
 triples (a ∷ b ∷ c ∷ l) = (a ∷ b ∷ c ∷ []) ∷ triples l
 
 -- what a good line says behind its key: the name's length, or the position of the word among the words
-abbrev pub nameOf : List ℕ → Option ℕ
-nameOf s = pick (within 1 16 (length s) && all nameByte s) (some (length s)) none
+abbrev pub nameLength : List ℕ → Option ℕ
+nameLength s = pick (within 1 16 (length s) && all nameByte s) (some (length s)) none
 
 -- what a line says that begins with a key
 abbrev pub keyed : List ℕ → (List ℕ → Option ℕ) → List ℕ → Option ℕ
 keyed key value s = pick (starting key s) (value (beyond key s)) none
 
 abbrev pub lineValue : ℕ → List ℕ → Option ℕ
-lineValue zero s = keyed nameKey nameOf s
+lineValue zero s = keyed nameKey nameLength s
 lineValue (suc zero) s = keyed categoryKey (codeFrom 0 categories) s
 lineValue (suc (suc j)) s = keyed roleKey (codeFrom 0 roles) s
-
-abbrev pub known : Option ℕ → Bool
-known (some n) = true
-known none = false
 
 abbrev pub valueOf : Value → Option ℕ
 valueOf (value.Known n) = some n
@@ -100,7 +96,7 @@ abbrev pub behindKey : List ℕ → List ℕ → List ℕ
 behindKey key l = behindBy (starting key l) (beyond key l)
 
 -- the three lines of marker number m at a place: they are good, and what follows them gives what is left
-pub record Passed (t : List ℕ) (at : ℕ) (w next : ℕ) : Type 0 where
+pub record LinesGood (t : List ℕ) (at : ℕ) (w next : ℕ) : Type 0 where
   pub entry : Entry
   pub word : w ≡ pack entry
   pub sound : Sound t entry
@@ -110,9 +106,9 @@ pub record Passed (t : List ℕ) (at : ℕ) (w next : ℕ) : Type 0 where
   pub good : (m : ℕ) → m < 512 → badFrom (length t) (3 * m) (lines at (drop at t)) ≡ badFrom (length t) (3 * (m + 1)) (lines next (drop next t))
   pub first : entriesOf (lines at (drop at t)) ≡ entry ∷ entriesOf (lines next (drop next t))
 
-abbrev pub Marked : List ℕ → ℕ → Marker → Type 0
-Marked t at (marker.Good w next) = Passed t at w next
-Marked t at (marker.Bad p) = (m : ℕ) → m < 512 → badFrom (length t) (3 * m) (lines at (drop at t)) ≡ some p
+abbrev pub LinesRead : List ℕ → ℕ → Marker → Type 0
+LinesRead t at (marker.Good w next) = LinesGood t at w next
+LinesRead t at (marker.Bad p) = (m : ℕ) → m < 512 → badFrom (length t) (3 * m) (lines at (drop at t)) ≡ some p
 
 -- the attribute of w, wa, wg, wh, rb, xt, ref, jmp, periph, by the name's position
 abbrev pub attributeAt : ℕ → DefaultAttribute
@@ -148,7 +144,7 @@ roleAt (suc (suc k)) = Boundary
 
 -- the second and the third way to look a name up
 abbrev pub stripped : List ℕ → List ℕ → Option ℕ
-stripped t s = pick (ltb (strippedLength s) (length s)) (named t (take (strippedLength s) s)) none
+stripped t s = pick (ltb (strippedLength s) (length s)) (entryNamed t (take (strippedLength s) s)) none
 
 abbrev pub unglued : List ℕ → List ℕ → Option ℕ
-unglued t s = pick (glued s) (named t (take 1 s)) none
+unglued t s = pick (gluedDigit s) (entryNamed t (take 1 s)) none

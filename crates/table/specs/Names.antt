@@ -21,8 +21,8 @@ unfoldable pub namedFrom : List ℕ → ℕ → List Entry → List ℕ → Opti
 namedFrom t k [] s = none
 namedFrom t k (e ∷ es) s = pick (equal (cut (e .name) t) s) (some k) (namedFrom t (suc k) es s)
 
-abbrev pub named : List ℕ → List ℕ → Option ℕ
-named t s = namedFrom t 0 (entries t) s
+abbrev pub entryNamed : List ℕ → List ℕ → Option ℕ
+entryNamed t s = namedFrom t 0 (entries t) s
 
 -- of a byte, and how many bytes are left of what follows it when the digits at its end are taken off
 abbrev pub keepBefore : Bool → ℕ → ℕ
@@ -46,19 +46,19 @@ strippedBy base end whole = pick (ltb 0 base && ltb base end) base whole
 unfoldable pub strippedLength : List ℕ → ℕ
 strippedLength s = strippedBy (undigited (take (tailOff s) s)) (tailOff s) (length s)
 
-abbrev pub orElse : Option ℕ → Option ℕ → Option ℕ
-orElse (some n) other = some n
-orElse none other = other
+abbrev pub firstKnown : Option ℕ → Option ℕ → Option ℕ
+firstKnown (some n) other = some n
+firstKnown none other = other
 
 -- `v` or `c`, and a digit after it
-abbrev pub glued : List ℕ → Bool
-glued s = ltb 1 (length s) && ((eqb (getD s 0 0) 118 || eqb (getD s 0 0) 99) && digit (getD s 1 0))
+abbrev pub gluedDigit : List ℕ → Bool
+gluedDigit s = ltb 1 (length s) && ((eqb (getD s 0 0) 118 || eqb (getD s 0 0) 99) && digit (getD s 1 0))
 
 unfoldable pub lookedUp : List ℕ → List ℕ → Option ℕ
 lookedUp t s =
-    orElse (named t s)
-    (orElse (pick (ltb (strippedLength s) (length s)) (named t (take (strippedLength s) s)) none)
-    (pick (glued s) (named t (take 1 s)) none))
+    firstKnown (entryNamed t s)
+    (firstKnown (pick (ltb (strippedLength s) (length s)) (entryNamed t (take (strippedLength s) s)) none)
+    (pick (gluedDigit s) (entryNamed t (take 1 s)) none))
 
 abbrev pub foundOf : Lookup → Option ℕ
 foundOf (lookup.Found m) = some (m .0)

@@ -8,10 +8,12 @@ ghost use Rattle.text.specs.Pick.{within, cut};
 ghost use Rattle.text.specs.Characters.{findByte};
 ghost use Rattle.table.specs.Bytes.{equal, oneOf, starting};
 ghost use Rattle.table.specs.Lines.{nameByte, categories, roles, badTable};
-ghost use Rattle.table.specs.Entries.{entries, nth, infoOf, entryOfInfo, Indexed, placeOf, leaves, categoryOf, roleOf};
-ghost use Rattle.table.specs.Names.{undigited, strippedLength, tailOff, named, lookedUp, foundOf, defaultOf, frontMatter, noteOnly, glued};
+ghost use Rattle.table.specs.Entries;
+ghost use Rattle.table.specs.Entries.{nth, infoOf, entryOfInfo, Indexed, layoutPlace, leaves, categoryOf, roleOf};
+ghost use Rattle.table.specs.Names.{undigited, strippedLength, tailOff, entryNamed, lookedUp, foundOf, defaultOf, frontMatter, noteOnly, gluedDigit};
 ghost use Rattle.table.specs.Books.{codeFrom, bookOf, idOf};
-ghost use Rattle.table.specs.Inner.{wordsOf, triples, known, nameOf, valueOf, stepBy, stepWith, behindKey, stepOf, headOf, further, pastOf, Marked, attributeAt, categoryAt, roleAt, stripped, unglued};
+ghost use Rattle.table.specs.Inner.{linesOf, triples, nameLength, valueOf, stepBy, stepWith, behindKey, stepOf, headOf, further, pastOf, LinesRead, attributeAt, categoryAt, roleAt, stripped, unglued};
+ghost use Rattle.text.specs.Pick.{known};
 
 // A place in the marker table.
 pub struct MarkerId(pub u16);
@@ -265,7 +267,7 @@ fn code_in(codes: &[u8], s: &[u8]) -> Value
 
 // The position in a list of words, each ended by byte 10.
 fn word_in(words: &[u8], s: &[u8]) -> Value
-    ensures { λ r. ⌜ valueOf r ≡ codeFrom 0 (wordsOf (now (words .entry))) (now (s .entry)) ⌝ }
+    ensures { λ r. ⌜ valueOf r ≡ codeFrom 0 (linesOf (now (words .entry))) (now (s .entry)) ⌝ }
 {
     let mut at: usize = 0;
     let mut k: usize = 0;
@@ -441,7 +443,7 @@ fn tail_step(s: &[u8], tail: &[u8], value: usize, next: usize) -> Step
 
 // What a name's line says, from behind its key on. No name byte is byte 10, so that its end is found on the way.
 fn name_step(s: &[u8]) -> Step
-    ensures { λ r. ⌜ r ≡ stepWith nameOf 5 (now (s .entry)) ⌝ }
+    ensures { λ r. ⌜ r ≡ stepWith nameLength 5 (now (s .entry)) ⌝ }
 {
     let n = name_len(s);
     if n == s.len() {
@@ -556,7 +558,7 @@ fn role_line(table: &[u8], at: usize) -> Step
 // The place is low enough that the start of the name takes 16 bits of the word.
 fn marker_at(table: &[u8], at: usize) -> Marker
     requires { ⌜ (at < length (now table)) × (at < 65000) ⌝ }
-    ensures { λ r. ⌜ Marked (now (table .entry)) at r ⌝ }
+    ensures { λ r. ⌜ LinesRead (now (table .entry)) at r ⌝ }
 {
     let Step::Good(len, second) = name_line(table, at) else {
         return Marker::Bad(at);
@@ -575,10 +577,10 @@ fn marker_at(table: &[u8], at: usize) -> Marker
 }
 
 // Checks the layout of a table and writes its entries to the index, a word each.
-pub fn index(table: &[u8], words: &mut [u64]) -> Layout
-    requires { ⌜ 512 ≤ length (now words) ⌝ }
-    ensures place { λ r. ⌜ placeOf r ≡ badTable (now (table .entry)) ⌝ }
-    ensures entries { λ r. ⌜ leaves (now (table .entry)) (now (words .exit)) r ⌝ }
+pub fn index(table: &[u8], index: &mut [u64]) -> Layout
+    requires { ⌜ 512 ≤ length (now index) ⌝ }
+    ensures place { λ r. ⌜ layoutPlace r ≡ badTable (now (table .entry)) ⌝ }
+    ensures entries { λ r. ⌜ leaves (now (table .entry)) (now (index .exit)) r ⌝ }
 {
     let mut at: usize = 0;
     let mut k: usize = 0;
@@ -588,7 +590,7 @@ pub fn index(table: &[u8], words: &mut [u64]) -> Layout
         }
         match marker_at(table, at) {
             Marker::Good(word, next) => {
-                words[k] = word;
+                index[k] = word;
                 k += 1;
                 at = next;
             }
@@ -658,13 +660,13 @@ pub fn name<'a>(table: &'a [u8], m: MarkerInfo) -> &'a [u8]
     &table[start..end]
 }
 
-fn find_name(table: &[u8], words: &[u64], count: usize, name: &[u8]) -> Lookup
-    requires { ⌜ Indexed (now table) (now words) count ⌝ }
-    ensures { λ r. ⌜ foundOf r ≡ named (now (table .entry)) (now (name .entry)) ⌝ }
+fn find_name(table: &[u8], index: &[u64], entries: usize, name: &[u8]) -> Lookup
+    requires { ⌜ Indexed (now table) (now index) entries ⌝ }
+    ensures { λ r. ⌜ foundOf r ≡ entryNamed (now (table .entry)) (now (name .entry)) ⌝ }
 {
     let mut k: usize = 0;
-    while k < count {
-        let w = words[k];
+    while k < entries {
+        let w = index[k];
         let start = (w % 65536) as usize;
         let end = start + (w / 65536 % 32) as usize;
         if same(&table[start..end], name) {
@@ -675,20 +677,20 @@ fn find_name(table: &[u8], words: &[u64], count: usize, name: &[u8]) -> Lookup
     Lookup::Unknown
 }
 
-fn find_stripped(table: &[u8], words: &[u64], count: usize, name: &[u8]) -> Lookup
-    requires { ⌜ Indexed (now table) (now words) count ⌝ }
+fn find_stripped(table: &[u8], index: &[u64], entries: usize, name: &[u8]) -> Lookup
+    requires { ⌜ Indexed (now table) (now index) entries ⌝ }
     ensures { λ r. ⌜ foundOf r ≡ stripped (now (table .entry)) (now (name .entry)) ⌝ }
 {
     let base = strip_level_suffix(name);
     if base.len() < name.len() {
-        find_name(table, words, count, base)
+        find_name(table, index, entries, base)
     } else {
         Lookup::Unknown
     }
 }
 
 fn is_glued(s: &[u8]) -> bool
-    ensures { λ r. ⌜ r ≡ glued (now (s .entry)) ⌝ }
+    ensures { λ r. ⌜ r ≡ gluedDigit (now (s .entry)) ⌝ }
 {
     if s.len() < 2 {
         return false;
@@ -704,12 +706,12 @@ fn is_glued(s: &[u8]) -> bool
     }
 }
 
-fn find_glued(table: &[u8], words: &[u64], count: usize, name: &[u8]) -> Lookup
-    requires { ⌜ Indexed (now table) (now words) count ⌝ }
+fn find_glued(table: &[u8], index: &[u64], entries: usize, name: &[u8]) -> Lookup
+    requires { ⌜ Indexed (now table) (now index) entries ⌝ }
     ensures { λ r. ⌜ foundOf r ≡ unglued (now (table .entry)) (now (name .entry)) ⌝ }
 {
     if is_glued(name) {
-        find_name(table, words, count, &name[..1])
+        find_name(table, index, entries, &name[..1])
     } else {
         Lookup::Unknown
     }
@@ -718,15 +720,15 @@ fn find_glued(table: &[u8], words: &[u64], count: usize, name: &[u8]) -> Lookup
 // Functions of a type, since the names of free functions may not be those of the enums in lower case.
 impl MarkerId {
     // What a marker number stands for.
-    pub fn info(table: &[u8], words: &[u64], count: usize, id: MarkerId) -> Info
-        requires { ⌜ Indexed (now table) (now words) count ⌝ }
-        ensures { λ r. ⌜ infoOf r ≡ nth (entries (now (table .entry))) (id .0) ⌝ }
+    pub fn info(table: &[u8], index: &[u64], entries: usize, id: MarkerId) -> Info
+        requires { ⌜ Indexed (now table) (now index) entries ⌝ }
+        ensures { λ r. ⌜ infoOf r ≡ nth (Entries.entries (now (table .entry))) (id .0) ⌝ }
     {
         let k = id.0 as usize;
-        if count <= k {
+        if entries <= k {
             return Info::Missing;
         }
-        let w = words[k];
+        let w = index[k];
         let category = category_of(w / 2097152 % 8);
         let text_role = role_of(w / 16777216);
         Info::Known(MarkerInfo {
@@ -738,15 +740,15 @@ impl MarkerId {
     }
 
     // The number of the marker that a name stands for.
-    pub fn lookup(table: &[u8], words: &[u64], count: usize, name: &[u8]) -> Lookup
-        requires { ⌜ Indexed (now table) (now words) count ⌝ }
+    pub fn lookup(table: &[u8], index: &[u64], entries: usize, name: &[u8]) -> Lookup
+        requires { ⌜ Indexed (now table) (now index) entries ⌝ }
         ensures { λ r. ⌜ foundOf r ≡ lookedUp (now (table .entry)) (now (name .entry)) ⌝ }
     {
-        match find_name(table, words, count, name) {
+        match find_name(table, index, entries, name) {
             Lookup::Found(id) => Lookup::Found(id),
-            Lookup::Unknown => match find_stripped(table, words, count, name) {
+            Lookup::Unknown => match find_stripped(table, index, entries, name) {
                 Lookup::Found(id) => Lookup::Found(id),
-                Lookup::Unknown => find_glued(table, words, count, name),
+                Lookup::Unknown => find_glued(table, index, entries, name),
             },
         }
     }

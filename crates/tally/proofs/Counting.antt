@@ -15,21 +15,22 @@ use borrow.Author.Tests.{eq-eqb, ne-eqb}
 use Rattle.buffer.specs.Over.{over}
 use Rattle.buffer.proofs.Over.{length-over, over-again, set-over, getD-over}
 use Rattle.buffer.proofs.Writing.{Writing, writing-first}
-use Rattle.findings.specs.Codes.{codes}
-use Rattle.tally.specs.Tally.{codeAt, whole, withCode, countsFrom, tallyOf}
+use Rattle.findings.specs.Codes.{codeCount}
+use Rattle.tally.specs.Tally.{codeAt, withCode, countsFrom, tallyOf}
+use Rattle.findings.specs.Written.{wholeRecords}
 use Rattle.text.specs.Pick.{pick}
-use Rattle.findings.specs.Codes.{codes}
+use Rattle.findings.specs.Codes.{codeCount}
 
 -- one count more cleared
-pub clear-on : (l₀ l : List ℕ) (c : ℕ) → Writing (replicate codes 0) l₀ 0 l c → c < codes → c < length l → Writing (replicate codes 0) l₀ 0 (set l c 0) (c + 1)
-clear-on l₀ l c y h k = rw (getD-replicate {A = ℕ} codes c 0 0 h) at (writing-first (replicate codes 0) l₀ l c y (rw length-replicate h) k)
+pub clear-on : (l₀ l : List ℕ) (c : ℕ) → Writing (replicate codeCount 0) l₀ 0 l c → c < codeCount → c < length l → Writing (replicate codeCount 0) l₀ 0 (set l c 0) (c + 1)
+clear-on l₀ l c y h k = rw (getD-replicate {A = ℕ} codeCount c 0 0 h) at (writing-first (replicate codeCount 0) l₀ l c y (rw length-replicate h) k)
 
 length-counts : (l : List ℕ) (c n : ℕ) → length (countsFrom l c n) ≡ n
 unfolding countsFrom
 length-counts l c zero = refl
 length-counts l c (suc n) = ap suc (length-counts l (suc c) n)
 
-getD-counts : (l : List ℕ) (c n d : ℕ) → d < n → getD (countsFrom l c n) d 0 ≡ withCode l (c + d) (whole l)
+getD-counts : (l : List ℕ) (c n d : ℕ) → d < n → getD (countsFrom l c n) d 0 ≡ withCode l (c + d) (wholeRecords l)
 unfolding countsFrom
 getD-counts l c zero d h = absurd (omega arith)
 getD-counts l c (suc n) zero h = rw add-zero
@@ -55,21 +56,21 @@ one-more l yet k c b e h g = rw (add-one k) (choose (ℕ-discrete c (codeAt l k)
 
 -- the counts of the first k records are written over the list
 pub record Counting (l out₀ out : List ℕ) (k : ℕ) : Type 0 where
-  pub few : k ≤ whole l
+  pub few : k ≤ wholeRecords l
   pub yet : List ℕ
   pub written : out ≡ over out₀ 0 yet
-  pub size : length yet ≡ codes
-  pub each : (c : ℕ) → c < codes → getD yet c 0 ≡ withCode l c k
+  pub size : length yet ≡ codeCount
+  pub each : (c : ℕ) → c < codeCount → getD yet c 0 ≡ withCode l c k
 
-pub counting-start : (l out out₀ : List ℕ) → out₀ ≡ over out 0 (replicate codes 0) → Counting l out₀ out₀ 0
+pub counting-start : (l out out₀ : List ℕ) → out₀ ≡ over out 0 (replicate codeCount 0) → Counting l out₀ out₀ 0
 unfolding withCode
 counting-start l out out₀ e =
     record {
       few = omega arith;
-      yet = replicate codes 0;
-      written = rw e (sym (over-again out (replicate codes 0) (replicate codes 0) (omega arith)));
+      yet = replicate codeCount 0;
+      written = rw e (sym (over-again out (replicate codeCount 0) (replicate codeCount 0) (omega arith)));
       size = refl;
-      each = λ c h. getD-replicate {A = ℕ} codes c 0 0 h;
+      each = λ c h. getD-replicate {A = ℕ} codeCount c 0 0 h;
     }
 
 module _ (l out₀ out : List ℕ) (k : ℕ) (y : Counting l out₀ out k) where
@@ -77,16 +78,16 @@ module _ (l out₀ out : List ℕ) (k : ℕ) (y : Counting l out₀ out k) where
   counting-same = rw (y .written) (length-over out₀ 0 (y .yet))
 
   -- all records are counted, in a list that was cleared
-  pub counting-end : (before : List ℕ) → out₀ ≡ over before 0 (replicate codes 0) → whole l ≤ k → out ≡ over before 0 (tallyOf l)
+  pub counting-end : (before : List ℕ) → out₀ ≡ over before 0 (replicate codeCount 0) → wholeRecords l ≤ k → out ≡ over before 0 (tallyOf l)
   counting-end before e h =
       let f = y .few in
       let s = y .size in
-      let q : k ≡ whole l = omega arith in
-      let one : (c : ℕ) → c < length (y .yet) → getD (y .yet) c 0 ≡ getD (tallyOf l) c 0 = λ c b. y .each c (omega arith) ∙ rw (q, getD-counts l 0 codes c (omega arith), zero-add) in
-      let n = length-counts l 0 codes in
-      y .written ∙ rw (e, ext-getD 0 (y .yet) (tallyOf l) (s ∙ sym n) one) (over-again before (replicate codes 0) (tallyOf l) (omega arith))
+      let q : k ≡ wholeRecords l = omega arith in
+      let one : (c : ℕ) → c < length (y .yet) → getD (y .yet) c 0 ≡ getD (tallyOf l) c 0 = λ c b. y .each c (omega arith) ∙ rw (q, getD-counts l 0 codeCount c (omega arith), zero-add) in
+      let n = length-counts l 0 codeCount in
+      y .written ∙ rw (e, ext-getD 0 (y .yet) (tallyOf l) (s ∙ sym n) one) (over-again before (replicate codeCount 0) (tallyOf l) (omega arith))
 
-  module _ (below : k < whole l) (known : codeAt l k < codes) where
+  module _ (below : k < wholeRecords l) (known : codeAt l k < codeCount) where
     counting-value : codeAt l k < length out → getD out (codeAt l k) 0 ≡ withCode l (codeAt l k) k
     counting-value h =
         let s = y .size in

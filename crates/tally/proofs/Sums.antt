@@ -9,10 +9,11 @@ use mathlib.Core.List.{List}
 use mathlib.Core.Option.{none}
 use lib.Dec.{eqb, ltb}
 use borrow.Author.Tests.{eq-eqb, ne-eqb, lt-ltb, le-ltb}
-use Rattle.tally.specs.Tally.{codeAt, whole, tallyRefusal, withCode, countsFrom, tallyOf, sum}
+use Rattle.tally.specs.Tally.{codeAt, tallyRefusal, withCode, countsFrom, tallyOf, sum}
+use Rattle.findings.specs.Written.{wholeRecords}
 use Rattle.tally.proofs.Records.{known}
 use Rattle.text.specs.Pick.{pick}
-use Rattle.findings.specs.Codes.{codes}
+use Rattle.findings.specs.Codes.{codeCount}
 
 -- how many of the first k records have a code below c
 unfoldable below : List ℕ → ℕ → ℕ → ℕ
@@ -32,12 +33,12 @@ unfolding withCode below
 one-code l c zero = refl
 one-code l c (suc k) = omega (arith, one-code l c k, at-or-below (codeAt l k) c)
 
-sum-below : (l : List ℕ) (c n : ℕ) → sum (countsFrom l c n) + below l c (whole l) ≡ below l (c + n) (whole l)
+sum-below : (l : List ℕ) (c n : ℕ) → sum (countsFrom l c n) + below l c (wholeRecords l) ≡ below l (c + n) (wholeRecords l)
 unfolding countsFrom sum
 sum-below l c zero = rw (add-zero, zero-add)
 sum-below l c (suc n) =
     let e : c + suc n ≡ suc c + n = omega arith in
-    rw e (omega (arith, sum-below l (suc c) n, one-code l c (whole l)))
+    rw e (omega (arith, sum-below l (suc c) n, one-code l c (wholeRecords l)))
 
 none-below : (l : List ℕ) (k : ℕ) → below l 0 k ≡ 0
 unfolding below
@@ -49,5 +50,5 @@ unfolding below
 all-below l c zero h = refl
 all-below l c (suc k) h = rw (lt-ltb (codeAt l k) c (h k (omega arith))) (omega (arith, all-below l c k (λ i b. h i (omega arith))))
 
-pub tally-sums : (l : List ℕ) → tallyRefusal l ≡ none → sum (tallyOf l) ≡ whole l
-tally-sums l e = omega (arith, sum-below l 0 codes, none-below l (whole l), all-below l codes (whole l) (known l e))
+pub tally-sums : (l : List ℕ) → tallyRefusal l ≡ none → sum (tallyOf l) ≡ wholeRecords l
+tally-sums l e = omega (arith, sum-below l 0 codeCount, none-below l (wholeRecords l), all-below l codeCount (wholeRecords l) (known l e))

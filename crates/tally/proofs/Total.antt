@@ -16,15 +16,16 @@ use Rattle.findings.proofs.Overlay.{overlay-is, encode-length}
 use Rattle.tape.specs.Forest.{top}
 use Rattle.definition.proofs.Counted.{Graded, graded}
 use Rattle.definition.specs.Outcome.{Lent, refusal, listOf, listAfter}
-use Rattle.tally.specs.Tally.{whole, badRecord, tallyRefusal, tallyOf, sum}
+use Rattle.tally.specs.Tally.{badRecord, tallyRefusal, tallyOf, sum}
+use Rattle.findings.specs.Written.{wholeRecords}
 use Rattle.tally.proofs.Sums.{tally-sums}
 use Rattle.refusals.specs.Refusal.{badTallyList}
-use Rattle.findings.specs.Codes.{codes}
+use Rattle.findings.specs.Codes.{codeCount}
 
 good : (fs : List Finding) → Graded fs → (i : ℕ) → i < length fs → badRecord (encode fs) i ≡ false
 unfolding encode
 good [] h i b = absurd (omega arith)
-good (f ∷ fs) h zero b = rw (le-ltb 2 (f .severity) (h .0 .0), lt-ltb (f .code) codes (h .0 .1))
+good (f ∷ fs) h zero b = rw (le-ltb 2 (f .severity) (h .0 .0), lt-ltb (f .code) codeCount (h .0 .1))
 good (f ∷ fs) h (suc i) b =
     let s : 8 * suc i ≡ 8 + 8 * i = omega arith in
     let c : 8 * suc i + 1 ≡ 8 + (8 * i + 1) = omega arith in
@@ -34,7 +35,7 @@ pub encode-passes : (fs : List Finding) → Graded fs → tallyRefusal (encode f
 unfolding tallyRefusal
 encode-passes fs h =
     let n = encode-length fs in
-    rw (all-none badTallyList (badRecord (encode fs)) (whole (encode fs)) 0 (λ i g b. good fs h i (omega arith)), eq-eqb (length (encode fs) % 8) 0 (omega arith))
+    rw (all-none badTallyList (badRecord (encode fs)) (wholeRecords (encode fs)) 0 (λ i g b. good fs h i (omega arith)), eq-eqb (length (encode fs) % 8) 0 (omega arith))
 
 pub encode-sums : (fs : List Finding) → Graded fs → sum (tallyOf (encode fs)) ≡ length fs
 encode-sums fs h = tally-sums (encode fs) (encode-passes fs h) ∙ omega (arith, encode-length fs)

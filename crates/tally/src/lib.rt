@@ -4,8 +4,9 @@ ghost use mathlib.Core.Option.{none};
 ghost use Prim.Native.Nat.{_<_};
 ghost use lib.ListN.{replicate};
 ghost use Rattle.buffer.specs.Over.{over};
-ghost use Rattle.tally.specs.Tally.{whole, badRecord, tallyRefusal, tallyOf, countsAfter, answerOf};
-ghost use Rattle.findings.specs.Codes.{codes};
+ghost use Rattle.tally.specs.Tally.{badRecord, tallyRefusal, tallyOf, countsAfter, tallyAnswerOf};
+ghost use Rattle.findings.specs.Written.{wholeRecords};
+ghost use Rattle.findings.specs.Codes.{codeCount};
 
 // The counts are written, or the list is turned back: the number and the place.
 pub enum Tallied {
@@ -14,7 +15,7 @@ pub enum Tallied {
 }
 
 fn bad_record(list: &[u64], k: usize) -> bool
-    requires { ⌜ k < whole (now list) ⌝ }
+    requires { ⌜ k < wholeRecords (now list) ⌝ }
     ensures { λ r. ⌜ r ≡ badRecord (now (list .entry)) k ⌝ }
 {
     if 2 < list[8 * k] {
@@ -25,7 +26,7 @@ fn bad_record(list: &[u64], k: usize) -> bool
 
 // Number 11.
 fn list_check(list: &[u64]) -> Tallied
-    ensures { λ r. ⌜ answerOf r ≡ tallyRefusal (now (list .entry)) ⌝ }
+    ensures { λ r. ⌜ tallyAnswerOf r ≡ tallyRefusal (now (list .entry)) ⌝ }
 {
     let n = list.len() / 8;
     let mut k: usize = 0;
@@ -42,7 +43,7 @@ fn list_check(list: &[u64]) -> Tallied
 }
 
 fn clear(counts: &mut [u64])
-    ensures { λ r. ⌜ now (counts .exit) ≡ over (now (counts .entry)) 0 (replicate codes 0) ⌝ }
+    ensures { λ r. ⌜ now (counts .exit) ≡ over (now (counts .entry)) 0 (replicate codeCount 0) ⌝ }
 {
     let mut c: usize = 0;
     while c < findings::CODES as usize && c < counts.len() {
@@ -71,7 +72,7 @@ fn count(list: &[u64], counts: &mut [u64])
 // Writes the counts by code of a list of findings over the lent list, as far as it has room. A list that is turned back leaves it as
 // it was.
 pub fn tally(list: &[u64], counts: &mut [u64]) -> Tallied
-    ensures answer { λ r. ⌜ answerOf r ≡ tallyRefusal (now (list .entry)) ⌝ }
+    ensures answer { λ r. ⌜ tallyAnswerOf r ≡ tallyRefusal (now (list .entry)) ⌝ }
     ensures counts { λ r. ⌜ now (counts .exit) ≡ countsAfter (now (list .entry)) (now (counts .entry)) ⌝ }
 {
     match list_check(list) {

@@ -12,7 +12,7 @@ use borrow.Author.Tests.{eq-eqb, ne-eqb, not-true, not-false}
 use Rattle.tape.specs.Nodes.{kindAt, linkAt, isOpen, isClose, markerOpenKind}
 use Rattle.refusals.specs.Refusal.{Refusal, refuse, onlyIf, orElse, badNodeSpan, brokenLinks}
 use Rattle.tape.specs.Reading.{opensTo}
-use Rattle.tape.specs.Inner.{met, metSpan, Known, rootBy, leftOpen, lastly}
+use Rattle.tape.specs.Inner.{refusedOrRest, metSpan, Known, rootBy, leftOpen, lastly}
 use Rattle.tape.specs.declared.Reading.{Reading}
 
 -- an open that has the root's link
@@ -32,7 +32,7 @@ module _ (link n : ℕ) (closes taken : Bool) where
   pub root-last : (x : Bool) → (link ≡ n → ⊥) → link ≡ n - 1 → 1 ≤ n → x ≡ closes → (x && not taken) ≡ rootBy link n closes taken
   root-last x e f h c = rw (ne-eqb link n e, eq-eqb (link + 1) n (omega arith), c)
 
-met-none : (number place : ℕ) (rest : Option Refusal) → Known number → (number ≡ 8 → ⊥) → (number ≡ 7 → ⊥) → met number place rest ≡ rest
+met-none : (number place : ℕ) (rest : Option Refusal) → Known number → (number ≡ 8 → ⊥) → (number ≡ 7 → ⊥) → refusedOrRest number place rest ≡ rest
 met-none zero place rest k a b = refl
 met-none (suc m) place rest (inl e) a b = absurd (omega arith)
 met-none (suc m) place rest (inr (inl e)) a b = absurd (b e)

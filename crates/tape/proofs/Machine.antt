@@ -14,7 +14,7 @@ use borrow.Author.Tests.{eq-eqb, ne-eqb}
 use Rattle.tape.specs.Nodes.{kindAt, linkAt, isOpen, isClose, markerOpenKind}
 use Rattle.refusals.specs.Refusal.{Refusal, refuse, brokenLinks, tooDeep}
 use Rattle.tape.specs.Reading.{Step, go, stop, opened, closed, step, resume, read}
-use Rattle.tape.specs.Inner.{stacked, met, says, held, Known, Opened, Closed, Stepped, Held}
+use Rattle.tape.specs.Inner.{stacked, refusedOrRest, says, held, Known, Opened, Closed, Stepped, Held}
 use Rattle.tape.specs.declared.Reading.{Reading}
 use Rattle.text.specs.Pick.{pick}
 
@@ -57,11 +57,11 @@ known-of (stop number) i stack q (inl e) h = inr (inl (h .0 ∙ e))
 known-of (stop number) i stack q (inr e) h = inr (inr (h .0 ∙ e))
 
 -- what a reading says that went on, or that stopped
-says-go : (number place : ℕ) (rest : Option Refusal) → number ≡ 0 → met number place rest ≡ rest
+says-go : (number place : ℕ) (rest : Option Refusal) → number ≡ 0 → refusedOrRest number place rest ≡ rest
 says-go zero place rest e = refl
 says-go (suc number) place rest e = absurd (omega arith)
 
-says-stop : (number place : ℕ) (rest : Option Refusal) → 0 < number → met number place rest ≡ refuse number place
+says-stop : (number place : ℕ) (rest : Option Refusal) → 0 < number → refusedOrRest number place rest ≡ refuse number place
 says-stop zero place rest h = absurd (omega arith)
 says-stop (suc number) place rest h = refl
 

@@ -11,7 +11,7 @@ use lib.Dec.{eqb}
 use lib.ListN.{length}
 use borrow.Author.Tests.{eqb-true}
 use Rattle.tape.specs.Nodes.{Node, nodeAt, nodes, kindAt, linkAt, isOpen, isClose}
-use Rattle.tape.specs.Forest.{Forest, end, leaf, node, followed, before, runs, innermost, forest, nextAt, Nested, done, one, inner}
+use Rattle.tape.specs.Forest.{Forest, end, leaf, node, followed, joinNode, runs, innermost, forest, nextAt, Nested, done, one, inner}
 
 pub close-no-open : (k : ℕ) → isClose k ≡ true → isOpen k ≡ false
 close-no-open k e = go (eqb k 1) refl
@@ -74,7 +74,7 @@ module _ (s t : List ℕ) where
   tree {d} {a} (one h z r) = leaf (nodeAt s t a) (tree r)
   tree {d} {a} (inner h z c r) = node (nodeAt s t a) (tree c) (tree r)
 
-  around : (x : Node) (c f : Forest) (fs : List Forest) → isOpen (x .kind) ≡ true → before (isOpen (x .kind)) (isClose (x .kind)) x (followed c end ∷ onto f fs) ≡ onto (node x c f) fs
+  around : (x : Node) (c f : Forest) (fs : List Forest) → isOpen (x .kind) ≡ true → joinNode (isOpen (x .kind)) (isClose (x .kind)) x (followed c end ∷ onto f fs) ≡ onto (node x c f) fs
   unfolding followed
   around x c f [] h = rw h
   around x c f (g ∷ gs) h = rw (h, then-end c)
@@ -86,7 +86,7 @@ module _ (s t : List ℕ) where
       let l = nested-le r in
       rw (nodes-step a b (omega arith), h, z, runs-nested r xs) (go (runs xs))
     where
-      go : (fs : List Forest) → before false false (nodeAt s t a) (onto (tree r) fs) ≡ onto (leaf (nodeAt s t a) (tree r)) fs
+      go : (fs : List Forest) → joinNode false false (nodeAt s t a) (onto (tree r) fs) ≡ onto (leaf (nodeAt s t a) (tree r)) fs
       go [] = refl
       go (f ∷ fs) = refl
   runs-nested {a} {b} (inner {d} h z c r) xs =

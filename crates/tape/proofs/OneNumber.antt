@@ -16,7 +16,7 @@ use borrow.Author.Tests.{eqb-true, eqb-false, ltb-false, eq-eqb, ne-eqb, not-tru
 use Rattle.tape.specs.Nodes.{count, kindAt, linkAt, isOpen, isClose, rootKind}
 use Rattle.refusals.specs.Refusal.{Refusal, refuse, onlyIf, orElse, firstBad, isNone, AllGood, First, badTapeLength, badNodeKind, badNodeSpan, brokenLinks, tooDeep}
 use Rattle.tape.specs.Reading.{badLength, badKind, badSpan, opensTo, goodRoot, Step, go, stop, step, resume, ended, read, tapeRefusal}
-use Rattle.tape.specs.Conditions.{Reaches, start, next, Stops, LeftOpen, Plain, Gives4, Gives5, Gives6, Gives7, Gives8}
+use Rattle.tape.specs.Conditions.{Reaches, start, next, Stops, LeftOpen, GoodNodes, Gives4, Gives5, Gives6, Gives7, Gives8}
 use Rattle.tape.specs.Forest.{Nested, Accepted}
 use Rattle.tape.proofs.Machine.{read-step, step-odd}
 use Rattle.refusals.proofs.First.{refused, which, neither, only, only-not, first-of, none-of, all-none, first-is}
@@ -116,14 +116,14 @@ module _ (s t : List ℕ) where
       a (inr x) = b (x .0) (which part5 (orElse part6 (orElse partR part7)) r (x .1))
 
   -- none of the parts before a number
-  plain-of : part4 ≡ none → part5 ≡ none → part6 ≡ none → Plain s t
+  plain-of : part4 ≡ none → part5 ≡ none → part6 ≡ none → GoodNodes s t
   plain-of p q u =
       let e = only-not (badLength t) 4 0 p in
       let l = some-nodes e in
       let z : 1 + (n - 1) ≡ n = omega arith in
       record { sized = e; kinds = λ i g k. none-of badNodeKind (badKind t) n 0 q i g (omega arith); spans = λ i g k. none-of badNodeSpan (badSpan s t) (n - 1) 1 u i g (omega arith) }
 
-  module _ (h : Plain s t) where
+  module _ (h : GoodNodes s t) where
     plain4 : part4 ≡ none
     plain4 = rw (h .sized)
 
@@ -236,7 +236,7 @@ module _ (s t : List ℕ) where
           which-end (inl h) = inl h
           which-end (inr h) = inr (h .1)
 
-      back : Plain s t → ((goodRoot t ≡ false) × (place ≡ 0)) ⊎ ((goodRoot t ≡ true) × (Stops t brokenLinks place ⊎ LeftOpen t place)) → tapeRefusal s t ≡ refuse brokenLinks place
+      back : GoodNodes s t → ((goodRoot t ≡ false) × (place ≡ 0)) ⊎ ((goodRoot t ≡ true) × (Stops t brokenLinks place ⊎ LeftOpen t place)) → tapeRefusal s t ≡ refuse brokenLinks place
       back h (inl x) = rw (plain4 h, plain5 h, plain6 h, x .0, x .1)
       back h (inr (x, inl y)) = rw (plain4 h, plain5 h, plain6 h, x) (read-stops t n brokenLinks place refl y)
       back h (inr (x, inr y)) = rw (plain4 h, plain5 h, plain6 h, x) (read-open t n place refl y)
@@ -315,5 +315,5 @@ module _ (s t : List ℕ) where
 
       back : Accepted s t → tapeRefusal s t ≡ none
       back h =
-          let p : Plain s t = record { sized = h .sized; kinds = λ i g k. h .kinds i k; spans = h .spans } in
+          let p : GoodNodes s t = record { sized = h .sized; kinds = λ i g k. h .kinds i k; spans = h .spans } in
           rw (plain4 p, plain5 p, plain6 p, h .root) (nested-reads t n (rooted (h .sized) (h .root)) (h .nested))

@@ -9,7 +9,7 @@ use lib.Dec.{leb, eqb, ltb}
 use lib.ListN.{length, getD}
 use borrow.Author.Tests.{lt-ltb, le-ltb, eq-eqb, eqb-true, eqb-false, leb-true, not-true, not-false}
 use Rattle.text.specs.Pick.{within, pick}
-use Rattle.text.specs.Characters.{starts}
+use Rattle.text.specs.Characters.{isBoundary}
 use Rattle.text.proofs.Boundary.{at-zero, past-end, inside}
 use Rattle.tape.specs.Nodes.{startAt, lenAt}
 use Rattle.tape.specs.Reading.{badSpan}
@@ -19,18 +19,18 @@ module _ (s t : List ℕ) (i a n : ℕ) (start : a ≡ startAt t i) (len : n ≡
   pub leaves : length s < a + n → badSpan s t i ≡ true
   leaves h = rw (← start, ← len, lt-ltb (length s) (a + n) h)
 
-  pub splits : (x : Bool) → a + n ≤ length s → x ≡ starts s a → not x ≡ true → badSpan s t i ≡ true
+  pub splits : (x : Bool) → a + n ≤ length s → x ≡ isBoundary s a → not x ≡ true → badSpan s t i ≡ true
   splits x h e y = rw (← start, ← len, le-ltb (length s) (a + n) h, ← e, y)
 
-  pub ends : (x y : Bool) → a + n ≤ length s → x ≡ starts s a → not x ≡ false → y ≡ starts s (a + n) → badSpan s t i ≡ not y
+  pub ends : (x y : Bool) → a + n ≤ length s → x ≡ isBoundary s a → not x ≡ false → y ≡ isBoundary s (a + n) → badSpan s t i ≡ not y
   ends x y h e z f = rw (← start, ← len, le-ltb (length s) (a + n) h, ← e, z, ← f)
 
-  pub ends-clear : a + n ≤ length s → starts s a ≡ true → starts s (a + n) ≡ true → badSpan s t i ≡ false
+  pub ends-clear : a + n ≤ length s → isBoundary s a ≡ true → isBoundary s (a + n) ≡ true → badSpan s t i ≡ false
   ends-clear h p q = ends true true h (sym p) refl (sym q)
 
 -- a span that is not bad ends at a good place
-pub end-clear : (s t : List ℕ) (i : ℕ) → badSpan s t i ≡ false → starts s (startAt t i + lenAt t i) ≡ true
-end-clear s t i e = go (ltb (length s) (startAt t i + lenAt t i)) (starts s (startAt t i)) (starts s (startAt t i + lenAt t i)) e
+pub end-clear : (s t : List ℕ) (i : ℕ) → badSpan s t i ≡ false → isBoundary s (startAt t i + lenAt t i) ≡ true
+end-clear s t i e = go (ltb (length s) (startAt t i + lenAt t i)) (isBoundary s (startAt t i)) (isBoundary s (startAt t i + lenAt t i)) e
   where
     go : (x y z : Bool) → (x || (not y || not z)) ≡ false → z ≡ true
     go false true true e = refl
@@ -38,7 +38,7 @@ end-clear s t i e = go (ltb (length s) (startAt t i + lenAt t i)) (starts s (sta
     go false false z e = absurd (false≢true (sym e))
     go true y z e = absurd (false≢true (sym e))
 
-pub clear-end : (s : List ℕ) (at : ℕ) → at ≡ length s → starts s at ≡ true
+pub clear-end : (s : List ℕ) (at : ℕ) → at ≡ length s → isBoundary s at ≡ true
 clear-end s at e = past-end s at (omega arith) ∙ eq-eqb at (length s) e
 
 -- the highest two bits of a byte show that it is no further one
@@ -50,10 +50,10 @@ no-further b h = go (leb 0x80 b) (leb b 0xBF) refl refl
     go true false p q = refl
     go true true p q = absurd (h (omega (arith, leb-true 0x80 b p, leb-true b 0xBF q)))
 
-pub clear-byte : (s : List ℕ) (at : ℕ) → at ≤ length s → (at ≡ length s → ⊥) → not (eqb (getD s at 0 / 64) 2) ≡ true → starts s at ≡ true
+pub clear-byte : (s : List ℕ) (at : ℕ) → at ≤ length s → (at ≡ length s → ⊥) → not (eqb (getD s at 0 / 64) 2) ≡ true → isBoundary s at ≡ true
 clear-byte s at l x e = go (eqb at 0) refl
   where
-    go : (b : Bool) → eqb at 0 ≡ b → starts s at ≡ true
+    go : (b : Bool) → eqb at 0 ≡ b → isBoundary s at ≡ true
     go true q = at-zero s at (eqb-true at 0 q)
     go false q = inside s at (eqb-false at 0 q) (omega arith) ∙ rw (no-further (getD s at 0) (eqb-false (getD s at 0 / 64) 2 (not-true _ e)))
 

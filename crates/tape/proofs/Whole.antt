@@ -14,8 +14,8 @@ use borrow.Author.Tests.{eq-eqb, ne-eqb, lt-ltb, le-ltb, le-leb, lt-leb, leb-tru
 use Rattle.text.specs.Pick.{within, pick}
 use Rattle.tape.specs.Nodes.{count, kindAt, linkAt, isClose}
 use Rattle.refusals.specs.Refusal.{Refusal, refuse, onlyIf, orElse, firstBad, isNone, badNodeKind, badNodeSpan, brokenLinks}
-use Rattle.tape.specs.Reading.{badLength, badKind, badSpan, opensTo, goodRoot, ended, read, tapeRefusal, refusalOf}
-use Rattle.tape.specs.Inner.{Sized, stacked, met, metSpan, spanAfter, says, Known, Stepped, rootBy, leftOpen, lastly, fromOne}
+use Rattle.tape.specs.Reading.{badLength, badKind, badSpan, opensTo, goodRoot, ended, read, tapeRefusal, tapeCheckRefusal}
+use Rattle.tape.specs.Inner.{Sized, stacked, refusedOrRest, metSpan, spanAfter, says, Known, Stepped, rootBy, leftOpen, lastly, fromOne}
 use Rattle.tape.specs.declared.TapeCheck.{TapeCheck}
 use Rattle.tape.specs.declared.Reading.{Reading}
 use Rattle.refusals.proofs.First.{first-step, first-pass, first-hit, first-end}
@@ -112,12 +112,12 @@ module _ (s t : List ℕ) (n root : ℕ) (stack : List ℕ) (span : ℕ) (taken 
   root-is : goodRoot t ≡ rootBy root n (isClose (kindAt t root)) taken
   root-is = root-by t n root taken (count-is t n (g .sized)) (g .link) (sym (g .roots) ∙ rw (first-end brokenLinks (opensTo t root) n i done) (and-true (not taken)))
 
-  reading-is : met (r .number) (r .place) (leftOpen n (r .depth)) ≡ read t (n - 1) 1 []
+  reading-is : refusedOrRest (r .number) (r .place) (leftOpen n (r .depth)) ≡ read t (n - 1) 1 []
   unfolding read
   reading-is =
       let e : n - i ≡ 0 = omega arith in
       let z = at-end in
-      ap (met (r .number) (r .place)) (sym (ended-left n stack (r .depth)) ∙ rw (← z)) ∙ rw e at (g .reading)
+      ap (refusedOrRest (r .number) (r .place)) (sym (ended-left n stack (r .depth)) ∙ rw (← z)) ∙ rw e at (g .reading)
 
   pub going-last : lastly t n root span taken r ≡ fromOne s t n
   going-last = rw (← g .kinds, first-end badNodeKind (badKind t) n i done, ← g .spans, first-end badNodeSpan (badSpan s t) n i done, root-is, ← reading-is)

@@ -28,7 +28,7 @@ pub record LeftOpen (t : List ℕ) (place : ℕ) : Type 0 where
   pub at-end : place ≡ count t
 
 -- none of 4 to 6
-pub record Plain (s t : List ℕ) : Type 0 where
+pub record GoodNodes (s t : List ℕ) : Type 0 where
   pub sized : badLength t ≡ false
   pub kinds : AllGood (badKind t) 0 (count t)
   pub spans : AllGood (badSpan s t) 1 (count t)
@@ -43,7 +43,7 @@ abbrev pub Gives6 : List ℕ → List ℕ → ℕ → Type 0
 Gives6 s t place = (badLength t ≡ false) × AllGood (badKind t) 0 (count t) × First (badSpan s t) 1 (count t) place
 
 abbrev pub Gives7 : List ℕ → List ℕ → ℕ → Type 0
-Gives7 s t place = Plain s t × (((goodRoot t ≡ false) × (place ≡ 0)) ⊎ ((goodRoot t ≡ true) × (Stops t brokenLinks place ⊎ LeftOpen t place)))
+Gives7 s t place = GoodNodes s t × (((goodRoot t ≡ false) × (place ≡ 0)) ⊎ ((goodRoot t ≡ true) × (Stops t brokenLinks place ⊎ LeftOpen t place)))
 
 abbrev pub Gives8 : List ℕ → List ℕ → ℕ → Type 0
-Gives8 s t place = Plain s t × (goodRoot t ≡ true) × Stops t tooDeep place
+Gives8 s t place = GoodNodes s t × (goodRoot t ≡ true) × Stops t tooDeep place

@@ -20,18 +20,18 @@ followed (leaf x r) g = leaf x (followed r g)
 followed (node x c r) g = node x c (followed r g)
 
 -- one node before the runs that begin after it, the innermost first: a leaf goes before the first of them; a close ends a run that has no node yet; an open has the first of them for its children and goes before the second
-abbrev pub before : Bool → Bool → Node → List Forest → List Forest
-before true closes x [] = []
-before true closes x (c ∷ []) = []
-before true closes x (c ∷ f ∷ fs) = node x c f ∷ fs
-before false true x fs = end ∷ fs
-before false false x [] = []
-before false false x (f ∷ fs) = leaf x f ∷ fs
+abbrev pub joinNode : Bool → Bool → Node → List Forest → List Forest
+joinNode true closes x [] = []
+joinNode true closes x (c ∷ []) = []
+joinNode true closes x (c ∷ f ∷ fs) = node x c f ∷ fs
+joinNode false true x fs = end ∷ fs
+joinNode false false x [] = []
+joinNode false false x (f ∷ fs) = leaf x f ∷ fs
 
 -- the runs of siblings that begin where the list begins, the innermost first
 unfoldable pub runs : List Node → List Forest
 runs [] = end ∷ []
-runs (x ∷ xs) = before (isOpen (x .kind)) (isClose (x .kind)) x (runs xs)
+runs (x ∷ xs) = joinNode (isOpen (x .kind)) (isClose (x .kind)) x (runs xs)
 
 abbrev pub innermost : List Forest → Forest
 innermost [] = end

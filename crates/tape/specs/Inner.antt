@@ -26,9 +26,9 @@ stacked xs zero = []
 stacked xs (suc k) = getD xs k 0 ∷ stacked xs k
 
 -- a refusal that was met already, or what the rest gives
-abbrev pub met : ℕ → ℕ → Option Refusal → Option Refusal
-met zero place rest = rest
-met (suc number) place rest = refuse (suc number) place
+abbrev pub refusedOrRest : ℕ → ℕ → Option Refusal → Option Refusal
+refusedOrRest zero place rest = rest
+refusedOrRest (suc number) place rest = refuse (suc number) place
 
 -- where the first bad span was met, or what the rest gives
 abbrev pub metSpan : ℕ → Option Refusal → Option Refusal
@@ -41,7 +41,7 @@ spanAfter s t i (suc place) = suc place
 
 -- what the reading says of the nodes from i on, with the rest of the tape to read
 abbrev pub says : List ℕ → ℕ → ℕ → List ℕ → Reading → Option Refusal
-says t n i stack r = met (r .number) (r .place) (read t (n - i) i (stacked stack (r .depth)))
+says t n i stack r = refusedOrRest (r .number) (r .place) (read t (n - i) i (stacked stack (r .depth)))
 
 -- a step of the reading of the nodes, as the reading holds it
 abbrev pub held : Step → ℕ → List ℕ → Reading → Type 0
@@ -90,7 +90,7 @@ leftOpen n (suc depth) = refuse brokenLinks n
 abbrev pub lastly : List ℕ → ℕ → ℕ → ℕ → Bool → Reading → Option Refusal
 lastly t n root span taken r =
     orElse (metSpan span none)
-    (orElse (onlyIf (not (rootBy root n (isClose (kindAt t root)) taken)) (refuse brokenLinks 0)) (met (r .number) (r .place) (leftOpen n (r .depth))))
+    (orElse (onlyIf (not (rootBy root n (isClose (kindAt t root)) taken)) (refuse brokenLinks 0)) (refusedOrRest (r .number) (r .place) (leftOpen n (r .depth))))
 
 -- the numbers from 5 on, where the root's kind is good
 abbrev pub fromOne : List ℕ → List ℕ → ℕ → Option Refusal

@@ -6,7 +6,7 @@ use mathlib.Core.Option.{Option, some, none}
 use lib.Dec.{eqb, ltb}
 use lib.ListN.{length}
 use Rattle.text.specs.Pick.{within, pick}
-use Rattle.text.specs.Characters.{starts}
+use Rattle.text.specs.Characters.{isBoundary}
 use Rattle.tape.specs.Nodes.{count, kindAt, startAt, lenAt, linkAt, isClose, isOpen, rootKind, markerOpenKind, errorKind}
 use Rattle.tape.specs.declared.TapeCheck.{TapeCheck}
 use Rattle.tape.specs.declared.TapeCheck.the-variants.{Good, Length, Kind, Span, Links, Deep}
@@ -24,7 +24,7 @@ badKind t (suc i) = not (within markerOpenKind errorKind (kindAt t (suc i)))
 -- 6: "A span from node 1 on leaves the source or splits a character; place: that node."
 abbrev pub badSpan : List ℕ → List ℕ → ℕ → Bool
 badSpan s t i =
-    ltb (length s) (startAt t i + lenAt t i) || (not (starts s (startAt t i)) || not (starts s (startAt t i + lenAt t i)))
+    ltb (length s) (startAt t i + lenAt t i) || (not (isBoundary s (startAt t i)) || not (isBoundary s (startAt t i + lenAt t i)))
 
 -- 7, the root: "The root's link is n, or n − 1 with a close there that is the link of no other open."
 abbrev pub opensTo : List ℕ → ℕ → ℕ → Bool
@@ -77,10 +77,10 @@ tapeRefusal s t =
     (orElse (onlyIf (not (goodRoot t)) (refuse brokenLinks 0)) (read t (count t - 1) 1 []))))
 
 -- what the answer of the check says
-abbrev pub refusalOf : TapeCheck → Option Refusal
-refusalOf Good = none
-refusalOf Length = refuse badTapeLength 0
-refusalOf (Kind i) = refuse badNodeKind i
-refusalOf (Span i) = refuse badNodeSpan i
-refusalOf (Links i) = refuse brokenLinks i
-refusalOf (Deep i) = refuse tooDeep i
+abbrev pub tapeCheckRefusal : TapeCheck → Option Refusal
+tapeCheckRefusal Good = none
+tapeCheckRefusal Length = refuse badTapeLength 0
+tapeCheckRefusal (Kind i) = refuse badNodeKind i
+tapeCheckRefusal (Span i) = refuse badNodeSpan i
+tapeCheckRefusal (Links i) = refuse brokenLinks i
+tapeCheckRefusal (Deep i) = refuse tooDeep i

@@ -6,9 +6,9 @@ ghost use mathlib.Core.Option.{none};
 ghost use Prim.Native.Nat.{_+_, _-_, _<_, _≤_};
 ghost use lib.ListN.{length};
 ghost use Rattle.text.specs.Pick.{within, pick};
-ghost use Rattle.text.specs.Characters.{starts};
+ghost use Rattle.text.specs.Characters.{isBoundary};
 ghost use Rattle.tape.specs.Nodes.{count, half, word, kindAt, markerAt, startAt, lenAt, linkAt, isClose, kindOf, markerOpenKind, errorKind};
-ghost use Rattle.tape.specs.Reading.{badSpan, opensTo, refusalOf, tapeRefusal};
+ghost use Rattle.tape.specs.Reading.{badSpan, opensTo, tapeCheckRefusal, tapeRefusal};
 ghost use Rattle.tape.specs.Inner.{Sized, Known, Opened, Closed, Held, Stepped, spanAfter, rootBy, lastly, fromOne, Clear, Paired};
 
 pub enum NodeKind {
@@ -276,7 +276,7 @@ fn good_root(tape: &[u8], n: usize, root: u32, taken: bool) -> bool
 // The answer when all nodes are read, their kinds being good.
 fn answer(tape: &[u8], n: usize, root: u32, span: usize, taken: bool, r: Reading) -> TapeCheck
     requires { ⌜ (Sized (now tape) n) × (Known (r .number)) ⌝ }
-    ensures { λ q. ⌜ refusalOf q ≡ lastly (now (tape .entry)) n root span taken r ⌝ }
+    ensures { λ q. ⌜ tapeCheckRefusal q ≡ lastly (now (tape .entry)) n root span taken r ⌝ }
 {
     if span != 0 {
         return TapeCheck::Span(span);
@@ -309,7 +309,7 @@ fn bad_kind(kind: u8) -> bool
 // Numbers 5 to 8 from node 1 on, in one pass: a bad kind comes before all others, and the rest waits for the end.
 fn scan_each(source: &[u8], tape: &[u8], n: usize) -> TapeCheck
     requires { ⌜ Sized (now tape) n ⌝ }
-    ensures { λ r. ⌜ refusalOf r ≡ fromOne (now (source .entry)) (now (tape .entry)) n ⌝ }
+    ensures { λ r. ⌜ tapeCheckRefusal r ≡ fromOne (now (source .entry)) (now (tape .entry)) n ⌝ }
 {
     let root = link_at(tape, 0);
     let mut stack = [0u32; 64];
@@ -337,7 +337,7 @@ fn scan_each(source: &[u8], tape: &[u8], n: usize) -> TapeCheck
 // Whether the byte at a place shows that a character begins there, or the text ends. A place that fails may still be good.
 fn is_clear(s: &[u8], at: usize) -> bool
     requires { ⌜ at ≤ length (now s) ⌝ }
-    ensures { λ r. ⌜ (r ≡ true → starts (now (s .entry)) at ≡ true) ⌝ }
+    ensures { λ r. ⌜ (r ≡ true → isBoundary (now (s .entry)) at ≡ true) ⌝ }
 {
     if at == s.len() {
         return true;
@@ -347,8 +347,8 @@ fn is_clear(s: &[u8], at: usize) -> bool
 
 // The same, beside a place that is known to be good.
 fn is_clear_from(s: &[u8], at: usize, good: usize) -> bool
-    requires { ⌜ (at ≤ length (now s)) × (starts (now s) good ≡ true) ⌝ }
-    ensures { λ r. ⌜ (r ≡ true → starts (now (s .entry)) at ≡ true) ⌝ }
+    requires { ⌜ (at ≤ length (now s)) × (isBoundary (now s) good ≡ true) ⌝ }
+    ensures { λ r. ⌜ (r ≡ true → isBoundary (now (s .entry)) at ≡ true) ⌝ }
 {
     if at == good {
         return true;
@@ -367,7 +367,7 @@ fn end_at(tape: &[u8], i: usize) -> usize
 // Whether both ends of a node's span show that it is good. Most spans start where the one before ends, which is known to be a
 // good place.
 fn is_clear_span(source: &[u8], tape: &[u8], i: usize, before: usize) -> bool
-    requires { ⌜ (i < count (now tape)) × (starts (now source) before ≡ true) ⌝ }
+    requires { ⌜ (i < count (now tape)) × (isBoundary (now source) before ≡ true) ⌝ }
     ensures { λ r. ⌜ (r ≡ true → badSpan (now (source .entry)) (now (tape .entry)) i ≡ false) ⌝ }
 {
     let start = start_at(tape, i) as usize;
@@ -452,7 +452,7 @@ fn is_settled(source: &[u8], tape: &[u8], n: usize) -> bool
 // Numbers 5 to 8 from node 1 on. Most tapes are good, and quickly seen to be.
 fn scan(source: &[u8], tape: &[u8], n: usize) -> TapeCheck
     requires { ⌜ Sized (now tape) n ⌝ }
-    ensures { λ r. ⌜ refusalOf r ≡ fromOne (now (source .entry)) (now (tape .entry)) n ⌝ }
+    ensures { λ r. ⌜ tapeCheckRefusal r ≡ fromOne (now (source .entry)) (now (tape .entry)) n ⌝ }
 {
     if is_settled(source, tape, n) {
         return TapeCheck::Good;
@@ -462,7 +462,7 @@ fn scan(source: &[u8], tape: &[u8], n: usize) -> TapeCheck
 
 // Document 01's numbers 4 to 8 for a tape over a source.
 pub fn tape_check(source: &[u8], tape: &[u8]) -> TapeCheck
-    ensures { λ r. ⌜ refusalOf r ≡ tapeRefusal (now (source .entry)) (now (tape .entry)) ⌝ }
+    ensures { λ r. ⌜ tapeCheckRefusal r ≡ tapeRefusal (now (source .entry)) (now (tape .entry)) ⌝ }
 {
     let n = tape.len() / 16;
     if n == 0 {

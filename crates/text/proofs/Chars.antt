@@ -13,7 +13,7 @@ use Rattle.text.specs.declared.Decoded.{Decoded}
 use Rattle.text.specs.Utf8.{decode}
 use Rattle.text.specs.Blank.{blank}
 use Rattle.text.specs.Scans.{blankIs}
-use Rattle.text.specs.Characters.{charsPast, chars, before, find, findByte}
+use Rattle.text.specs.Characters.{charsPast, chars, bytesBefore, find, findByte}
 use Rattle.text.proofs.Rows.{place}
 use Rattle.text.proofs.Decode.{decode-width}
 
@@ -55,15 +55,15 @@ tested s i t d x y v e f g h = ap (λ (z : Decoded). same t (blank (z .cp))) (sy
 module _ (p : ℕ → Bool) (s : List ℕ) (i : ℕ) where
   -- past a character that does not pass, at one that does, and at the end
   pub past : (w : ℕ) → i < length s → w ≡ decode (drop i s) .width → p (decode (drop i s) .cp) ≡ false → i + find p (drop i s) ≡ i + w + find p (drop (i + w) s)
-  unfolding before
+  unfolding bytesBefore
   past w h e y = rw (chars-at s i w h e, y, ← e) (omega arith)
 
   pub stops : i < length s → p (decode (drop i s) .cp) ≡ true → i + find p (drop i s) ≡ i
-  unfolding before
+  unfolding bytesBefore
   stops h y = rw (chars-at s i (decode (drop i s) .width) h refl, y) (add-zero i)
 
   pub ends : length s ≤ i → i + find p (drop i s) ≡ i
-  unfolding before
+  unfolding bytesBefore
   ends h = rw (drop-of-length-le s h, chars-nil) (add-zero i)
 
 -- the same of bytes

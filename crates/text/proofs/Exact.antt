@@ -13,7 +13,7 @@ use lib.ListN.{length, getD, take, drop, length-append, length-drop, take-append
 use lib.Seq.{drop-append-seam, take-append-seam, drop-drop, take-add, length-take-le}
 use borrow.Author.Tests.{leb-true}
 use Rattle.text.specs.Pick.{Range, within, pick}
-use Rattle.text.specs.Utf8.{begins, widthBy, table, widthOf, scan, firstIllFormed, fits, Made, nothing, more, FirstIllFormed}
+use Rattle.text.specs.Utf8.{begins, widthBy, table3-7, widthOf, scan, firstIllFormed, fits, Made, nothing, more, FirstIllFormed}
 use Rattle.text.proofs.Induction.{by-length}
 use Rattle.text.proofs.Rows.{width-le, row-long, row-begins}
 use Rattle.text.proofs.Scan.{over, bad, ended}
@@ -58,11 +58,11 @@ found-by (row ∷ rows) s h = go (begins row s) refl h (found-by rows s)
         let f = later l in
         record { row = f .row; is-row = List·Memᴰ·tail (f .is-row); begins-so = f .begins-so; long = f .long }
 
-pub found : (s : List ℕ) → 0 < widthOf s → Found table s (widthOf s)
+pub found : (s : List ℕ) → 0 < widthOf s → Found table3-7 s (widthOf s)
 unfolding widthOf
-found s h = found-by table s h
+found s h = found-by table3-7 s h
 
-none-begins : (l : List ℕ) → widthOf l ≡ 0 → (row : List Range) → List·Memᴰ row table → begins row l ≡ false
+none-begins : (l : List ℕ) → widthOf l ≡ 0 → (row : List Range) → List·Memᴰ row table3-7 → begins row l ≡ false
 none-begins l e row m = go (begins row l) refl
   where
     go : (t : Bool) → begins row l ≡ t → t ≡ false
@@ -70,7 +70,7 @@ none-begins l e row m = go (begins row l) refl
     go false y = refl
 
 -- where no row begins the list, its width is 0
-no-width : (l : List ℕ) → ((row : List Range) → List·Memᴰ row table → begins row l ≡ false) → widthOf l ≡ 0
+no-width : (l : List ℕ) → ((row : List Range) → List·Memᴰ row table3-7 → begins row l ≡ false) → widthOf l ≡ 0
 no-width l h = go (widthOf l) refl
   where
     go : (w : ℕ) → widthOf l ≡ w → w ≡ 0
@@ -96,7 +96,7 @@ Says s at none = Made s
 Says s at (some p) = (k : ℕ) × (p ≡ at + k) × FirstIllFormed s k
 
 -- a row before what a scan says it of
-says-more : (l : List ℕ) (w at : ℕ) → Found table l w → w ≤ length l → (x : Option ℕ) → Says (drop w l) (at + w) x → Says l at x
+says-more : (l : List ℕ) (w at : ℕ) → Found table3-7 l w → w ≤ length l → (x : Option ℕ) → Says (drop w l) (at + w) x → Says l at x
 unfolding Says
 says-more l w at f h none m = more (f .row) (take w l) (f .is-row) (rw (← f .long) (begins-fits (f .row) l (f .begins-so))) m (sym (take-append-drop w l))
 says-more l w at f h (some p) (k, e, q) = (
@@ -118,7 +118,7 @@ says-step (b ∷ s) ih at = go (widthOf (b ∷ s)) refl
     go zero e = rw (bad (b ∷ s) at (omega arith) e) (0, omega arith, record { inside = omega arith; before = nothing; none-begins = none-begins (b ∷ s) e })
     go (suc k) e =
         let l = b ∷ s in
-        let f : Found table l (suc k) = rw e at (found l (omega arith)) in
+        let f : Found table3-7 l (suc k) = rw e at (found l (omega arith)) in
         let fits-in : suc k ≤ length l = omega (arith, width-le l, e) in
         rw (over l (suc k) at e (omega arith)) (says-more l (suc k) at f fits-in (scan (drop (suc k) l) 0 (at + suc k)) (ih (drop (suc k) l) (omega (arith, length-drop (suc k) l)) (at + suc k)))
 

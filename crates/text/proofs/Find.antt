@@ -11,11 +11,11 @@ use lib.Dec.{leb, eqb}
 use lib.ListN.{length, getD, take, drop, length-drop}
 use lib.Seq.{getD-take}
 use borrow.Author.Tests.{ne-eqb, lt-leb}
-use Rattle.text.specs.Pick.{Range, span, within, pick}
+use Rattle.text.specs.Pick.{Range, range, within, pick}
 use Rattle.text.specs.declared.Decoded.{Decoded}
-use Rattle.text.specs.Utf8.{begins, table, widthOf, fits, decoded, decode}
+use Rattle.text.specs.Utf8.{begins, table3-7, widthOf, fits, decoded, decode}
 use Rattle.text.specs.Number.{digit}
-use Rattle.text.specs.Characters.{chars, before, find, findByte}
+use Rattle.text.specs.Characters.{chars, bytesBefore, find, findByte}
 use Rattle.text.proofs.Rows.{within-lo, within-hi, row-short}
 use Rattle.text.proofs.Scan.{ascii-one}
 use Rattle.text.proofs.Decode.{decode-1, decode-width}
@@ -46,17 +46,17 @@ two-bytes r q rs row (x ∷ s) e b =
     (byte-lo r (q ∷ rs) (x ∷ s) f, byte-hi r (q ∷ rs) (x ∷ s) f, byte-lo q rs s g, byte-hi q rs s g)
 
 -- a sequence of more than one byte is a code point above ASCII, and so are its bytes
-high-code : (row : List Range) (l : List ℕ) → List·Memᴰ row table → begins row l ≡ true → 1 < length row → 0x80 ≤ decoded (length row) l .cp
-unfolding table decoded
+high-code : (row : List Range) (l : List ℕ) → List·Memᴰ row table3-7 → begins row l ≡ true → 1 < length row → 0x80 ≤ decoded (length row) l .cp
+unfolding table3-7 decoded
 high-code row l (List·Memᴰ·head e) b h = absurd (omega (arith, ap length e))
-high-code row l (List·Memᴰ·tail (List·Memᴰ·head e)) b h = let f = two-bytes (span 0xC2 0xDF) (span 0x80 0xBF) [] row l e b in rw e (omega arith)
-high-code row l (List·Memᴰ·tail (List·Memᴰ·tail (List·Memᴰ·head e))) b h = let f = two-bytes (span 0xE0 0xE0) (span 0xA0 0xBF) (span 0x80 0xBF ∷ []) row l e b in rw e (omega arith)
-high-code row l (List·Memᴰ·tail (List·Memᴰ·tail (List·Memᴰ·tail (List·Memᴰ·head e)))) b h = let f = two-bytes (span 0xE1 0xEC) (span 0x80 0xBF) (span 0x80 0xBF ∷ []) row l e b in rw e (omega arith)
-high-code row l (List·Memᴰ·tail (List·Memᴰ·tail (List·Memᴰ·tail (List·Memᴰ·tail (List·Memᴰ·head e))))) b h = let f = two-bytes (span 0xED 0xED) (span 0x80 0x9F) (span 0x80 0xBF ∷ []) row l e b in rw e (omega arith)
-high-code row l (List·Memᴰ·tail (List·Memᴰ·tail (List·Memᴰ·tail (List·Memᴰ·tail (List·Memᴰ·tail (List·Memᴰ·head e)))))) b h = let f = two-bytes (span 0xEE 0xEF) (span 0x80 0xBF) (span 0x80 0xBF ∷ []) row l e b in rw e (omega arith)
-high-code row l (List·Memᴰ·tail (List·Memᴰ·tail (List·Memᴰ·tail (List·Memᴰ·tail (List·Memᴰ·tail (List·Memᴰ·tail (List·Memᴰ·head e))))))) b h = let f = two-bytes (span 0xF0 0xF0) (span 0x90 0xBF) (span 0x80 0xBF ∷ span 0x80 0xBF ∷ []) row l e b in rw e (omega arith)
-high-code row l (List·Memᴰ·tail (List·Memᴰ·tail (List·Memᴰ·tail (List·Memᴰ·tail (List·Memᴰ·tail (List·Memᴰ·tail (List·Memᴰ·tail (List·Memᴰ·head e)))))))) b h = let f = two-bytes (span 0xF1 0xF3) (span 0x80 0xBF) (span 0x80 0xBF ∷ span 0x80 0xBF ∷ []) row l e b in rw e (omega arith)
-high-code row l (List·Memᴰ·tail (List·Memᴰ·tail (List·Memᴰ·tail (List·Memᴰ·tail (List·Memᴰ·tail (List·Memᴰ·tail (List·Memᴰ·tail (List·Memᴰ·tail (List·Memᴰ·head e))))))))) b h = let f = two-bytes (span 0xF4 0xF4) (span 0x80 0x8F) (span 0x80 0xBF ∷ span 0x80 0xBF ∷ []) row l e b in rw e (omega arith)
+high-code row l (List·Memᴰ·tail (List·Memᴰ·head e)) b h = let f = two-bytes (range 0xC2 0xDF) (range 0x80 0xBF) [] row l e b in rw e (omega arith)
+high-code row l (List·Memᴰ·tail (List·Memᴰ·tail (List·Memᴰ·head e))) b h = let f = two-bytes (range 0xE0 0xE0) (range 0xA0 0xBF) (range 0x80 0xBF ∷ []) row l e b in rw e (omega arith)
+high-code row l (List·Memᴰ·tail (List·Memᴰ·tail (List·Memᴰ·tail (List·Memᴰ·head e)))) b h = let f = two-bytes (range 0xE1 0xEC) (range 0x80 0xBF) (range 0x80 0xBF ∷ []) row l e b in rw e (omega arith)
+high-code row l (List·Memᴰ·tail (List·Memᴰ·tail (List·Memᴰ·tail (List·Memᴰ·tail (List·Memᴰ·head e))))) b h = let f = two-bytes (range 0xED 0xED) (range 0x80 0x9F) (range 0x80 0xBF ∷ []) row l e b in rw e (omega arith)
+high-code row l (List·Memᴰ·tail (List·Memᴰ·tail (List·Memᴰ·tail (List·Memᴰ·tail (List·Memᴰ·tail (List·Memᴰ·head e)))))) b h = let f = two-bytes (range 0xEE 0xEF) (range 0x80 0xBF) (range 0x80 0xBF ∷ []) row l e b in rw e (omega arith)
+high-code row l (List·Memᴰ·tail (List·Memᴰ·tail (List·Memᴰ·tail (List·Memᴰ·tail (List·Memᴰ·tail (List·Memᴰ·tail (List·Memᴰ·head e))))))) b h = let f = two-bytes (range 0xF0 0xF0) (range 0x90 0xBF) (range 0x80 0xBF ∷ range 0x80 0xBF ∷ []) row l e b in rw e (omega arith)
+high-code row l (List·Memᴰ·tail (List·Memᴰ·tail (List·Memᴰ·tail (List·Memᴰ·tail (List·Memᴰ·tail (List·Memᴰ·tail (List·Memᴰ·tail (List·Memᴰ·head e)))))))) b h = let f = two-bytes (range 0xF1 0xF3) (range 0x80 0xBF) (range 0x80 0xBF ∷ range 0x80 0xBF ∷ []) row l e b in rw e (omega arith)
+high-code row l (List·Memᴰ·tail (List·Memᴰ·tail (List·Memᴰ·tail (List·Memᴰ·tail (List·Memᴰ·tail (List·Memᴰ·tail (List·Memᴰ·tail (List·Memᴰ·tail (List·Memᴰ·head e))))))))) b h = let f = two-bytes (range 0xF4 0xF4) (range 0x80 0x8F) (range 0x80 0xBF ∷ range 0x80 0xBF ∷ []) row l e b in rw e (omega arith)
 
 -- the code point that starts at a byte above ASCII lies above it too
 pub high-decode : (b : ℕ) (s : List ℕ) → 0x80 ≤ b → 0x80 ≤ decode (b ∷ s) .cp
@@ -83,7 +83,7 @@ decoded-more (suc (suc zero)) l k h = h
 decoded-more (suc (suc (suc zero))) l k h = h
 decoded-more (suc (suc (suc (suc w)))) l k h = omega arith
 
-begun-high : (row : List Range) (b : ℕ) (s : List ℕ) (k : ℕ) → List·Memᴰ row table → begins row (b ∷ s) ≡ true → suc k < length row → 0x80 ≤ getD s k 0
+begun-high : (row : List Range) (b : ℕ) (s : List ℕ) (k : ℕ) → List·Memᴰ row table3-7 → begins row (b ∷ s) ≡ true → suc k < length row → 0x80 ≤ getD s k 0
 begun-high [] b s k m e h = absurd (not-suc-le-zero h)
 begun-high (r ∷ rs) b s k m e h =
     let fit : fits (r ∷ rs) (b ∷ take (length rs) s) ≡ true = begins-fits (r ∷ rs) (b ∷ s) e in
@@ -148,7 +148,7 @@ module _ (p : ℕ → Bool) (flat : (c d : ℕ) → 0x80 ≤ c → 0x80 ≤ d �
   at-once b s e = rw e
 
   find-step : (l : List ℕ) → ((m : List ℕ) → length m < length l → findByte p m ≡ find p m) → findByte p l ≡ find p l
-  unfolding before
+  unfolding bytesBefore
   find-step [] ih = rw chars-nil none-left
   find-step (b ∷ s) ih =
       rw (chars-cons (b ∷ s) (decode (b ∷ s) .width) (omega arith) refl, alike-code b s) (go (decode (b ∷ s) .width) (p b) refl refl)

@@ -13,8 +13,8 @@ use lib.Seq.{drop-drop}
 use borrow.Author.Tests.{eq-eqb, ne-eqb, not-true}
 use Rattle.text.specs.Utf8.{decode}
 use Rattle.text.specs.Blank.{blank}
-use Rattle.text.specs.Characters.{chars, before, find}
-use Rattle.text.specs.Words.{solid, keptBy, kept, trim, blankText}
+use Rattle.text.specs.Characters.{chars, bytesBefore, find}
+use Rattle.text.specs.Words.{notBlank, keptBy, kept, trim, blankText}
 use Rattle.text.proofs.Induction.{by-length}
 use Rattle.text.proofs.Chars.{chars-nil, chars-cons, chars-at, in-text, past, stops, ends}
 use Rattle.text.proofs.Decode.{decode-width}
@@ -27,7 +27,7 @@ module _ (p : ℕ → Bool) where
   Hits l = find p l < length l → p (decode (drop (find p l) l) .cp) ≡ true
 
   hit-step : (l : List ℕ) → ((m : List ℕ) → length m < length l → Hits m) → Hits l
-  unfolding before
+  unfolding bytesBefore
   hit-step [] ih h = absurd (not-suc-le-zero h)
   hit-step (b ∷ s) ih h =
       let l = b ∷ s in
@@ -75,15 +75,15 @@ kept-some s i h y =
     let d = in-text s i h in
     rw (chars-at s i w h refl, y) (ne-eqb (w + kept (chars (drop (i + w) s))) 0 (omega arith))
 
-pub blank-text : (s : List ℕ) (a : ℕ) → a ≡ 0 + find solid s → eqb a (length s) ≡ blankText s
+pub blank-text : (s : List ℕ) (a : ℕ) → a ≡ 0 + find notBlank s → eqb a (length s) ≡ blankText s
 unfolding blankText trim kept
 blank-text s a e =
-    let f : a ≡ find solid s = e ∙ zero-add _ in
-    rw f (go (decLt (find solid s) (length s)) (find-le solid s))
+    let f : a ≡ find notBlank s = e ∙ zero-add _ in
+    rw f (go (decLt (find notBlank s) (length s)) (find-le notBlank s))
   where
-    go : Dec (find solid s < length s) → find solid s ≤ length s → eqb (find solid s) (length s) ≡ eqb (kept (chars (drop (find solid s) s))) 0
-    go (yes h) l = rw (ne-eqb (find solid s) (length s) (omega arith)) (sym (kept-some s (find solid s) h (not-true _ (find-hits solid s h))))
+    go : Dec (find notBlank s < length s) → find notBlank s ≤ length s → eqb (find notBlank s) (length s) ≡ eqb (kept (chars (drop (find notBlank s) s))) 0
+    go (yes h) l = rw (ne-eqb (find notBlank s) (length s) (omega arith)) (sym (kept-some s (find notBlank s) h (not-true _ (find-hits notBlank s h))))
     go (no h) l =
-        let e : length s ≤ find solid s = omega arith in
-        let end : drop (find solid s) s ≡ [] = drop-of-length-le s e in
-        rw (eq-eqb (find solid s) (length s) (omega arith), end, chars-nil)
+        let e : length s ≤ find notBlank s = omega arith in
+        let end : drop (find notBlank s) s ≡ [] = drop-of-length-le s e in
+        rw (eq-eqb (find notBlank s) (length s) (omega arith), end, chars-nil)

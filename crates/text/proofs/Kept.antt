@@ -11,11 +11,11 @@ use lib.Dec.{leb}
 use lib.ListN.{length, getD, take, drop, length-drop, length-append, drop-of-length-le, List·getD-append}
 use lib.Seq.{drop-append-le, take-suc, take-length, length-take-le}
 use borrow.Author.Tests.{lt-leb, leb-true, leb-false}
-use Rattle.text.specs.Pick.{Range, span, within, pick}
+use Rattle.text.specs.Pick.{Range, range, within, pick}
 use Rattle.text.specs.declared.Decoded.{Decoded}
-use Rattle.text.specs.Utf8.{begins, table, widthBy, widthOf, decoded, decode}
+use Rattle.text.specs.Utf8.{begins, table3-7, widthBy, widthOf, decoded, decode}
 use Rattle.text.specs.Blank.{blank}
-use Rattle.text.specs.Characters.{charsPast, chars, before, find}
+use Rattle.text.specs.Characters.{charsPast, chars, bytesBefore, find}
 use Rattle.text.specs.Words.{keptBy, kept}
 use Rattle.text.proofs.Induction.{by-length}
 use Rattle.text.proofs.Rows.{every, width-le}
@@ -39,8 +39,8 @@ end-blank end i (suc w) (suc k) = go (suc w + suc k) refl
     go zero e = absurd (omega arith)
     go (suc n) e = omega arith
 
-end-solid : (end i w k : ℕ) → 0 < w → endOf end i (keptBy false w k) ≡ endOf (i + w) (i + w) k
-end-solid end i w k h = go (w + k) k refl refl
+end-not-blank : (end i w k : ℕ) → 0 < w → endOf end i (keptBy false w k) ≡ endOf (i + w) (i + w) k
+end-not-blank end i w k h = go (w + k) k refl refl
   where
     go : (n m : ℕ) → w + k ≡ n → k ≡ m → endOf end i n ≡ endOf (i + w) (i + w) m
     go zero m e f = absurd (omega arith)
@@ -55,8 +55,8 @@ module _ (s : List ℕ) (end i w : ℕ) where
   pub kept-blank : i < length s → w ≡ decode (drop i s) .width → blank (decode (drop i s) .cp) ≡ true → endOf end i (kept (chars (drop i s))) ≡ endOf end (i + w) (kept (chars (drop (i + w) s)))
   kept-blank h e y = rw (kept-at h e, y) (end-blank end i w (kept (chars (drop (i + w) s))))
 
-  pub kept-solid : i < length s → w ≡ decode (drop i s) .width → 0 < w → blank (decode (drop i s) .cp) ≡ false → endOf end i (kept (chars (drop i s))) ≡ endOf (i + w) (i + w) (kept (chars (drop (i + w) s)))
-  kept-solid h e l y = rw (kept-at h e, y) (end-solid end i w (kept (chars (drop (i + w) s))) l)
+  pub kept-not-blank : i < length s → w ≡ decode (drop i s) .width → 0 < w → blank (decode (drop i s) .cp) ≡ false → endOf end i (kept (chars (drop i s))) ≡ endOf (i + w) (i + w) (kept (chars (drop (i + w) s)))
+  kept-not-blank h e l y = rw (kept-at h e, y) (end-not-blank end i w (kept (chars (drop (i + w) s))) l)
 
 pub kept-end : (s : List ℕ) (end i : ℕ) → length s ≤ i → endOf end i (kept (chars (drop i s))) ≡ end
 unfolding kept
@@ -79,10 +79,10 @@ unfoldable widths : List Decoded → ℕ
 widths [] = 0
 widths (c ∷ cs) = c .width + widths cs
 
-snoc-solid : (cs : List Decoded) (c : Decoded) → blank (c .cp) ≡ false → 0 < c .width → kept (cs ++ c ∷ []) ≡ widths cs + c .width
+snoc-not-blank : (cs : List Decoded) (c : Decoded) → blank (c .cp) ≡ false → 0 < c .width → kept (cs ++ c ∷ []) ≡ widths cs + c .width
 unfolding kept widths
-snoc-solid [] c e h = rw e (omega arith)
-snoc-solid (x ∷ cs) c e h = go (blank (x .cp)) (kept (cs ++ c ∷ [])) (snoc-solid cs c e h)
+snoc-not-blank [] c e h = rw e (omega arith)
+snoc-not-blank (x ∷ cs) c e h = go (blank (x .cp)) (kept (cs ++ c ∷ [])) (snoc-not-blank cs c e h)
   where
     go : (t : Bool) (k : ℕ) → k ≡ widths cs + c .width → keptBy t (x .width) k ≡ x .width + widths cs + c .width
     go true zero z = absurd (omega arith)
@@ -101,12 +101,12 @@ widths-step (x ∷ s) ih =
 widths-all : (l : List ℕ) → widths (chars l) ≡ length l
 widths-all l = by-length (λ (l : List ℕ). widths (chars l) ≡ length l) widths-step l
 
-before-le : (p : ℕ → Bool) (cs : List Decoded) → before p cs ≤ widths cs
-unfolding before widths
+before-le : (p : ℕ → Bool) (cs : List Decoded) → bytesBefore p cs ≤ widths cs
+unfolding bytesBefore widths
 before-le p [] = zero-le
 before-le p (c ∷ cs) = go (p (c .cp)) (before-le p cs)
   where
-    go : (t : Bool) → before p cs ≤ widths cs → pick t 0 (c .width + before p cs) ≤ c .width + widths cs
+    go : (t : Bool) → bytesBefore p cs ≤ widths cs → pick t 0 (c .width + bytesBefore p cs) ≤ c .width + widths cs
     go true h = zero-le
     go false h = omega arith
 
@@ -133,7 +133,7 @@ module _ (b : ℕ) (low : b < 0x80) where
 
   width-snoc : (x : ℕ) (s : List ℕ) → widthOf (x ∷ s ++ b ∷ []) ≡ widthOf (x ∷ s)
   unfolding widthOf
-  width-snoc x s = rows-snoc table x s table-shaped
+  width-snoc x s = rows-snoc table3-7 x s table-shaped
 
   decoded-snoc : (w : ℕ) (l : List ℕ) → w ≤ length l → decoded w (l ++ b ∷ []) ≡ decoded w l
   unfolding decoded
@@ -175,10 +175,10 @@ module _ (b : ℕ) (low : b < 0x80) where
   pub ends-blank : (s : List ℕ) (e : ℕ) → 0 < e → e ≤ length s → getD s (e - 1) 0 ≡ b → blank b ≡ true → kept (chars (take e s)) ≡ kept (chars (take (e - 1) s))
   ends-blank s e h k y t = rw (last-is s e h k y, chars-snoc (take (e - 1) s), decode-one) (snoc-blank (chars (take (e - 1) s)) (record { cp = b; width = 1 }) t)
 
-  pub ends-solid : (s : List ℕ) (e : ℕ) → 0 < e → e ≤ length s → getD s (e - 1) 0 ≡ b → blank b ≡ false → kept (chars (take e s)) ≡ e
-  ends-solid s e h k y t =
+  pub ends-not-blank : (s : List ℕ) (e : ℕ) → 0 < e → e ≤ length s → getD s (e - 1) 0 ≡ b → blank b ≡ false → kept (chars (take e s)) ≡ e
+  ends-not-blank s e h k y t =
       rw (last-is s e h k y, chars-snoc (take (e - 1) s), decode-one)
-      (snoc-solid (chars (take (e - 1) s)) (record { cp = b; width = 1 }) t (omega arith) ∙ rw (widths-all (take (e - 1) s), length-take-le (e - 1) s (omega arith)) (omega arith))
+      (snoc-not-blank (chars (take (e - 1) s)) (record { cp = b; width = 1 }) t (omega arith) ∙ rw (widths-all (take (e - 1) s), length-take-le (e - 1) s (omega arith)) (omega arith))
 
 -- what is kept of all the bytes, and of none
 pub kept-all : (s : List ℕ) → kept (chars s) ≡ kept (chars (take (length s) s))

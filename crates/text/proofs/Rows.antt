@@ -11,8 +11,8 @@ use lib.Dec.{leb, ltb}
 use lib.ListN.{length, getD, drop, length-drop}
 use lib.Seq.{drop-cons}
 use borrow.Author.Tests.{le-leb, lt-leb, ltb-true, leb-true}
-use Rattle.text.specs.Pick.{Range, span, within, pick}
-use Rattle.text.specs.Utf8.{begins, widthBy, table, widthOf}
+use Rattle.text.specs.Pick.{Range, range, within, pick}
+use Rattle.text.specs.Utf8.{begins, widthBy, table3-7, widthOf}
 use Rattle.text.proofs.Bool.{and-left, and-right}
 
 pub within-lo : (lo hi b : ℕ) → within lo hi b ≡ true → lo ≤ b
@@ -34,15 +34,15 @@ begins-at : (r : Range) (rs : List Range) (s : List ℕ) (at : ℕ) → at < len
 unfolding begins
 begins-at r rs s at h = rw (place s at h)
 
-pub begins-yes : (lo hi : ℕ) (rs : List Range) (s : List ℕ) (at : ℕ) → at < length s → within lo hi (getD s at 0) ≡ true → begins (span lo hi ∷ rs) (drop at s) ≡ begins rs (drop (at + 1) s)
-begins-yes lo hi rs s at h e = begins-at (span lo hi) rs s at h ∙ ap (λ (t : Bool). (t && begins rs (drop (at + 1) s))) e
+pub begins-yes : (lo hi : ℕ) (rs : List Range) (s : List ℕ) (at : ℕ) → at < length s → within lo hi (getD s at 0) ≡ true → begins (range lo hi ∷ rs) (drop at s) ≡ begins rs (drop (at + 1) s)
+begins-yes lo hi rs s at h e = begins-at (range lo hi) rs s at h ∙ ap (λ (t : Bool). (t && begins rs (drop (at + 1) s))) e
 
-pub begins-no : (lo hi : ℕ) (rs : List Range) (s : List ℕ) (at : ℕ) → at < length s → within lo hi (getD s at 0) ≡ false → begins (span lo hi ∷ rs) (drop at s) ≡ false
-begins-no lo hi rs s at h e = begins-at (span lo hi) rs s at h ∙ ap (λ (t : Bool). (t && begins rs (drop (at + 1) s))) e
+pub begins-no : (lo hi : ℕ) (rs : List Range) (s : List ℕ) (at : ℕ) → at < length s → within lo hi (getD s at 0) ≡ false → begins (range lo hi ∷ rs) (drop at s) ≡ false
+begins-no lo hi rs s at h e = begins-at (range lo hi) rs s at h ∙ ap (λ (t : Bool). (t && begins rs (drop (at + 1) s))) e
 
 -- the last byte of a row
-pub begins-one : (lo hi : ℕ) (s : List ℕ) (at : ℕ) → at < length s → begins (span lo hi ∷ []) (drop at s) ≡ within lo hi (getD s at 0)
-begins-one lo hi s at h = begins-at (span lo hi) [] s at h ∙ rw (begins-nil (drop (at + 1) s)) (and-true (within lo hi (getD s at 0)))
+pub begins-one : (lo hi : ℕ) (s : List ℕ) (at : ℕ) → at < length s → begins (range lo hi ∷ []) (drop at s) ≡ within lo hi (getD s at 0)
+begins-one lo hi s at h = begins-at (range lo hi) [] s at h ∙ rw (begins-nil (drop (at + 1) s)) (and-true (within lo hi (getD s at 0)))
 
 -- a sequence is no longer than the list that it is in
 begun : (rs : List Range) (s : List ℕ) → begins rs s ≡ true → length rs ≤ length s
@@ -69,7 +69,7 @@ width-by-le (row ∷ rows) s = pick-le (begins row s) (length row) (widthBy rows
 
 pub width-le : (s : List ℕ) → widthOf s ≤ length s
 unfolding widthOf
-width-le s = width-by-le table s
+width-le s = width-by-le table3-7 s
 
 -- what a test says of every row of the table, it says of each
 unfoldable pub every : (List Range → Bool) → List (List Range) → Bool
@@ -85,17 +85,17 @@ every-in p (q ∷ rows) row e (List·Memᴰ·tail m) = every-in p rows row (and-
 sized : List Range → Bool
 sized row = within 1 4 (length row)
 
-table-sized : every sized table ≡ true
-unfolding every sized table
+table-sized : every sized table3-7 ≡ true
+unfolding every sized table3-7
 table-sized = refl
 
-pub row-long : (row : List Range) → List·Memᴰ row table → 0 < length row
+pub row-long : (row : List Range) → List·Memᴰ row table3-7 → 0 < length row
 unfolding sized
-row-long row m = within-lo 1 4 (length row) (every-in sized table row table-sized m)
+row-long row m = within-lo 1 4 (length row) (every-in sized table3-7 row table-sized m)
 
-pub row-short : (row : List Range) → List·Memᴰ row table → length row ≤ 4
+pub row-short : (row : List Range) → List·Memᴰ row table3-7 → length row ≤ 4
 unfolding sized
-row-short row m = within-hi 1 4 (length row) (every-in sized table row table-sized m)
+row-short row m = within-hi 1 4 (length row) (every-in sized table3-7 row table-sized m)
 
 -- the width that a test picks
 pub picked : (w n : ℕ) (t : Bool) → w ≡ pick t n 0 → not t ≡ false → w ≡ n
@@ -132,8 +132,8 @@ rising [] = true
 rising ([] ∷ rows) = false
 rising ((r ∷ rs) ∷ rows) = above (r .hi) rows && rising rows
 
-table-rises : rising table ≡ true
-unfolding rising above table
+table-rises : rising table3-7 ≡ true
+unfolding rising above table3-7
 table-rises = refl
 
 under-all : (h : ℕ) (rows : List (List Range)) (b : ℕ) (s : List ℕ) → above h rows ≡ true → b ≤ h → widthBy rows (b ∷ s) ≡ 0
@@ -180,12 +180,12 @@ row-among ((q ∷ qs) ∷ rows) r rs b s e (List·Memᴰ·tail m) g h =
     over q qs rows b s (omega arith) ∙ row-among rows r rs b s (and-right (above (q .hi) rows) (rising rows) e) m g h
 
 -- a first byte in the first range of a row
-pub row-in : (r : Range) (rs : List Range) (b : ℕ) (s : List ℕ) → List·Memᴰ (r ∷ rs) table → r .lo ≤ b → b ≤ r .hi → widthOf (b ∷ s) ≡ pick (begins rs s) (suc (length rs)) 0
+pub row-in : (r : Range) (rs : List Range) (b : ℕ) (s : List ℕ) → List·Memᴰ (r ∷ rs) table3-7 → r .lo ≤ b → b ≤ r .hi → widthOf (b ∷ s) ≡ pick (begins rs s) (suc (length rs)) 0
 unfolding widthOf
-row-in r rs b s m g h = row-among table r rs b s table-rises m g h
+row-in r rs b s m g h = row-among table3-7 r rs b s table-rises m g h
 
 -- the width of a list that begins with a row is the row's
-pub row-begins : (row : List Range) (l : List ℕ) → List·Memᴰ row table → begins row l ≡ true → widthOf l ≡ length row
+pub row-begins : (row : List Range) (l : List ℕ) → List·Memᴰ row table3-7 → begins row l ≡ true → widthOf l ≡ length row
 unfolding begins
 row-begins [] l m e = absurd (not-suc-le-zero (row-long [] m))
 row-begins (r ∷ rs) [] m e = absurd (false≢true e)
@@ -200,23 +200,23 @@ row-there (row ∷ rows) (suc k) h = List·Memᴰ·tail (row-there rows k (le-of
 
 -- row number k, from 0, at a place
 abbrev rowOf : ℕ → List Range
-rowOf k = getD table k []
+rowOf k = getD table3-7 k []
 
 module _ (s : List ℕ) (at : ℕ) (h : at < length s) where
   abbrev b : ℕ
   b = getD s at 0
 
   pub row-at : (k : ℕ) (r : Range) (rs : List Range) → k < 9 → rowOf k ≡ r ∷ rs → r .lo ≤ b → b ≤ r .hi → widthOf (drop at s) ≡ pick (begins rs (drop (at + 1) s)) (suc (length rs)) 0
-  unfolding table
+  unfolding table3-7
   row-at k r rs l e g t =
-      let m : List·Memᴰ (r ∷ rs) table = rw e at (row-there table k l) in
+      let m : List·Memᴰ (r ∷ rs) table3-7 = rw e at (row-there table3-7 k l) in
       rw (place s at h) (row-in r rs b (drop (at + 1) s) m g t)
 
   -- between the rows of one byte and of two, and past the last
   pub row-low : 0x80 ≤ b → b < 0xC2 → widthOf (drop at s) ≡ 0
-  unfolding widthOf table above
-  row-low g t = rw (place s at h) (over (span 0x00 0x7F) [] _ b (drop (at + 1) s) (omega arith) ∙ under-all 0xC1 _ b (drop (at + 1) s) refl (omega arith))
+  unfolding widthOf table3-7 above
+  row-low g t = rw (place s at h) (over (range 0x00 0x7F) [] _ b (drop (at + 1) s) (omega arith) ∙ under-all 0xC1 _ b (drop (at + 1) s) refl (omega arith))
 
   pub row-high : 0xF4 < b → widthOf (drop at s) ≡ 0
-  unfolding widthOf table beneath
-  row-high g = rw (place s at h) (over-all 0xF4 table b (drop (at + 1) s) refl g)
+  unfolding widthOf table3-7 beneath
+  row-high g = rw (place s at h) (over-all 0xF4 table3-7 b (drop (at + 1) s) refl g)

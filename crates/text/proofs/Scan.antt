@@ -9,8 +9,8 @@ use native.Mathlib.Numerals.{add-one}
 use native.Mathlib.Omega.{arith}
 use lib.ListN.{length, getD, drop, length-drop}
 use lib.Seq.{drop-drop}
-use Rattle.text.specs.Pick.{span}
-use Rattle.text.specs.Utf8.{table, begins, widthOf, after, scan}
+use Rattle.text.specs.Pick.{range}
+use Rattle.text.specs.Utf8.{table3-7, begins, widthOf, afterWidth, scan}
 use Rattle.text.specs.Scans.{Ascii, Passed}
 use Rattle.text.proofs.Rows.{row-at, width-le}
 
@@ -22,7 +22,7 @@ skip [] (suc k) at = refl
 skip (b ∷ s) (suc k) at = skip s k (suc at) ∙ ap (scan (drop k s) 0) (omega arith)
 
 pub over : (l : List ℕ) (w at : ℕ) → widthOf l ≡ w → 0 < w → scan l 0 at ≡ scan (drop w l) 0 (at + w)
-unfolding scan after
+unfolding scan afterWidth
 over l zero at e h = absurd (not-suc-le-zero h)
 over [] (suc k) at e h = refl
 over (b ∷ s) (suc k) at e h = rw e (skip s k (suc at) ∙ ap (scan (drop k s) 0) (omega arith))
@@ -32,7 +32,7 @@ pub past : (s : List ℕ) (at w : ℕ) → widthOf (drop at s) ≡ w → 0 < w �
 past s at w e h = over (drop at s) w at e h ∙ ap (λ (l : List ℕ). scan l 0 (at + w)) (drop-drop w at s)
 
 pub bad : (l : List ℕ) (at : ℕ) → 0 < length l → widthOf l ≡ 0 → scan l 0 at ≡ some at
-unfolding scan after
+unfolding scan afterWidth
 bad [] at h e = absurd (not-suc-le-zero h)
 bad (b ∷ s) at h e = rw e
 
@@ -51,8 +51,8 @@ pub within-text : (s : List ℕ) (at : ℕ) → at ≤ length s → at + widthOf
 within-text s at h = omega (arith, width-le (drop at s), length-drop at s)
 
 pub ascii-one : (s : List ℕ) (at : ℕ) → at < length s → getD s at 0 < 0x80 → widthOf (drop at s) ≡ 1
-unfolding table begins
-ascii-one s at h l = row-at s at h 0 (span 0x00 0x7F) [] (omega arith) refl (omega arith) (omega arith)
+unfolding table3-7 begins
+ascii-one s at h l = row-at s at h 0 (range 0x00 0x7F) [] (omega arith) refl (omega arith) (omega arith)
 
 -- past a run of ASCII
 ascii-by : (n : ℕ) (s : List ℕ) (from to : ℕ) → to - from ≡ n → from ≤ to → to ≤ length s → Ascii s from to → scan (drop from s) 0 from ≡ scan (drop to s) 0 to

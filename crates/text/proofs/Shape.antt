@@ -10,7 +10,7 @@ use lib.Dec.{leb, ltb}
 use lib.ListN.{length, getD}
 use borrow.Author.Tests.{le-leb, lt-leb, leb-true, ltb-true}
 use Rattle.text.specs.Pick.{Range, within}
-use Rattle.text.specs.Utf8.{table, fits, Made, nothing, more}
+use Rattle.text.specs.Utf8.{table3-7, fits, Made, nothing, more}
 use Rattle.text.proofs.Rows.{within-lo, within-hi, every, every-in}
 use Rattle.text.proofs.Bool.{and-left, and-right}
 
@@ -39,8 +39,8 @@ unfoldable pub shaped : List Range → Bool
 shaped [] = false
 shaped (r ∷ rs) = apart r && further rs
 
-pub table-shaped : every shaped table ≡ true
-unfolding every shaped further table
+pub table-shaped : every shaped table3-7 ≡ true
+unfolding every shaped further table3-7
 table-shaped = refl
 
 -- a byte in a row of further bytes
@@ -65,14 +65,14 @@ first-byte r b e f = go (ltb (r .hi) 0x80) refl e
     go false y z = let l = ltb-true 0xBF (r .lo) z in rw (lt-leb b 0xBF (omega (arith, within-lo (r .lo) (r .hi) b f)), and-false (leb 0x80 b))
 
 -- of a sequence that is a row of the table: its first byte, and the others
-pub row-first : (row : List Range) (b : ℕ) (a : List ℕ) → List·Memᴰ row table → fits row (b ∷ a) ≡ true → within 0x80 0xBF b ≡ false
+pub row-first : (row : List Range) (b : ℕ) (a : List ℕ) → List·Memᴰ row table3-7 → fits row (b ∷ a) ≡ true → within 0x80 0xBF b ≡ false
 unfolding shaped
 row-first [] b a m f = absurd (false≢true f)
 row-first (r ∷ rs) b a m f =
-    first-byte r b (and-left (apart r) (further rs) (every-in shaped table (r ∷ rs) table-shaped m)) (and-left (within (r .lo) (r .hi) b) (fits rs a) f)
+    first-byte r b (and-left (apart r) (further rs) (every-in shaped table3-7 (r ∷ rs) table-shaped m)) (and-left (within (r .lo) (r .hi) b) (fits rs a) f)
 
-pub row-further : (row : List Range) (b : ℕ) (a : List ℕ) (k : ℕ) → List·Memᴰ row table → fits row (b ∷ a) ≡ true → k < length a → within 0x80 0xBF (getD a k 0) ≡ true
+pub row-further : (row : List Range) (b : ℕ) (a : List ℕ) (k : ℕ) → List·Memᴰ row table3-7 → fits row (b ∷ a) ≡ true → k < length a → within 0x80 0xBF (getD a k 0) ≡ true
 unfolding shaped
 row-further [] b a k m f h = absurd (false≢true f)
 row-further (r ∷ rs) b a k m f h =
-    further-byte rs a k (and-right (apart r) (further rs) (every-in shaped table (r ∷ rs) table-shaped m)) (and-right (within (r .lo) (r .hi) b) (fits rs a) f) h
+    further-byte rs a k (and-right (apart r) (further rs) (every-in shaped table3-7 (r ∷ rs) table-shaped m)) (and-right (within (r .lo) (r .hi) b) (fits rs a) f) h

@@ -18,13 +18,13 @@ abbrev pub chars : List ℕ → List Decoded
 chars s = charsPast 0 s
 
 -- how many bytes the characters take that stand before the first whose code point passes the test; all of them where none does
-unfoldable pub before : (ℕ → Bool) → List Decoded → ℕ
-before p [] = 0
-before p (c ∷ cs) = pick (p (c .cp)) 0 (c .width + before p cs)
+unfoldable pub bytesBefore : (ℕ → Bool) → List Decoded → ℕ
+bytesBefore p [] = 0
+bytesBefore p (c ∷ cs) = pick (p (c .cp)) 0 (c .width + bytesBefore p cs)
 
 -- the Rust's `find` of a character, with `unwrap_or(len)`
 abbrev pub find : (ℕ → Bool) → List ℕ → ℕ
-find p s = before p (chars s)
+find p s = bytesBefore p (chars s)
 
 -- how many bytes stand before the first byte that passes the test; all of them where none does
 unfoldable pub findByte : (ℕ → Bool) → List ℕ → ℕ
@@ -37,5 +37,5 @@ between [] at = eqb at 0
 between (c ∷ cs) at = eqb at 0 || (leb (c .width) at && between cs (at - c .width))
 
 -- the place is inside the text, or at its end, and no further byte of a sequence stands there
-abbrev pub starts : List ℕ → ℕ → Bool
-starts s at = eqb at 0 || (eqb at (length s) || (leb at (length s) && not (within 0x80 0xBF (getD s at 0))))
+abbrev pub isBoundary : List ℕ → ℕ → Bool
+isBoundary s at = eqb at 0 || (eqb at (length s) || (leb at (length s) && not (within 0x80 0xBF (getD s at 0))))

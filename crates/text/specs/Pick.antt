@@ -2,7 +2,7 @@
 use Prim.Native.Nat.{ℕ, _+_}
 use mathlib.Core.Bool.{Bool, true, false, not, _&&_, _||_}
 use mathlib.Core.List.{List, [], _∷_}
-use mathlib.Core.Option.{Option}
+use mathlib.Core.Option.{Option, some, none}
 use lib.Dec.{leb}
 use lib.ListN.{take, drop}
 
@@ -11,8 +11,8 @@ pub record Range : Type 0 where
   pub lo : ℕ
   pub hi : ℕ
 
-abbrev pub span : ℕ → ℕ → Range
-span lo hi = record { lo = lo; hi = hi }
+abbrev pub range : ℕ → ℕ → Range
+range lo hi = record { lo = lo; hi = hi }
 
 -- the two are equal
 abbrev pub same : Bool → Bool → Bool
@@ -23,6 +23,11 @@ same false b = not b
 abbrev pub pick : {A : Type 0} → Bool → A → A → A
 pick true a b = a
 pick false a b = b
+
+-- there is a number
+abbrev pub known : Option ℕ → Bool
+known none = false
+known (some n) = true
 
 -- the number lies between the two ends, both included
 abbrev pub within : ℕ → ℕ → ℕ → Bool

@@ -9,12 +9,12 @@ use Rattle.text.specs.declared.Decoded.{Decoded}
 use Rattle.text.specs.Blank.{blank}
 use Rattle.text.specs.Characters.{chars, find}
 
-abbrev pub solid : ℕ → Bool
-solid c = not (blank c)
+abbrev pub notBlank : ℕ → Bool
+notBlank c = not (blank c)
 
 -- the Rust's `trim_start`
 unfoldable pub trimStart : List ℕ → Part
-trimStart s = record { start = find solid s; len = length s - find solid s }
+trimStart s = record { start = find notBlank s; len = length s - find notBlank s }
 
 -- of a blank character of the width, or one that isn't blank, and how many bytes are kept after it
 abbrev pub keptBy : Bool → ℕ → ℕ → ℕ
@@ -29,7 +29,7 @@ kept (c ∷ cs) = keptBy (blank (c .cp)) (c .width) (kept cs)
 
 -- the Rust's `trim`
 unfoldable pub trim : List ℕ → Part
-trim s = record { start = find solid s; len = kept (chars (drop (find solid s) s)) }
+trim s = record { start = find notBlank s; len = kept (chars (drop (find notBlank s) s)) }
 
 -- the Rust's `trim().is_empty()`
 unfoldable pub blankText : List ℕ → Bool
@@ -37,7 +37,7 @@ blankText s = eqb (trim s .len) 0
 
 -- the first word from a place on; at the end, and empty, where there is none
 unfoldable pub wordFrom : ℕ → List ℕ → Part
-wordFrom i s = record { start = i + find solid (drop i s); len = find blank (drop (i + find solid (drop i s)) s) }
+wordFrom i s = record { start = i + find notBlank (drop i s); len = find blank (drop (i + find notBlank (drop i s)) s) }
 
 -- the Rust's `split_whitespace`, its first word and its second
 abbrev pub firstWord : List ℕ → Part

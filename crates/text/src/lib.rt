@@ -5,10 +5,10 @@ ghost use mathlib.Core.Bool.{true, not};
 ghost use mathlib.Core.List.{_∷_, []};
 ghost use lib.Dec.{eqb};
 ghost use lib.ListN.{length, drop, getD, take};
-ghost use Rattle.text.specs.Pick.{span, within, same, cut, pick};
-ghost use Rattle.text.specs.Utf8.{begins, widthOf, firstIllFormed, placeOf, replacement, decode};
+ghost use Rattle.text.specs.Pick.{range, within, same, cut, pick};
+ghost use Rattle.text.specs.Utf8.{begins, widthOf, firstIllFormed, utf8Place, replacement, decode};
 ghost use Rattle.text.specs.Blank.{blank};
-ghost use Rattle.text.specs.Characters.{chars, before, find, findByte, starts};
+ghost use Rattle.text.specs.Characters.{chars, bytesBefore, find, findByte, isBoundary};
 ghost use Rattle.text.specs.Words.{blankText, trimStart, trim, kept, firstWord, secondWord};
 ghost use Rattle.text.specs.Number.{digit, digits, parsed, numberOf};
 ghost use Rattle.text.specs.Scans.{Ascii, eightBytes, fourBytes, High, Ended, Led, Passed, secondLow, secondHigh, blankIs};
@@ -40,7 +40,7 @@ pub fn holds(b: u8, lo: u8, hi: u8) -> bool
 
 fn two(s: &[u8], at: usize) -> bool
     requires { ⌜ at ≤ length (now s) ⌝ }
-    ensures { λ r. ⌜ r ≡ begins (span 0x80 0xBF ∷ []) (drop at (now (s .entry))) ⌝ }
+    ensures { λ r. ⌜ r ≡ begins (range 0x80 0xBF ∷ []) (drop at (now (s .entry))) ⌝ }
 {
     if s.len() - at < 1 {
         return false;
@@ -50,7 +50,7 @@ fn two(s: &[u8], at: usize) -> bool
 
 fn three(s: &[u8], at: usize, lo: u8, hi: u8) -> bool
     requires { ⌜ at ≤ length (now s) ⌝ }
-    ensures { λ r. ⌜ r ≡ begins (span lo hi ∷ span 0x80 0xBF ∷ []) (drop at (now (s .entry))) ⌝ }
+    ensures { λ r. ⌜ r ≡ begins (range lo hi ∷ range 0x80 0xBF ∷ []) (drop at (now (s .entry))) ⌝ }
 {
     if s.len() - at < 2 {
         return false;
@@ -64,7 +64,7 @@ fn three(s: &[u8], at: usize, lo: u8, hi: u8) -> bool
 
 fn four(s: &[u8], at: usize, lo: u8, hi: u8) -> bool
     requires { ⌜ at ≤ length (now s) ⌝ }
-    ensures { λ r. ⌜ r ≡ begins (span lo hi ∷ span 0x80 0xBF ∷ span 0x80 0xBF ∷ []) (drop at (now (s .entry))) ⌝ }
+    ensures { λ r. ⌜ r ≡ begins (range lo hi ∷ range 0x80 0xBF ∷ range 0x80 0xBF ∷ []) (drop at (now (s .entry))) ⌝ }
 {
     if s.len() - at < 3 {
         return false;
@@ -245,7 +245,7 @@ fn passed(s: &[u8], at: usize) -> usize
 
 // The place of the first ill-formed sequence, if there is one.
 pub fn utf8_check(s: &[u8]) -> Utf8
-    ensures { λ r. ⌜ placeOf r ≡ firstIllFormed (now (s .entry)) ⌝ }
+    ensures { λ r. ⌜ utf8Place r ≡ firstIllFormed (now (s .entry)) ⌝ }
 {
     let n = s.len();
     let mut i: usize = 0;
@@ -355,7 +355,7 @@ fn decode_in(s: &[u8], at: usize) -> Decoded
 
 // Whether a place of well-formed text lies between two characters, or at either end.
 pub fn is_char_boundary(s: &[u8], at: usize) -> bool
-    ensures { λ r. ⌜ r ≡ starts (now (s .entry)) at ⌝ }
+    ensures { λ r. ⌜ r ≡ isBoundary (now (s .entry)) at ⌝ }
 {
     if s.len() <= at {
         return at == s.len();

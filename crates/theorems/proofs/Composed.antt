@@ -16,7 +16,7 @@ use Rattle.text.specs.Utf8.{firstIllFormed}
 use Rattle.text.proofs.Exact.{utf8-place}
 use Rattle.tape.specs.Nodes.{count}
 use Rattle.tape.specs.Reading.{badLength, badKind, badSpan, goodRoot, Step, go, stop, step, resume, read, tapeRefusal}
-use Rattle.tape.specs.Conditions.{Plain}
+use Rattle.tape.specs.Conditions.{GoodNodes}
 use Rattle.refusals.proofs.First.{refused, which, neither, only, only-not, first-of, none-of, first-is}
 use Rattle.tape.proofs.Machine.{Odd, step-odd}
 use Rattle.tape.proofs.OneNumber.{some-nodes, one-number-7, one-number-8, accepted}
@@ -175,7 +175,7 @@ module _ (l : Lent) where
       by (inl x) = inl (only (not (goodRoot t)) 7 0 r x .1)
       by (inr x) = read-number t (n - 1) 1 [] r (x .1)
 
-  module _ (plain : Plain s t) (is : tapeRefusal s t ≡ part78) where
+  module _ (plain : GoodNodes s t) (is : tapeRefusal s t ≡ part78) where
     at-7 : (place : ℕ) → Condition l 7 place → part78 ≡ refuse 7 place
     at-7 place h = sym is ∙ one-number-7 s t place .1 (plain, h)
 
@@ -217,7 +217,7 @@ module _ (l : Lent) where
             let g = not-false (goodRoot t) (only-not (not (goodRoot t)) 7 0 (neither (onlyIf (not (goodRoot t)) (refuse 7 0)) (read t (n - 1) 1 []) e .0)) in
             refused _ (sym (at-8 place g (rw z at h)) ∙ e)
 
-  plain-of : part4 ≡ none → part5 ≡ none → part6 ≡ none → Plain s t
+  plain-of : part4 ≡ none → part5 ≡ none → part6 ≡ none → GoodNodes s t
   plain-of a b c =
       let e = only-not (badLength t) 4 0 a in
       let h = some-nodes s t e in

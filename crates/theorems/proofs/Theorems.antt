@@ -21,7 +21,7 @@ use denote.Triple.End.{all}
 use denote.Triple.Spec.{Spec, Meets, exits}
 use Rattle.reference_laws.proofs.Call.{clauses}
 use Rattle.text.specs.Utf8.{firstIllFormed, Made, FirstIllFormed}
-use Rattle.text.specs.Characters.{chars, between, starts}
+use Rattle.text.specs.Characters.{chars, between, isBoundary}
 use Rattle.text.proofs.Exact as exact
 use Rattle.text.proofs.Boundary as characters
 use Rattle.tape.specs.Nodes.{count, linkAt}
@@ -30,7 +30,7 @@ use Rattle.tape.specs.Forest.{Forest, Accepted, top}
 use Rattle.tape.specs.Alike.{BeginAlike}
 use Rattle.tape.proofs.OneNumber as tape
 use Rattle.findings.specs.Finding.{Finding}
-use Rattle.findings.specs.Written.{room, encode}
+use Rattle.findings.specs.Written.{wholeRecords, room, encode}
 use Rattle.definition.specs.Milestones.{visits, marks, freeStarts, takenFrom}
 use Rattle.definition.specs.Document.{walked, running, unclosedOf, those, Beginning}
 use Rattle.definition.specs.Outcome.{Lent, refusal, listOf, checkedOf, answer, listAfter, seenAfter, openAfter}
@@ -49,7 +49,7 @@ use Rattle.validate.proofs.Lists as lists
 use Rattle.messages.specs.Message.{requestOf, messageText}
 use Rattle.messages.proofs.Every.{AllOf}
 use Rattle.messages.proofs.HasMessage as message
-use Rattle.tally.specs.Tally.{whole, tallyRefusal, tallyOf, sum}
+use Rattle.tally.specs.Tally.{tallyRefusal, tallyOf, sum}
 use Rattle.tally.proofs.Sums as sums
 use Rattle.tally.proofs.Total as totals
 use Rattle.trial_items.specs.Items as items
@@ -122,7 +122,7 @@ utf8-place s at = exact.utf8-place s at
 
 -- "A span from node 1 on leaves the source or splits a character; place: that node."
 -- In text made of rows the byte at a place tells whether the place lies between two characters.
-pub boundary : (s : List ℕ) → Made s → (at : ℕ) → starts s at ≡ between (chars s) at
+pub boundary : (s : List ℕ) → Made s → (at : ℕ) → isBoundary s at ≡ between (chars s) at
 boundary s made at = characters.boundary made at
 
 -- "Read nodes from 1 with the opens not yet closed, the root outermost. A close (kinds MarkerClose, BlockEnd) at i must be the link of the innermost open."
@@ -180,7 +180,7 @@ finding-has-message l none-given = message.finding-has-message l none-given
 
 -- "Tally gives 35 counts by code."
 -- The counts of a list that number 11 does not turn back sum to its number of records.
-pub tally-sums : (words : List ℕ) → tallyRefusal words ≡ none → sum (tallyOf words) ≡ whole words
+pub tally-sums : (words : List ℕ) → tallyRefusal words ≡ none → sum (tallyOf words) ≡ wholeRecords words
 tally-sums words none-given = sums.tally-sums words none-given
 
 -- "All but verses are lengths of the defined list or its parts"
@@ -192,10 +192,10 @@ tally-total l none-given fits = totals.tally-total l none-given fits
 
 -- "Items 1 to 12 are collected in one table about the definitions and settled by one proof"
 -- Each item of the table gives what document 01 says.
-pub trial-items : items.given items.items ≡ items.wantedOf items.items
+pub trial-items : items.outcomesOf items.items ≡ items.wantedOutcomes items.items
 trial-items = settled.trial-items
 
 -- "An empty list for every passage, one stock finding, or lists never written: each breaks demand 2."
 -- Each of fourteen documents has the findings that are written beside it: the listing's document, one for each slip that document 01 names, and others.
-pub worked-examples : examples.given examples.examples ≡ examples.wantedOf examples.examples
+pub worked-examples : examples.findingsOf examples.examples ≡ examples.wantedFindings examples.examples
 worked-examples = worked.worked-examples

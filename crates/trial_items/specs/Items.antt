@@ -5,7 +5,7 @@ use mathlib.Core.List.{List, [], _∷_}
 use mathlib.Core.Option.{Option, some, none}
 use Rattle.text.specs.Literal.{ascii}
 use Rattle.numbers.specs.Verse.{Position, versePart, verseEnd, next, inSequence}
-use Rattle.rows.specs.Cells.{Range, cellColumns}
+use Rattle.rows.specs.Cells.{Columns, cellColumns}
 use Rattle.findings.specs.Finding.{Kind}
 use Rattle.attributes.specs.Attributes.{kind, attributeKinds}
 
@@ -19,8 +19,8 @@ pub data Outcome : Type 0 where
   noColumns : Outcome
   kinds : List Kind → Outcome
 
-abbrev pub at : ℕ → Option ℕ → Position
-at n letter = record { number = n; letter = letter }
+abbrev pub verse : ℕ → Option ℕ → Position
+verse n letter = record { number = n; letter = letter }
 
 abbrev pub inOrder : Bool → Outcome
 inOrder true = passes
@@ -34,20 +34,20 @@ orderBy expected (some p) = inOrder (inSequence expected p)
 abbrev pub order : Position → List ℕ → Outcome
 order expected label = orderBy expected (versePart label)
 
-abbrev pub positionOf : Position → Outcome
-positionOf p = position (p .number) (p .letter)
+abbrev pub positionOutcome : Position → Outcome
+positionOutcome p = position (p .number) (p .letter)
 
 -- "The end is read after the first `-`, else the start serves."
 abbrev pub followingBy : Option Position → Option Position → Outcome
 followingBy none e = unread
-followingBy (some p) none = positionOf (next p)
-followingBy (some p) (some e) = positionOf (next e)
+followingBy (some p) none = positionOutcome (next p)
+followingBy (some p) (some e) = positionOutcome (next e)
 
 -- the position expected after a label
 abbrev pub following : List ℕ → Outcome
 following label = followingBy (versePart label) (verseEnd label)
 
-abbrev pub columnsBy : Option Range → Outcome
+abbrev pub columnsBy : Option Columns → Outcome
 columnsBy none = noColumns
 columnsBy (some r) = columns (r .start) (r .end)
 
@@ -68,11 +68,11 @@ item n g w = record { number = n; gives = g; wanted = w }
 
 unfoldable pub items : List Item
 items =
-    item 1 (order (at 10 none) (ascii "9a")) passes
-    ∷ item 2 (order (at 10 none) (ascii "9")) finding
-    ∷ item 3 (order (at 9 (some 0x62)) (ascii "10")) passes
-    ∷ item 4 (order (at 9 (some 0x62)) (ascii "9")) finding
-    ∷ item 5 (order (at 10 none) (ascii "10a")) passes
+    item 1 (order (verse 10 none) (ascii "9a")) passes
+    ∷ item 2 (order (verse 10 none) (ascii "9")) finding
+    ∷ item 3 (order (verse 9 (some 0x62)) (ascii "10")) passes
+    ∷ item 4 (order (verse 9 (some 0x62)) (ascii "9")) finding
+    ∷ item 5 (order (verse 10 none) (ascii "10a")) passes
     ∷ item 6 (following (ascii "3-5")) (position 6 none)
     ∷ item 7 (following (ascii "3-")) (position 4 none)
     ∷ item 8 (following (ascii "9z")) (position 9 (some 123))
@@ -82,10 +82,10 @@ items =
     ∷ item 12 (attributes (ascii "lemma=\"\"")) (kinds (kind 2 17 2 ∷ []))
     ∷ []
 
-unfoldable pub given : List Item → List Outcome
-given [] = []
-given (i ∷ is) = i .gives ∷ given is
+unfoldable pub outcomesOf : List Item → List Outcome
+outcomesOf [] = []
+outcomesOf (i ∷ is) = i .gives ∷ outcomesOf is
 
-unfoldable pub wantedOf : List Item → List Outcome
-wantedOf [] = []
-wantedOf (i ∷ is) = i .wanted ∷ wantedOf is
+unfoldable pub wantedOutcomes : List Item → List Outcome
+wantedOutcomes [] = []
+wantedOutcomes (i ∷ is) = i .wanted ∷ wantedOutcomes is

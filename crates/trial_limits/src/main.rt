@@ -52,7 +52,7 @@ fn put_empty(nodes: &mut [u8], i: usize, kind: u8, marker: u16, link: usize)
 }
 
 // A root and n − 1 verses.
-fn lay_flat(nodes: &mut [u8], n: usize)
+fn write_flat(nodes: &mut [u8], n: usize)
     requires { ⌜ n ≤ 65536 ⌝ }
 {
     put_empty(nodes, 0, tape::ROOT, 0, n);
@@ -64,7 +64,7 @@ fn lay_flat(nodes: &mut [u8], n: usize)
 }
 
 // A root, d paragraphs, each inside the one before it, and a verse in the innermost: 2 · d + 2 nodes.
-fn lay_nested(nodes: &mut [u8], d: usize)
+fn write_nested(nodes: &mut [u8], d: usize)
     requires { ⌜ d ≤ 65 ⌝ }
 {
     put_empty(nodes, 0, tape::ROOT, 0, 2 * d + 2);
@@ -110,7 +110,7 @@ fn lay_verses(nodes: &mut [u8]) {
 }
 
 // One entry after another, over the whole list.
-fn lay_entries(table: &mut [u8]) {
+fn write_entries(table: &mut [u8]) {
     let entry = b"name=p\ncategory=paragraph\nrole=boundary\n";
     let mut k: usize = 0;
     while k < table.len() {
@@ -216,7 +216,7 @@ fn findings(list: &[u64], count: u64) {
 fn flat(table: &[u8], nodes: &mut [u8], n: usize, list: &mut [u64])
     requires { ⌜ (n ≤ 65536) × (16 * n ≤ length (now nodes)) ⌝ }
 {
-    lay_flat(nodes, n);
+    write_flat(nodes, n);
     counted(n, b" nodes: ");
     answer(table, b"", first(nodes, 16 * n), list);
 }
@@ -224,7 +224,7 @@ fn flat(table: &[u8], nodes: &mut [u8], n: usize, list: &mut [u64])
 fn nested(table: &[u8], nodes: &mut [u8], d: usize, list: &mut [u64])
     requires { ⌜ (d ≤ 65) × (32 * d + 32 ≤ length (now nodes)) ⌝ }
 {
-    lay_nested(nodes, d);
+    write_nested(nodes, d);
     counted(d, b" deep: ");
     answer(table, b"", first(nodes, 32 * d + 32), list);
 }
@@ -233,7 +233,7 @@ fn entries(nodes: &mut [u8], n: usize, list: &mut [u64])
     requires { ⌜ (n ≤ 513) × (80 ≤ length (now nodes)) ⌝ }
 {
     let mut table = io::large_buffer();
-    lay_entries(&mut table);
+    write_entries(&mut table);
     lay_last(nodes);
     counted(n, b" markers: ");
     answer(first(&table, 40 * n), b"", first(nodes, 80), list);

@@ -3,7 +3,7 @@
 use Rattle.reference_laws.proofs.Call.{Terms, stated-as, val, of-number, of-struct, of-enum, w64, [], _∷_, Known, bound-at, rule-of, cited}
 use mathlib.Core.Path.{_≡_}
 use Prim.Native.Nat.{_/_, _≤_}
-use Rattle.findings.specs.Written.{total, limit}
+use Rattle.findings.specs.Written.{total, countLimit}
 use Rattle.state.specs.Running.{countsOf}
 use Rattle.validate.specs.Entry.{answerOf, reported}
 use Rattle.validate.proofs.Answer as Answer-T
@@ -13,7 +13,7 @@ use Rattle.validate.proofs.reported as reported-F
 abbrev pub terms : Terms
 terms = stated-as reported-F.Symbol.name (of-enum Answer-T.the-type Answer-T.Laws.the-laws Answer-T.Laws.the-plain tt)
     (val (of-struct State-T.the-type State-T.Laws.the-laws State-T.Laws.the-plain) ∷ val (of-number w64) ∷ [])
-    (λ r₀ len₀. (total (countsOf r₀) ≤ limit) ∷ [])
+    (λ r₀ len₀. (total (countsOf r₀) ≤ countLimit) ∷ [])
     (λ r₀ len₀ r z. (answerOf r ≡ reported r₀ (len₀ / 8)) ∷ [])
 
 pub known : Known terms reported-F.signature (λ M 𝓤 H A at-mem run. reported-F.spec 𝓤 H A at-mem run)

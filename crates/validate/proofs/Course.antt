@@ -16,11 +16,11 @@ use Rattle.definition.specs.Document.{textBefore, unclosed}
 use Rattle.definition.specs.Outcome.{checked, checkedOf, cleared, noStart}
 use Rattle.definition.proofs.Few.{text-few}
 use Rattle.definition.specs.declared.OpenStart.{OpenStart}
-use Rattle.state.specs.Running.{starts, countsOf, withCounts}
+use Rattle.state.specs.Running.{openNodes, countsOf, withCounts}
 use Rattle.state.specs.declared.State.{State}
 use Rattle.closing.specs.Ends.{Left}
-use Rattle.walk.specs.Walking.{walkAt, Ready, Walked}
-use Rattle.validate.specs.Entry.{none-yet, fresh, Begun, Endable, Ended, Ran, Fit, Finished, answerOf, reported, lent}
+use Rattle.walk.specs.Walking.{walkAt, Ready, RunWalked}
+use Rattle.validate.specs.Entry.{none-yet, fresh, Begun, Endable, MissingWritten, Ran, Fit, Finished, answerOf, reported, lent}
 use Rattle.validate.specs.declared.Answer.{Answer}
 use Rattle.validate.proofs.Ending.{whole-run, walk-ready, walk-room, unclosed-room, missing-room, ran, finished, cleared-whole}
 
@@ -31,21 +31,21 @@ begun-room s t to r e = rw e (let k = text-few (forest s t 1 to) in omega arith)
 pub begun : (s t l l′ : List ℕ) (to : ℕ) (r q : State) (c : Counts) → to ≡ linkAt t 0 → r ≡ fresh → Wrote (textBefore (forest s t 1 to)) l (countsOf r) l′ c → q ≡ withCounts r c → Begun s t l l′ q
 begun s t l l′ to r q c e f w g = rw (g, f) (record { text = rw (e, f) at w; record-is = refl })
 
-module _ {table words : List ℕ} {entries : ℕ} {s t seen : List ℕ} {opens : List OpenStart} (fit : Fit table words entries s t seen opens) (to : ℕ) (to-is : to ≡ linkAt t 0) where
+module _ {table index : List ℕ} {entries : ℕ} {s t seen : List ℕ} {opens : List OpenStart} (fit : Fit table index entries s t seen opens) (to : ℕ) (to-is : to ≡ linkAt t 0) where
   pub first-run : Run s t 1 to
   first-run = rw to-is (whole-run fit)
 
   module _ (o : state.WalkContext) (o-is : o ≡ outside) (l l₁ : List ℕ) where
-    asks : (q : State) (c : Counts) → q ≡ withCounts fresh c → Wrote (textBefore (forest s t 1 (linkAt t 0))) l none-yet l₁ c → Ready table words entries s t 64 1 to seen opens q × Room (countsOf q) (walkAt table s t o 1 to seen opens q .findings)
+    asks : (q : State) (c : Counts) → q ≡ withCounts fresh c → Wrote (textBefore (forest s t 1 (linkAt t 0))) l none-yet l₁ c → Ready table index entries s t 64 1 to seen opens q × Room (countsOf q) (walkAt table s t o 1 to seen opens q .findings)
     asks q c e text = rw (e, to-is, o-is) (walk-ready fit l l₁ c text, walk-room fit l l₁ c text)
 
-    pub walk-asks : (q : State) → Begun s t l l₁ q → Ready table words entries s t 64 1 to seen opens q × Room (countsOf q) (walkAt table s t o 1 to seen opens q .findings)
+    pub walk-asks : (q : State) → Begun s t l l₁ q → Ready table index entries s t 64 1 to seen opens q × Room (countsOf q) (walkAt table s t o 1 to seen opens q .findings)
     walk-asks q b = asks q (countsOf q) (b .record-is) (b .text)
 
     -- after the walk
-    module _ (q : State) (b : Begun s t l l₁ q) (seen′ : List ℕ) (opens′ : List OpenStart) (l₂ : List ℕ) (r : State) (w : Walked s t (walkAt table s t o 1 to seen opens q) 64 1 to l₁ q seen′ opens′ l₂ r) where
+    module _ (q : State) (b : Begun s t l l₁ q) (seen′ : List ℕ) (opens′ : List OpenStart) (l₂ : List ℕ) (r : State) (w : RunWalked s t (walkAt table s t o 1 to seen opens q) 64 1 to l₁ q seen′ opens′ l₂ r) where
       abbrev At : State → Type 0
-      At x = Walked s t (walkAt table s t outside 1 (linkAt t 0) seen opens x) 64 1 (linkAt t 0) l₁ x seen′ opens′ l₂ r
+      At x = RunWalked s t (walkAt table s t outside 1 (linkAt t 0) seen opens x) 64 1 (linkAt t 0) l₁ x seen′ opens′ l₂ r
 
       went : At (withCounts fresh (countsOf q))
       went = go q (countsOf q) (b .record-is) (rw (to-is, o-is) at w)
@@ -56,18 +56,18 @@ module _ {table words : List ℕ} {entries : ℕ} {s t seen : List ℕ} {opens :
       pub left-asks : Left s t opens′ r
       left-asks = record { known = w .went .starts; room = unclosed-room fit l l₁ (countsOf q) (b .text) seen′ opens′ l₂ r went }
 
-      module _ (l₃ : List ℕ) (c₃ : Counts) (left : Wrote (unclosed (starts s t opens′ (r .«open_len»))) l₂ (countsOf r) l₃ c₃) where
+      module _ (l₃ : List ℕ) (c₃ : Counts) (left : Wrote (unclosed (openNodes s t opens′ (r .«open_len»))) l₂ (countsOf r) l₃ c₃) where
         pub end-asks : Endable r c₃
         end-asks = record { room = missing-room fit l l₁ (countsOf q) (b .text) seen′ opens′ l₂ r went l₃ c₃ left }
 
-        pub ran-whole : (l₄ : List ℕ) (p : State) → Ended r c₃ l₃ l₄ p → Ran table s t l l₄ p
+        pub ran-whole : (l₄ : List ℕ) (p : State) → MissingWritten r c₃ l₃ l₄ p → Ran table s t l l₄ p
         ran-whole l₄ p e = go p (countsOf p) (e .record-is) (ran fit l l₁ (countsOf q) (b .text) seen′ opens′ l₂ r went l₃ c₃ left l₄ (countsOf p) (e .wrote))
           where
             go : (x : State) (c : Counts) → x ≡ withCounts r c → Ran table s t l l₄ (withCounts r c) → Ran table s t l l₄ x
             go x c e h = rw e h
 
 -- the answer, and the lists cleared
-module _ {table words : List ℕ} {entries : ℕ} {s t seen : List ℕ} {opens : List OpenStart} (fit : Fit table words entries s t seen opens) where
+module _ {table index : List ℕ} {entries : ℕ} {s t seen : List ℕ} {opens : List OpenStart} (fit : Fit table index entries s t seen opens) where
   pub seen-inside : (seen′ : List ℕ) (n : ℕ) → length seen′ ≡ length seen → n ≡ count t → n ≤ length seen′
   seen-inside seen′ n e h = let r = fit .seen-room in omega arith
 

@@ -17,7 +17,7 @@ use Rattle.cursor.specs.Inner.{Run}
 use Rattle.cursor.proofs.Runs.{run-top}
 use Rattle.findings.specs.Finding.{Finding}
 use Rattle.findings.specs.declared.Counts.{Counts}
-use Rattle.findings.specs.Written.{Wrote, Room, room, total, limit, bySeverity, counted, overlay}
+use Rattle.findings.specs.Written.{Wrote, Room, room, total, countLimit, bySeverity, counted, overlay}
 use Rattle.findings.proofs.Overlay.{counted-total, wrote-append}
 use Rattle.definition.specs.State.{WalkState, outside, initial}
 use Rattle.definition.specs.State as state
@@ -25,19 +25,19 @@ use Rattle.definition.specs.Checks.{given}
 use Rattle.definition.specs.Walk.{walk}
 use Rattle.definition.specs.Walk as def
 use Rattle.definition.specs.Document.{textBefore, unclosed, closing, walked, findings}
-use Rattle.definition.specs.Outcome.{Lent, addIf, ofSeverity, smaller, checked, checkedOf, cleared, blanks}
+use Rattle.definition.specs.Outcome.{Lent, addIf, ofSeverity, smaller, checked, checkedOf, cleared, repeated}
 use Rattle.definition.proofs.Few.{text-few, walk-few, given-few, unclosed-length}
 use Rattle.definition.proofs.Counted.{Graded, graded}
 use Rattle.definition.specs.declared.OpenStart.{OpenStart}
-use Rattle.state.specs.Running.{latest, starts, stateOf, countsOf, withCounts, Opens}
+use Rattle.state.specs.Running.{latest, openNodes, stateOf, countsOf, withCounts, Opens}
 use Rattle.state.specs.declared.State.{State}
 use Rattle.state.proofs.Opened.{starts-length}
 use Rattle.closing.specs.Ends.{missingChecks}
-use Rattle.walk.specs.Walking.{nowhere, walkAt, Ready, Walked}
+use Rattle.walk.specs.Walking.{nowhere, walkAt, Ready, RunWalked}
 use Rattle.validate.specs.Entry.{none-yet, fresh, Ran, Fit, reported, lent}
 use Rattle.walk.proofs.Visiting.{count-low}
 
-module _ {table words : List ℕ} {entries : ℕ} {s t seen : List ℕ} {opens : List OpenStart} (fit : Fit table words entries s t seen opens) where
+module _ {table index : List ℕ} {entries : ℕ} {s t seen : List ℕ} {opens : List OpenStart} (fit : Fit table index entries s t seen opens) where
   abbrev to : ℕ
   to = linkAt t 0
 
@@ -55,7 +55,7 @@ module _ {table words : List ℕ} {entries : ℕ} {s t seen : List ℕ} {opens :
     one : total c ≤ 1
     one = let k = text-few (forest s t 1 to) in omega (arith, ap total (text .counts) ∙ counted-total none-yet (textBefore (forest s t 1 to)))
 
-    pub walk-ready : Ready table words entries s t 64 1 to seen opens (withCounts fresh c)
+    pub walk-ready : Ready table index entries s t 64 1 to seen opens (withCounts fresh c)
     walk-ready =
         let r = whole-run .inside in
         let k = few in
@@ -68,7 +68,7 @@ module _ {table words : List ℕ} {entries : ℕ} {s t seen : List ℕ} {opens :
           start = omega arith;
           within = r;
           starts = record { room = omega arith; spanned = λ j h. absurd (not-suc-le-zero h); bases = λ j h. absurd (not-suc-le-zero h) };
-          sane = omega arith;
+          bounded = omega arith;
           seen-room = omega arith;
           open-room = omega arith;
           verses-room = omega arith;
@@ -76,7 +76,7 @@ module _ {table words : List ℕ} {entries : ℕ} {s t seen : List ℕ} {opens :
         }
 
     walk-is : walkAt table s t outside 1 to seen opens (withCounts fresh c) ≡ walked table (top s t)
-    unfolding latest starts
+    unfolding latest openNodes
     walk-is = refl
 
     heavy : length (walkAt table s t outside 1 to seen opens (withCounts fresh c) .findings) ≤ 16777232 * 65535
@@ -90,7 +90,7 @@ module _ {table words : List ℕ} {entries : ℕ} {s t seen : List ℕ} {opens :
     walk-room = let o = one in let h = heavy in omega arith
 
     -- after the walk
-    module _ (seen′ : List ℕ) (opens′ : List OpenStart) (l₂ : List ℕ) (r : State) (walked-so : Walked s t (walkAt table s t outside 1 to seen opens (withCounts fresh c)) 64 1 to l₁ (withCounts fresh c) seen′ opens′ l₂ r) where
+    module _ (seen′ : List ℕ) (opens′ : List OpenStart) (l₂ : List ℕ) (r : State) (walked-so : RunWalked s t (walkAt table s t outside 1 to seen opens (withCounts fresh c)) 64 1 to l₁ (withCounts fresh c) seen′ opens′ l₂ r) where
       total-after : total (countsOf r) ≤ 1 + 16777232 * 65535
       total-after =
           let o = one in
@@ -100,23 +100,23 @@ module _ {table words : List ℕ} {entries : ℕ} {s t seen : List ℕ} {opens :
       open-low : r .«open_len» ≤ 65535
       open-low = let k = walked-so .went .open-few in let f = few in omega arith
 
-      left-is : length (unclosed (starts s t opens′ (r .«open_len»))) ≡ r .«open_len»
-      left-is = unclosed-length (starts s t opens′ (r .«open_len»)) ∙ starts-length s t opens′ (r .«open_len»)
+      left-is : length (unclosed (openNodes s t opens′ (r .«open_len»))) ≡ r .«open_len»
+      left-is = unclosed-length (openNodes s t opens′ (r .«open_len»)) ∙ starts-length s t opens′ (r .«open_len»)
 
-      pub unclosed-room : Room (countsOf r) (unclosed (starts s t opens′ (r .«open_len»)))
+      pub unclosed-room : Room (countsOf r) (unclosed (openNodes s t opens′ (r .«open_len»)))
       unclosed-room = let a = total-after in let b = open-low in let e = left-is in omega arith
 
       -- after the unclosed starts
-      module _ (l₃ : List ℕ) (c₃ : Counts) (left : Wrote (unclosed (starts s t opens′ (r .«open_len»))) l₂ (countsOf r) l₃ c₃) where
+      module _ (l₃ : List ℕ) (c₃ : Counts) (left : Wrote (unclosed (openNodes s t opens′ (r .«open_len»))) l₂ (countsOf r) l₃ c₃) where
         pub missing-room : Room c₃ (given (missingChecks r))
         missing-room =
             let a = total-after in
             let b = open-low in
             let e = left-is in
             let g = given-few (missingChecks r) in
-            omega (arith, ap total (left .counts) ∙ counted-total (countsOf r) (unclosed (starts s t opens′ (r .«open_len»))))
+            omega (arith, ap total (left .counts) ∙ counted-total (countsOf r) (unclosed (openNodes s t opens′ (r .«open_len»))))
 
-        closing-is : closing (walked table (top s t) .state) ≡ unclosed (starts s t opens′ (r .«open_len»)) ++ given (missingChecks r)
+        closing-is : closing (walked table (top s t) .state) ≡ unclosed (openNodes s t opens′ (r .«open_len»)) ++ given (missingChecks r)
         unfolding closing
         closing-is = ap closing (sym (walked-so .went .state ∙ ap (λ (x : def.Walked). x .state) walk-is))
 
@@ -141,7 +141,7 @@ by-severity c (f ∷ fs) h = go (f .severity) (h .0 .0) (λ d. by-severity d fs 
     go (suc (suc zero)) l k = let q = k (bySeverity 2 c) in (omega (arith, q .0), omega (arith, q .1), omega (arith, q .2))
     go (suc (suc (suc n))) l k = absurd (omega arith)
 
-module _ {table words : List ℕ} {entries : ℕ} {s t seen : List ℕ} {opens : List OpenStart} (fit : Fit table words entries s t seen opens) (l l′ : List ℕ) (q : State) (ran-so : Ran table s t l l′ q) where
+module _ {table index : List ℕ} {entries : ℕ} {s t seen : List ℕ} {opens : List OpenStart} (fit : Fit table index entries s t seen opens) (l l′ : List ℕ) (q : State) (ran-so : Ran table s t l l′ q) where
   abbrev fs : List Finding
   fs = findings table (top s t)
 
@@ -159,5 +159,5 @@ module _ {table words : List ℕ} {entries : ℕ} {s t seen : List ℕ} {opens :
   finished n e = rw (total-is, e, counts-are .0, counts-are .1, counts-are .2, ran-so .verses)
 
 -- the whole of a list cleared
-pub cleared-whole : {A : Type 0} (nothing : A) (n : ℕ) (xs : List A) → length xs ≡ n → cleared nothing n xs ≡ blanks nothing n
-cleared-whole nothing n xs e = let h : length xs ≤ n = omega arith in rw (drop-of-length-le xs h) (append-nil (blanks nothing n))
+pub cleared-whole : {A : Type 0} (nothing : A) (n : ℕ) (xs : List A) → length xs ≡ n → cleared nothing n xs ≡ repeated nothing n
+cleared-whole nothing n xs e = let h : length xs ≤ n = omega arith in rw (drop-of-length-le xs h) (append-nil (repeated nothing n))

@@ -22,13 +22,13 @@ use Rattle.validate.specs.declared.Report.{Report}
 use Rattle.validate.specs.declared.Answer.the-variants as answer
 use Rattle.validate.specs.declared.InputCheck.{InputCheck}
 use Rattle.validate.specs.declared.InputCheck.the-variants as input
-use Rattle.validate.specs.Entry.{answerOf, checkRefusal, sourceRefusal, listsRefusal, Opened, Passed, reported}
-use Rattle.text.specs.Utf8.{firstIllFormed, placeOf}
+use Rattle.validate.specs.Entry.{answerOf, checkRefusal, sourceRefusal, listsRefusal, AcceptedEntries, AcceptedIndex, reported}
+use Rattle.text.specs.Utf8.{firstIllFormed, utf8Place}
 use Rattle.text.specs.declared.Utf8.{Utf8}
 use Rattle.text.specs.declared.Utf8.the-variants.{WellFormed, IllFormed}
 use Rattle.table.specs.Lines.{badTable}
 use Rattle.table.specs.Entries.{Indexed, leaves}
-use Rattle.table.specs.Entries.{placeOf as layoutPlace}
+use Rattle.table.specs.Entries.{layoutPlace as layoutPlace}
 use Rattle.table.specs.declared.Layout.{Layout}
 use Rattle.table.specs.declared.Layout.the-variants as layout
 
@@ -78,12 +78,12 @@ module _ (s : List ℕ) where
   pub source-long : 1048576 < length s → refuse sourceTooLong 0 ≡ sourceRefusal s
   source-long h = rw (lt-ltb 1048576 (length s) h)
 
-  module _ (short : length s ≤ 1048576) (u : Utf8) (read : placeOf u ≡ firstIllFormed s) where
+  module _ (short : length s ≤ 1048576) (u : Utf8) (read : utf8Place u ≡ firstIllFormed s) where
     pub source-good : u ≡ WellFormed → none ≡ sourceRefusal s
-    source-good e = let z : firstIllFormed s ≡ none = sym read ∙ ap placeOf e in rw (le-ltb 1048576 (length s) short, z)
+    source-good e = let z : firstIllFormed s ≡ none = sym read ∙ ap utf8Place e in rw (le-ltb 1048576 (length s) short, z)
 
     pub source-ill : (at : ℕ) → u ≡ IllFormed at → refuse sourceNotUtf8 at ≡ sourceRefusal s
-    source-ill at e = let z : firstIllFormed s ≡ some at = sym read ∙ ap placeOf e in rw (le-ltb 1048576 (length s) short, z)
+    source-ill at e = let z : firstIllFormed s ≡ some at = sym read ∙ ap utf8Place e in rw (le-ltb 1048576 (length s) short, z)
 
 -- number 1
 module _ (table : List ℕ) (y : Option Refusal) (r : Layout) (read : layoutPlace r ≡ badTable table) where
@@ -93,9 +93,9 @@ module _ (table : List ℕ) (y : Option Refusal) (r : Layout) (read : layoutPlac
   pub table-good : (n : ℕ) → r ≡ layout.Good n → atPlace badTableLayout (badTable table) ≡ none
   table-good n e = let z : badTable table ≡ none = sym read ∙ ap layoutPlace e in rw z
 
-pub table-index : (table words : List ℕ) (r : Layout) (n : ℕ) → r ≡ layout.Good n → leaves table words r → Indexed table words n
-table-index table words r n e h = rw e at h
+pub table-index : (table index : List ℕ) (r : Layout) (n : ℕ) → r ≡ layout.Good n → leaves table index r → Indexed table index n
+table-index table index r n e h = rw e at h
 
-pub accepted-index : (table words : List ℕ) (n : ℕ) (g : InputCheck) → Indexed table words n → Opened n g → Passed table words g
-accepted-index table words n (input.Accepted m) ix e = rw e ix
-accepted-index table words n (input.Refused a b) ix e = tt
+pub accepted-index : (table index : List ℕ) (n : ℕ) (g : InputCheck) → Indexed table index n → AcceptedEntries n g → AcceptedIndex table index g
+accepted-index table index n (input.Accepted m) ix e = rw e ix
+accepted-index table index n (input.Refused a b) ix e = tt

@@ -9,7 +9,7 @@ use Rattle.tape.specs.Nodes.{count}
 use Rattle.table.specs.Entries.{Indexed}
 use Rattle.definition.specs.Outcome.{Lent, refused, answer, listAfter, seenAfter, openAfter}
 use Rattle.definition.specs.declared.OpenStart.{OpenStart}
-use Rattle.validate.specs.Entry.{answerOf, checkRefusal, Passed, fromTable, Fit, Finished, lent}
+use Rattle.validate.specs.Entry.{answerOf, checkRefusal, AcceptedIndex, fromTable, Fit, Finished, lent}
 use Rattle.validate.specs.declared.Answer.{Answer}
 use Rattle.validate.specs.declared.InputCheck.{InputCheck}
 use Rattle.validate.specs.declared.InputCheck.the-variants as input
@@ -27,8 +27,8 @@ module _ (table s t seen : List ℕ) (opens : List OpenStart) (l : List ℕ) whe
     pub refused-so : (x y : ℕ) → g ≡ input.Refused x y → (refused (record { number = x; place = y }) ≡ answer it) × ((l ≡ listAfter it) × ((seen ≡ seenAfter it) × (opens ≡ openAfter it)))
     refused-so x y e = turned-back table s t seen opens l g by-lists x y e
 
-    pub accepted-so : (entries : ℕ) → g ≡ input.Accepted entries → (words : List ℕ) → Passed table words g → Indexed table words entries × (none ≡ fromTable table s t (length seen) (length opens))
-    accepted-so entries e words p = (rw e at p, sym (ap checkRefusal e) ∙ by-lists)
+    pub accepted-so : (entries : ℕ) → g ≡ input.Accepted entries → (index : List ℕ) → AcceptedIndex table index g → Indexed table index entries × (none ≡ fromTable table s t (length seen) (length opens))
+    accepted-so entries e index p = (rw e at p, sym (ap checkRefusal e) ∙ by-lists)
 
   -- with the first entries of the working lists
   module _ (unturned : none ≡ fromTable table s t (length seen) (length opens)) (n : ℕ) (n-is : n ≡ count t) where
@@ -38,8 +38,8 @@ module _ (table s t seen : List ℕ) (opens : List OpenStart) (l : List ℕ) whe
     pub part-opens : n ≤ length opens
     part-opens = rw n-is (opens-long table s t seen opens l unturned)
 
-    pub part-fit : (words : List ℕ) (entries : ℕ) → Indexed table words entries → Fit table words entries s t (take n seen) (take n opens)
-    part-fit words entries p = rw n-is (fits table s t seen opens l unturned words entries p)
+    pub part-fit : (index : List ℕ) (entries : ℕ) → Indexed table index entries → Fit table index entries s t (take n seen) (take n opens)
+    part-fit index entries p = rw n-is (fits table s t seen opens l unturned index entries p)
 
     pub through : (seen′ : List ℕ) (opens′ : List OpenStart) (l′ : List ℕ) (r : Answer) → Finished table s t (take n seen) (take n opens) l seen′ opens′ l′ r → (answerOf r ≡ answer it) × ((l′ ≡ listAfter it) × ((seen′ ++ drop n seen ≡ seenAfter it) × (opens′ ++ drop n opens ≡ openAfter it)))
     through seen′ opens′ l′ r f = rw n-is (went-through table s t seen opens l unturned seen′ opens′ l′ r (rw n-is at f))

@@ -23,7 +23,7 @@ use Rattle.definition.specs.declared.OpenStart.{OpenStart}
 use Rattle.validate.specs.declared.Answer.{Answer}
 use Rattle.validate.specs.declared.InputCheck.{InputCheck}
 use Rattle.validate.specs.declared.InputCheck.the-variants as input
-use Rattle.validate.specs.Entry.{answerOf, checkRefusal, Passed, fromTable, fromTape, Fit, Finished, lent}
+use Rattle.validate.specs.Entry.{answerOf, checkRefusal, AcceptedIndex, fromTable, fromTape, Fit, Finished, lent}
 use Rattle.text.proofs.Bool.{or-parts}
 
 pub or-assoc : (a b c : Option Refusal) → orElse (orElse a b) c ≡ orElse a (orElse b c)

@@ -17,10 +17,10 @@ use Rattle.numbers.specs.declared.Suffix.the-variants as suffix
 use Rattle.table.specs.Entries.{Indexed}
 use Rattle.findings.specs.Finding.{Finding}
 use Rattle.findings.specs.declared.Counts.{Counts}
-use Rattle.findings.specs.Written.{Wrote, Room, total, limit, overlay}
+use Rattle.findings.specs.Written.{Wrote, Room, total, countLimit, overlay}
 use Rattle.definition.specs.Checks.{given}
 use Rattle.definition.specs.Document.{findings, versesVisited, textBefore}
-use Rattle.definition.specs.Outcome.{Lent, Checked, refused, checked, cleared, blanks, noStart, smaller, atPlace, checkedOf}
+use Rattle.definition.specs.Outcome.{Lent, Checked, refused, checked, cleared, repeated, noStart, smaller, atPlace, checkedOf}
 use Rattle.definition.specs.Outcome as outcome
 use Rattle.definition.specs.declared.OpenStart.{OpenStart}
 use Rattle.state.specs.Running.{countsOf, withCounts}
@@ -56,14 +56,14 @@ checkRefusal (input.Accepted n) = none
 checkRefusal (input.Refused number place) = some (record { number = number; place = place })
 
 -- what stands open then: the table's index, of so many entries
-abbrev pub Passed : List ℕ → List ℕ → InputCheck → Type 0
-Passed table words (input.Accepted n) = Indexed table words n
-Passed table words (input.Refused number place) = Unit {0}
+abbrev pub AcceptedIndex : List ℕ → List ℕ → InputCheck → Type 0
+AcceptedIndex table index (input.Accepted n) = Indexed table index n
+AcceptedIndex table index (input.Refused number place) = Unit {0}
 
 -- so many entries, if it is open
-abbrev pub Opened : ℕ → InputCheck → Type 0
-Opened entries (input.Accepted n) = n ≡ entries
-Opened entries (input.Refused number place) = Unit {0}
+abbrev pub AcceptedEntries : ℕ → InputCheck → Type 0
+AcceptedEntries entries (input.Accepted n) = n ≡ entries
+AcceptedEntries entries (input.Refused number place) = Unit {0}
 
 -- the numbers from each on, with the lengths of the working lists
 abbrev pub sourceRefusal : List ℕ → Option Refusal
@@ -110,11 +110,11 @@ fresh =
 pub record Ran (table s t l l′ : List ℕ) (q : State) : Type 0 where
   pub wrote : Wrote (findings table (top s t)) l none-yet l′ (countsOf q)
   pub verses : q .verses ≡ versesVisited table (top s t)
-  pub low : total (countsOf q) ≤ limit
+  pub low : total (countsOf q) ≤ countLimit
 
 -- what the check asks for when nothing turns it back
-pub record Fit (table words : List ℕ) (entries : ℕ) (s t seen : List ℕ) (opens : List OpenStart) : Type 0 where
-  pub indexed : Indexed table words entries
+pub record Fit (table index : List ℕ) (entries : ℕ) (s t seen : List ℕ) (opens : List OpenStart) : Type 0 where
+  pub indexed : Indexed table index entries
   pub accepted : Accepted s t
   pub short : length s ≤ 1048576
   pub seen-room : length seen ≡ count t
@@ -141,8 +141,8 @@ lent table s t seen opens l = record { table = table; source = s; tape = t; seen
 pub record Finished (table s t seen : List ℕ) (opens : List OpenStart) (l seen′ : List ℕ) (opens′ : List OpenStart) (l′ : List ℕ) (r : Answer) : Type 0 where
   pub answers : answerOf r ≡ checked (checkedOf (lent table s t seen opens l))
   pub words : l′ ≡ overlay l 0 (findings table (top s t))
-  pub seen-zero : seen′ ≡ blanks 0 (count t)
-  pub opens-zero : opens′ ≡ blanks noStart (count t)
+  pub seen-zero : seen′ ≡ repeated 0 (count t)
+  pub opens-zero : opens′ ≡ repeated noStart (count t)
 
 -- the record before the walk: the text before `\\id` is written and counted
 pub record Begun (s t l l′ : List ℕ) (q : State) : Type 0 where
@@ -154,6 +154,6 @@ pub record Endable (r : State) (c : Counts) : Type 0 where
   pub room : Room c (given (missingChecks r))
 
 -- the record with the last findings counted
-pub record Ended (r : State) (c : Counts) (l l′ : List ℕ) (q : State) : Type 0 where
+pub record MissingWritten (r : State) (c : Counts) (l l′ : List ℕ) (q : State) : Type 0 where
   pub wrote : Wrote (given (missingChecks r)) l c l′ (countsOf q)
   pub record-is : q ≡ withCounts r (countsOf q)

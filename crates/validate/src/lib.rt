@@ -14,15 +14,15 @@ ghost use mathlib.Core.Option.{none};
 ghost use Prim.Native.Nat.{_/_, _≤_};
 ghost use lib.ListN.{length};
 ghost use Rattle.tape.specs.Nodes.{linkAt};
-ghost use Rattle.tape.specs.Nodes.{count as nodes};
+ghost use Rattle.tape.specs.Nodes.{count};
 ghost use Rattle.tape.specs.Forest.{Accepted};
 ghost use Rattle.cursor.specs.Inner.{Run};
 ghost use Rattle.tape.specs.Reading.{tapeRefusal};
 ghost use Rattle.table.specs.Entries.{Indexed};
-ghost use Rattle.findings.specs.Written.{total, limit};
+ghost use Rattle.findings.specs.Written.{total, countLimit};
 ghost use Rattle.definition.specs.Outcome.{answer, listAfter, seenAfter, openAfter};
 ghost use Rattle.state.specs.Running.{countsOf};
-ghost use Rattle.validate.specs.Entry.{answerOf, checkRefusal, sourceRefusal, listsRefusal, fromLabels, fromTape, fromSource, fromTable, Opened, Passed, fresh, Begun, Endable, Ended, Ran, Fit, reported, Finished, lent};
+ghost use Rattle.validate.specs.Entry.{answerOf, checkRefusal, sourceRefusal, listsRefusal, fromLabels, fromTape, fromSource, fromTable, AcceptedEntries, AcceptedIndex, fresh, Begun, Endable, MissingWritten, Ran, Fit, reported, Finished, lent};
 
 fn initial() -> State
     ensures { λ r. ⌜ r ≡ fresh ⌝ }
@@ -60,7 +60,7 @@ fn begun(source: &[u8], tape: &[u8], to: usize, list: &mut [u64]) -> State
 // The record after the open starts that are left are told.
 fn ended(rec: State, list: &mut [u64], left: Counts) -> State
     requires { ⌜ Endable rec left ⌝ }
-    ensures { λ r. ⌜ Ended rec left (now (list .entry)) (now (list .exit)) r ⌝ }
+    ensures { λ r. ⌜ MissingWritten rec left (now (list .entry)) (now (list .exit)) r ⌝ }
 {
     state::with_counts(rec, closing::missing(rec, list, left))
 }
@@ -68,15 +68,15 @@ fn ended(rec: State, list: &mut [u64], left: Counts) -> State
 // The whole list of an accepted document.
 fn run(
     table: &[u8],
-    words: &[u64],
-    count: usize,
+    index: &[u64],
+    entries: usize,
     source: &[u8],
     tape: &[u8],
     seen: &mut [u32],
     opens: &mut [OpenStart],
     list: &mut [u64],
 ) -> State
-    requires { ⌜ Fit (now table) (now words) count (now source) (now tape) (now seen) (now opens) ⌝ }
+    requires { ⌜ Fit (now table) (now index) entries (now source) (now tape) (now seen) (now opens) ⌝ }
     ensures { λ r. ⌜ Ran (now (table .entry)) (now (source .entry)) (now (tape .entry)) (now (list .entry)) (now (list .exit)) r ⌝ }
 {
     let to = tape::link_at(tape, 0) as usize;
@@ -88,8 +88,8 @@ fn run(
     };
     walk::walk(
         table,
-        words,
-        count,
+        index,
+        entries,
         source,
         tape,
         1,
@@ -156,7 +156,7 @@ fn check_tape(source: &[u8], tape: &[u8]) -> InputCheck
 
 // Number 10.
 fn check_lists(entries: usize, n: usize, seen: usize, opens: usize) -> InputCheck
-    ensures { λ r. ⌜ (checkRefusal r ≡ listsRefusal n seen opens) × Opened entries r ⌝ }
+    ensures { λ r. ⌜ (checkRefusal r ≡ listsRefusal n seen opens) × AcceptedEntries entries r ⌝ }
 {
     if seen < n {
         return InputCheck::Refused(refusals::WORKING_LIST_TOO_SHORT, n as u64);
@@ -170,17 +170,17 @@ fn check_lists(entries: usize, n: usize, seen: usize, opens: usize) -> InputChec
 // Numbers 9 and 10.
 fn check_from_labels(
     table: &[u8],
-    words: &[u64],
+    index: &[u64],
     entries: usize,
     source: &[u8],
     tape: &[u8],
     seen: usize,
     opens: usize,
 ) -> InputCheck
-    requires { ⌜ (Indexed (now table) (now words) entries) × (Accepted (now source) (now tape)) ⌝ }
-    ensures { λ r. ⌜ (checkRefusal r ≡ fromLabels (now (table .entry)) (now (source .entry)) (now (tape .entry)) seen opens) × Opened entries r ⌝ }
+    requires { ⌜ (Indexed (now table) (now index) entries) × (Accepted (now source) (now tape)) ⌝ }
+    ensures { λ r. ⌜ (checkRefusal r ≡ fromLabels (now (table .entry)) (now (source .entry)) (now (tape .entry)) seen opens) × AcceptedEntries entries r ⌝ }
 {
-    match numbers::label_check(table, words, entries, source, tape) {
+    match numbers::label_check(table, index, entries, source, tape) {
         LabelCheck::Good => check_lists(entries, tape.len() / 16, seen, opens),
         LabelCheck::Split(i) => InputCheck::Refused(refusals::SPLIT_LABEL, i as u64),
     }
@@ -189,21 +189,21 @@ fn check_from_labels(
 // Numbers 4 to 10.
 fn check_from_tape(
     table: &[u8],
-    words: &[u64],
+    index: &[u64],
     entries: usize,
     source: &[u8],
     tape: &[u8],
     seen: usize,
     opens: usize,
 ) -> InputCheck
-    requires { ⌜ Indexed (now table) (now words) entries ⌝ }
-    ensures { λ r. ⌜ (checkRefusal r ≡ fromTape (now (table .entry)) (now (source .entry)) (now (tape .entry)) seen opens) × Opened entries r ⌝ }
+    requires { ⌜ Indexed (now table) (now index) entries ⌝ }
+    ensures { λ r. ⌜ (checkRefusal r ≡ fromTape (now (table .entry)) (now (source .entry)) (now (tape .entry)) seen opens) × AcceptedEntries entries r ⌝ }
 {
     match check_tape(source, tape) {
         InputCheck::Refused(number, place) => InputCheck::Refused(number, place),
         InputCheck::Accepted(_) => check_from_labels(
             table,
-            words,
+            index,
             entries,
             source,
             tape,
@@ -216,21 +216,21 @@ fn check_from_tape(
 // Numbers 2 to 10.
 fn check_from_source(
     table: &[u8],
-    words: &[u64],
+    index: &[u64],
     entries: usize,
     source: &[u8],
     tape: &[u8],
     seen: usize,
     opens: usize,
 ) -> InputCheck
-    requires { ⌜ Indexed (now table) (now words) entries ⌝ }
-    ensures { λ r. ⌜ (checkRefusal r ≡ fromSource (now (table .entry)) (now (source .entry)) (now (tape .entry)) seen opens) × Opened entries r ⌝ }
+    requires { ⌜ Indexed (now table) (now index) entries ⌝ }
+    ensures { λ r. ⌜ (checkRefusal r ≡ fromSource (now (table .entry)) (now (source .entry)) (now (tape .entry)) seen opens) × AcceptedEntries entries r ⌝ }
 {
     match check_source(source) {
         InputCheck::Refused(number, place) => InputCheck::Refused(number, place),
         InputCheck::Accepted(_) => check_from_tape(
             table,
-            words,
+            index,
             entries,
             source,
             tape,
@@ -243,21 +243,21 @@ fn check_from_source(
 // Numbers 1 to 10; where none is given, the words are the table's index.
 pub fn check_input(
     table: &[u8],
-    words: &mut [u64],
+    index: &mut [u64],
     source: &[u8],
     tape: &[u8],
     seen: usize,
     opens: usize,
 ) -> InputCheck
-    requires { ⌜ 512 ≤ length (now words) ⌝ }
+    requires { ⌜ 512 ≤ length (now index) ⌝ }
     ensures number { λ r. ⌜ checkRefusal r ≡ fromTable (now (table .entry)) (now (source .entry)) (now (tape .entry)) seen opens ⌝ }
-    ensures index { λ r. ⌜ Passed (now (table .entry)) (now (words .exit)) r ⌝ }
+    ensures index { λ r. ⌜ AcceptedIndex (now (table .entry)) (now (index .exit)) r ⌝ }
 {
-    match table::index(table, words) {
+    match table::index(table, index) {
         Layout::Bad(at) => InputCheck::Refused(refusals::BAD_TABLE_LAYOUT, at as u64),
         Layout::Good(entries) => check_from_source(
             table,
-            words,
+            index,
             entries,
             source,
             tape,
@@ -268,14 +268,14 @@ pub fn check_input(
 }
 
 fn node_count(tape: &[u8]) -> usize
-    ensures { λ r. ⌜ r ≡ nodes (now (tape .entry)) ⌝ }
+    ensures { λ r. ⌜ r ≡ count (now (tape .entry)) ⌝ }
 {
     tape.len() / 16
 }
 
 // The answer of a document that was walked, by the length of the findings list.
 fn reported(r: State, len: usize) -> Answer
-    requires { ⌜ total (countsOf r) ≤ limit ⌝ }
+    requires { ⌜ total (countsOf r) ≤ countLimit ⌝ }
     ensures { λ q. ⌜ answerOf q ≡ reported r (len / 8) ⌝ }
 {
     let total = r.errors + r.warnings + r.infos;
@@ -303,7 +303,7 @@ fn reported(r: State, len: usize) -> Answer
 // A document that nothing turns back, with working lists of just as many entries as it has nodes.
 fn checked(
     table: &[u8],
-    words: &[u64],
+    index: &[u64],
     entries: usize,
     source: &[u8],
     tape: &[u8],
@@ -311,10 +311,10 @@ fn checked(
     opens: &mut [OpenStart],
     list: &mut [u64],
 ) -> Answer
-    requires { ⌜ Fit (now table) (now words) entries (now source) (now tape) (now seen) (now opens) ⌝ }
+    requires { ⌜ Fit (now table) (now index) entries (now source) (now tape) (now seen) (now opens) ⌝ }
     ensures { λ r. ⌜ Finished (now (table .entry)) (now (source .entry)) (now (tape .entry)) (now (seen .entry)) (now (opens .entry)) (now (list .entry)) (now (seen .exit)) (now (opens .exit)) (now (list .exit)) r ⌝ }
 {
-    let r = run(table, words, entries, source, tape, seen, opens, list);
+    let r = run(table, index, entries, source, tape, seen, opens, list);
     let n = node_count(tape);
     closing::clear_seen(seen, n);
     closing::clear_opens(opens, n);
@@ -324,7 +324,7 @@ fn checked(
 // A document that no number turns back, with the table's index: its answer and every lent list at exit are the definition's.
 pub fn passed(
     table: &[u8],
-    words: &[u64],
+    index: &[u64],
     entries: usize,
     source: &[u8],
     tape: &[u8],
@@ -332,7 +332,7 @@ pub fn passed(
     opens: &mut [OpenStart],
     list: &mut [u64],
 ) -> Answer
-    requires { ⌜ (Indexed (now table) (now words) entries) × (none ≡ fromTable (now table) (now source) (now tape) (length (now seen)) (length (now opens))) ⌝ }
+    requires { ⌜ (Indexed (now table) (now index) entries) × (none ≡ fromTable (now table) (now source) (now tape) (length (now seen)) (length (now opens))) ⌝ }
     ensures answer { λ r. ⌜ answerOf r ≡ answer (lent (now (table .entry)) (now (source .entry)) (now (tape .entry)) (now (seen .entry)) (now (opens .entry)) (now (list .entry))) ⌝ }
     ensures list { λ r. ⌜ now (list .exit) ≡ listAfter (lent (now (table .entry)) (now (source .entry)) (now (tape .entry)) (now (seen .entry)) (now (opens .entry)) (now (list .entry))) ⌝ }
     ensures seen { λ r. ⌜ now (seen .exit) ≡ seenAfter (lent (now (table .entry)) (now (source .entry)) (now (tape .entry)) (now (seen .entry)) (now (opens .entry)) (now (list .entry))) ⌝ }
@@ -341,7 +341,7 @@ pub fn passed(
     let n = node_count(tape);
     checked(
         table,
-        words,
+        index,
         entries,
         source,
         tape,
@@ -365,12 +365,12 @@ pub fn check(
     ensures seen { λ r. ⌜ now (seen .exit) ≡ seenAfter (lent (now (table .entry)) (now (source .entry)) (now (tape .entry)) (now (seen .entry)) (now (opens .entry)) (now (list .entry))) ⌝ }
     ensures opens { λ r. ⌜ now (opens .exit) ≡ openAfter (lent (now (table .entry)) (now (source .entry)) (now (tape .entry)) (now (seen .entry)) (now (opens .entry)) (now (list .entry))) ⌝ }
 {
-    let mut words = [0u64; 512];
-    match check_input(table, &mut words, source, tape, seen.len(), opens.len()) {
+    let mut index = [0u64; 512];
+    match check_input(table, &mut index, source, tape, seen.len(), opens.len()) {
         InputCheck::Refused(number, place) => Answer::Refused(number, place),
         InputCheck::Accepted(entries) => passed(
             table,
-            &words,
+            &index,
             entries,
             source,
             tape,

@@ -32,5 +32,5 @@ only-some : (b : Bool) (x : Option Entry) (e : Entry) → onlyFor b x ≡ some e
 only-some true x e h = h
 only-some false x e h = absurd (Option·none-ne-some e h)
 
-pub entry-inside : (table words : List ℕ) (n : ℕ) (s t : List ℕ) (i : ℕ) (e : MarkerInfo) → Indexed table words n → entryOf table (nodeAt s t i) ≡ some (entryOfInfo e) → e .«name_start» + e .«name_len» ≤ length table
-entry-inside table words n s t i e ix h = ix .sound (markerAt t i) (entryOfInfo e) (only-some (hasMarker (kindAt t i)) (nth (entries table) (markerAt t i)) (entryOfInfo e) h) .inside
+pub entry-inside : (table index : List ℕ) (n : ℕ) (s t : List ℕ) (i : ℕ) (e : MarkerInfo) → Indexed table index n → entryOf table (nodeAt s t i) ≡ some (entryOfInfo e) → e .«name_start» + e .«name_len» ≤ length table
+entry-inside table index n s t i e ix h = ix .sound (markerAt t i) (entryOfInfo e) (only-some (hasMarker (kindAt t i)) (nth (entries table) (markerAt t i)) (entryOfInfo e) h) .inside

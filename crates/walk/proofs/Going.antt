@@ -30,20 +30,20 @@ use Rattle.attachment.specs.declared.Attached.{Attached}
 use Rattle.definition.specs.State.{WalkState, Anchor}
 use Rattle.definition.specs.State as state
 use Rattle.numbers.specs.Label.{numbered}
-use Rattle.definition.specs.Checks.{entryOf, leafTold, given}
-use Rattle.definition.specs.Walk.{walk, before}
+use Rattle.definition.specs.Checks.{entryOf, leafChecked, given}
+use Rattle.definition.specs.Walk.{walk, withFindings}
 use Rattle.definition.specs.Walk as def
 use Rattle.definition.specs.declared.OpenStart.{OpenStart}
-use Rattle.state.specs.Running.{stateOf, countsOf, anchorOf, startsFor, Sane, Opens}
+use Rattle.state.specs.Running.{stateOf, countsOf, anchorOf, startsFor, VerseBounded, Opens}
 use Rattle.state.specs.declared.State.{State}
-use Rattle.walk.specs.Walking.{onlyOpen, Leafy, Unchanged, Passable, PassedBy, Anchored, walkAt, Ready, Went, Walked, toldAt, below, visitFindings, visitState, Visited, Visitable, anchorAfter, LeafPassed, numbersAfter}
+use Rattle.walk.specs.Walking.{onlyOpen, Leafy, Unchanged, Passable, PassedBy, Anchored, walkAt, Ready, Went, RunWalked, openCheckedAt, below, visitFindings, visitState, Visited, Visitable, anchorAfter, LeafPassed, numbersAfter}
 use Rattle.walk.proofs.Entries.{entry-read, entry-inside}
 use Rattle.walk.proofs.Steps.{next-later, anchored-past, starts-past, leaf-anchored, leaf-starts, walk-leaf, walk-skip, walk-open}
 use Rattle.text.proofs.Bool.{or-parts}
 
 -- the run from i on, of the run that began at `from` with the definition's walk w₀, the list l₀ and the record r₀
-pub record Going (table words : List ℕ) (entries : ℕ) (s t : List ℕ) (depth : ℕ) (o : state.WalkContext) (from to : ℕ) (w₀ : def.Walked) (l₀ : List ℕ) (r₀ : State) (seen : List ℕ) (opens : List OpenStart) (l : List ℕ) (r : State) (numbers : Attached) (i : ℕ) : Type 0 where
-  pub ready : Ready table words entries s t depth i to seen opens r
+pub record Going (table index : List ℕ) (entries : ℕ) (s t : List ℕ) (depth : ℕ) (o : state.WalkContext) (from to : ℕ) (w₀ : def.Walked) (l₀ : List ℕ) (r₀ : State) (seen : List ℕ) (opens : List OpenStart) (l : List ℕ) (r : State) (numbers : Attached) (i : ℕ) : Type 0 where
+  pub ready : Ready table index entries s t depth i to seen opens r
   pub left : Left (w₀ .findings) l₀ (countsOf r₀) (walkAt table s t o i to seen opens r .findings) l (countsOf r)
   pub state : walkAt table s t o i to seen opens r .state ≡ w₀ .state
   pub anchor : walkAt table s t o i to seen opens r .anchor ≡ w₀ .anchor
@@ -55,8 +55,8 @@ pub record Going (table words : List ℕ) (entries : ℕ) (s t : List ℕ) (dept
   pub open-few : r .«open_len» + (to - i) ≤ r₀ .«open_len» + (to - from)
   pub verses-few : r .verses + (to - i) ≤ r₀ .verses + (to - from)
 
-pub going-start : (table words : List ℕ) (entries : ℕ) (s t : List ℕ) (depth : ℕ) (o : state.WalkContext) (from to : ℕ) (seen : List ℕ) (opens : List OpenStart) (l : List ℕ) (r : State) (numbers : Attached) → Ready table words entries s t depth from to seen opens r → Room (countsOf r) (walkAt table s t o from to seen opens r .findings) → startsOf numbers ≡ startsFor (anchorOf s t (r .anchor) from) (forest s t from to) → Going table words entries s t depth o from to (walkAt table s t o from to seen opens r) l r seen opens l r numbers from
-going-start table words entries s t depth o from to seen opens l r numbers ready room h =
+pub going-start : (table index : List ℕ) (entries : ℕ) (s t : List ℕ) (depth : ℕ) (o : state.WalkContext) (from to : ℕ) (seen : List ℕ) (opens : List OpenStart) (l : List ℕ) (r : State) (numbers : Attached) → Ready table index entries s t depth from to seen opens r → Room (countsOf r) (walkAt table s t o from to seen opens r .findings) → startsOf numbers ≡ startsFor (anchorOf s t (r .anchor) from) (forest s t from to) → Going table index entries s t depth o from to (walkAt table s t o from to seen opens r) l r seen opens l r numbers from
+going-start table index entries s t depth o from to seen opens l r numbers ready room h =
     let k = nested-le (ready .nested) in
     record {
       ready = ready;
@@ -72,9 +72,9 @@ going-start table words entries s t depth o from to seen opens l r numbers ready
       verses-few = omega arith;
     }
 
-module _ {table words : List ℕ} {entries : ℕ} {s t : List ℕ} {depth : ℕ} {o : state.WalkContext} {from to : ℕ} {w₀ : def.Walked} {l₀ : List ℕ} {r₀ : State} {seen : List ℕ} {opens : List OpenStart} {l : List ℕ} {r : State} {numbers : Attached} {i : ℕ} (g : Going table words entries s t depth o from to w₀ l₀ r₀ seen opens l r numbers i) where
+module _ {table index : List ℕ} {entries : ℕ} {s t : List ℕ} {depth : ℕ} {o : state.WalkContext} {from to : ℕ} {w₀ : def.Walked} {l₀ : List ℕ} {r₀ : State} {seen : List ℕ} {opens : List OpenStart} {l : List ℕ} {r : State} {numbers : Attached} {i : ℕ} (g : Going table index entries s t depth o from to w₀ l₀ r₀ seen opens l r numbers i) where
   -- at the end of the run
-  pub going-end : to ≤ i → Walked s t w₀ depth from to l₀ r₀ seen opens l r
+  pub going-end : to ≤ i → RunWalked s t w₀ depth from to l₀ r₀ seen opens l r
   unfolding walk
   going-end h =
       let k = g .within in
@@ -89,7 +89,7 @@ module _ {table words : List ℕ} {entries : ℕ} {s t : List ℕ} {depth : ℕ}
               wrote = left-end (rw done at (g .left));
               state = rw done at (g .state);
               starts = g .ready .starts;
-              sane = g .ready .sane;
+              bounded = g .ready .bounded;
               seen-few = omega arith;
               open-few = omega arith;
               verses-few = omega arith;
@@ -125,18 +125,18 @@ module _ {table words : List ℕ} {entries : ℕ} {s t : List ℕ} {depth : ℕ}
 
     -- the step to the next node, from what the step gives
     stepped : (seen′ : List ℕ) (opens′ : List OpenStart) (l′ : List ℕ) (q : State) (numbers′ : Attached) (fs : List Finding) (st : WalkState) → length seen′ ≡ length seen → length opens′ ≡ length opens
-        → walkAt table s t o i to seen opens r ≡ before fs (walk table o (anchorOf s t (q .anchor) next) (forest s t next to) st)
+        → walkAt table s t o i to seen opens r ≡ withFindings fs (walk table o (anchorOf s t (q .anchor) next) (forest s t next to) st)
         → stateOf s t seen′ opens′ q ≡ st
         → Wrote fs l (countsOf r) l′ (countsOf q)
         → Opens s t opens′ (q .«open_len»)
-        → Sane q
+        → VerseBounded q
         → q .«seen_len» ≤ r .«seen_len» + (next - i)
         → q .«open_len» ≤ r .«open_len» + (next - i)
         → q .verses ≤ r .verses + (next - i)
         → Anchored t depth (q .anchor) next
         → startsOf numbers′ ≡ startsFor (anchorOf s t (q .anchor) next) (forest s t next to)
-        → Going table words entries s t depth o from to w₀ l₀ r₀ seen′ opens′ l′ q numbers′ next
-    stepped seen′ opens′ l′ q numbers′ fs st ls lo is state wrote starts sane sf of vf anchored attached =
+        → Going table index entries s t depth o from to w₀ l₀ r₀ seen′ opens′ l′ q numbers′ next
+    stepped seen′ opens′ l′ q numbers′ fs st ls lo is state wrote starts bounded sf of vf anchored attached =
         let lt = going-later in
         let a = g .seen-few in
         let b = g .open-few in
@@ -155,7 +155,7 @@ module _ {table words : List ℕ} {entries : ℕ} {s t : List ℕ} {depth : ℕ}
                 start = run .from;
                 within = run .inside;
                 starts = starts;
-                sane = sane;
+                bounded = bounded;
                 seen-room = omega (arith, lt .0, lt .1);
                 open-room = omega (arith, lt .0, lt .1);
                 verses-room = omega (arith, lt .0, lt .1);
@@ -175,12 +175,12 @@ module _ {table words : List ℕ} {entries : ℕ} {s t : List ℕ} {depth : ℕ}
 
     -- a leaf
     module _ (leafy : isOpen (kindAt t i) ≡ false) where
-      leaf-is : walkAt table s t o i to seen opens r ≡ before (leafTold table o (stateOf s t seen opens r) (nodeAt s t i) .findings) (walk table o (anchorOf s t (anchorAfter t i (r .anchor)) next) (forest s t next to) (leafTold table o (stateOf s t seen opens r) (nodeAt s t i) .state))
+      leaf-is : walkAt table s t o i to seen opens r ≡ withFindings (leafChecked table o (stateOf s t seen opens r) (nodeAt s t i) .findings) (walk table o (anchorOf s t (anchorAfter t i (r .anchor)) next) (forest s t next to) (leafChecked table o (stateOf s t seen opens r) (nodeAt s t i) .state))
       leaf-is = walk-leaf s t depth i to (g .ready .accepted) (g .ready .nested) (g .ready .start) (g .ready .within) more leafy table o (r .anchor) (stateOf s t seen opens r) (g .ready .anchored)
 
-      pub leaf-room : Room (countsOf r) (leafTold table o (stateOf s t seen [] r) (nodeAt s t i) .findings)
-      unfolding leafTold
-      leaf-room = room-first (countsOf r) (leafTold table o (stateOf s t seen opens r) (nodeAt s t i) .findings) _ (left-room (rw leaf-is at (g .left)) (g .room))
+      pub leaf-room : Room (countsOf r) (leafChecked table o (stateOf s t seen [] r) (nodeAt s t i) .findings)
+      unfolding leafChecked
+      leaf-room = room-first (countsOf r) (leafChecked table o (stateOf s t seen opens r) (nodeAt s t i) .findings) _ (left-room (rw leaf-is at (g .left)) (g .room))
 
       pub leaf-seen : r .«seen_len» < length seen
       leaf-seen = let k = g .ready .seen-room in omega arith
@@ -188,18 +188,18 @@ module _ {table words : List ℕ} {entries : ℕ} {s t : List ℕ} {depth : ℕ}
       pub leaf-verses : r .verses < 4611686018427387904
       leaf-verses = let k = g .ready .verses-room in omega arith
 
-      leaf-same : leafTold table o (stateOf s t seen [] r) (nodeAt s t i) .findings ≡ leafTold table o (stateOf s t seen opens r) (nodeAt s t i) .findings
-      unfolding leafTold
+      leaf-same : leafChecked table o (stateOf s t seen [] r) (nodeAt s t i) .findings ≡ leafChecked table o (stateOf s t seen opens r) (nodeAt s t i) .findings
+      unfolding leafChecked
       leaf-same = refl
 
-      pub going-leaf : (seen′ l′ : List ℕ) (q : State) (numbers′ : Attached) → length seen′ ≡ length seen → LeafPassed table s t o i seen l r seen′ l′ q → startsOf numbers′ ≡ numbersAfter s t i next to (startsOf numbers) → Going table words entries s t depth o from to w₀ l₀ r₀ seen′ opens l′ q numbers′ next
+      pub going-leaf : (seen′ l′ : List ℕ) (q : State) (numbers′ : Attached) → length seen′ ≡ length seen → LeafPassed table s t o i seen l r seen′ l′ q → startsOf numbers′ ≡ numbersAfter s t i next to (startsOf numbers) → Going table index entries s t depth o from to w₀ l₀ r₀ seen′ opens l′ q numbers′ next
       going-leaf seen′ l′ q numbers′ ls p h =
           let lt = going-later in
           let sf = p .seen-few in
           let of = p .opens in
           let vf = p .verses-few in
           let a = p .anchor in
-          stepped seen′ opens l′ q numbers′ (leafTold table o (stateOf s t seen opens r) (nodeAt s t i) .findings) (leafTold table o (stateOf s t seen opens r) (nodeAt s t i) .state) ls refl (rw a leaf-is) (p .state opens) (rw leaf-same at (p .wrote)) (rw of (g .ready .starts)) (p .sane) (omega (arith, lt .0)) (omega (arith, lt .0)) (omega (arith, lt .0))
+          stepped seen′ opens l′ q numbers′ (leafChecked table o (stateOf s t seen opens r) (nodeAt s t i) .findings) (leafChecked table o (stateOf s t seen opens r) (nodeAt s t i) .state) ls refl (rw a leaf-is) (p .state opens) (rw leaf-same at (p .wrote)) (rw of (g .ready .starts)) (p .bounded) (omega (arith, lt .0)) (omega (arith, lt .0)) (omega (arith, lt .0))
           (rw a (leaf-anchored s t depth i to (g .ready .accepted) (g .ready .nested) (g .ready .start) (g .ready .within) more leafy (r .anchor) (g .ready .anchored)))
           (rw a (h ∙ leaf-starts s t depth i to (g .ready .accepted) (g .ready .nested) (g .ready .start) (g .ready .within) more leafy (r .anchor) (startsOf numbers) (g .ready .anchored) (g .attached)))
 
@@ -211,14 +211,14 @@ module _ {table words : List ℕ} {entries : ℕ} {s t : List ℕ} {depth : ℕ}
       open-starts : startsOf numbers ≡ startsFor (anchorOf s t (r .anchor) next) (forest s t next to)
       open-starts = g .attached ∙ starts-past s t depth i to (g .ready .accepted) (g .ready .nested) (g .ready .start) (g .ready .within) more (r .anchor) (g .ready .anchored)
 
-      pub going-skip : entryOf table (nodeAt s t i) ≡ none → Going table words entries s t depth o from to w₀ l₀ r₀ seen opens l r numbers next
+      pub going-skip : entryOf table (nodeAt s t i) ≡ none → Going table index entries s t depth o from to w₀ l₀ r₀ seen opens l r numbers next
       going-skip e =
           stepped seen opens l r numbers [] (stateOf s t seen opens r) refl refl
           (walk-skip s t depth i to (g .ready .accepted) (g .ready .nested) (g .ready .start) (g .ready .within) more opened table o (r .anchor) (stateOf s t seen opens r) (g .ready .anchored) e)
-          refl (wrote-none l (countsOf r)) (g .ready .starts) (g .ready .sane) (omega arith) (omega arith) (omega arith) open-anchored open-starts
+          refl (wrote-none l (countsOf r)) (g .ready .starts) (g .ready .bounded) (omega arith) (omega arith) (omega arith) open-anchored open-starts
 
       module _ (e : Entry) (known : entryOf table (nodeAt s t i) ≡ some e) where
-        open-is : walkAt table s t o i to seen opens r ≡ before (visitFindings table s t o e i to seen opens r) (walk table o (anchorOf s t (r .anchor) next) (forest s t next to) (visitState table s t o e i to seen opens r))
+        open-is : walkAt table s t o i to seen opens r ≡ withFindings (visitFindings table s t o e i to seen opens r) (walk table o (anchorOf s t (r .anchor) next) (forest s t next to) (visitState table s t o e i to seen opens r))
         open-is = walk-open s t depth i to (g .ready .accepted) (g .ready .nested) (g .ready .start) (g .ready .within) more opened table o (r .anchor) (stateOf s t seen opens r) e (g .ready .anchored) known
 
         pub visit-room : Room (countsOf r) (visitFindings table s t o e i to seen opens r)
@@ -227,11 +227,11 @@ module _ {table words : List ℕ} {entries : ℕ} {s t : List ℕ} {depth : ℕ}
         pub visit-able : Visitable s t i to numbers r
         visit-able = record { more = more; opened = opened; attached = g .attached }
 
-        pub going-open : (seen′ : List ℕ) (opens′ : List OpenStart) (l′ : List ℕ) (q : State) → length seen′ ≡ length seen → length opens′ ≡ length opens → Visited table s t o e i to seen opens l r seen′ opens′ l′ q → Going table words entries s t depth o from to w₀ l₀ r₀ seen′ opens′ l′ q numbers next
+        pub going-open : (seen′ : List ℕ) (opens′ : List OpenStart) (l′ : List ℕ) (q : State) → length seen′ ≡ length seen → length opens′ ≡ length opens → Visited table s t o e i to seen opens l r seen′ opens′ l′ q → Going table index entries s t depth o from to w₀ l₀ r₀ seen′ opens′ l′ q numbers next
         going-open seen′ opens′ l′ q ls lo v =
             let w = v .went in
             let a = v .anchor in
-            stepped seen′ opens′ l′ q numbers (visitFindings table s t o e i to seen opens r) (visitState table s t o e i to seen opens r) ls lo (rw a open-is) (w .state) (w .wrote) (w .starts) (w .sane) (w .seen-few) (w .open-few) (w .verses-few) (rw a open-anchored) (rw a open-starts)
+            stepped seen′ opens′ l′ q numbers (visitFindings table s t o e i to seen opens r) (visitState table s t o e i to seen opens r) ls lo (rw a open-is) (w .state) (w .wrote) (w .starts) (w .bounded) (w .seen-few) (w .open-few) (w .verses-few) (rw a open-anchored) (rw a open-starts)
 
   -- by what is read of the node
   module _ (more : i < to) (after : ℕ) (past : after ≡ pastNode t i) where
@@ -244,7 +244,7 @@ module _ {table words : List ℕ} {entries : ℕ} {s t : List ℕ} {depth : ℕ}
     no-number : isOpen (kindAt t i) ≡ true → numbered (kindAt t i) ≡ false
     no-number h = let one : kindAt t i ≡ markerOpenKind = eqb-true (kindAt t i) markerOpenKind h in rw one
 
-    pub passable : Passable table words entries s t o i after to seen r
+    pub passable : Passable table index entries s t o i after to seen r
     passable =
         record {
           inside = going-below more;
@@ -254,7 +254,7 @@ module _ {table words : List ℕ} {entries : ℕ} {s t : List ℕ} {depth : ℕ}
               record {
                 indexed = g .ready .indexed;
                 spanned = going-spanned more;
-                sane = g .ready .sane;
+                bounded = g .ready .bounded;
                 seen-room = leaf-seen more l;
                 verses-room = leaf-verses more l;
                 room = leaf-room more l;
@@ -262,16 +262,16 @@ module _ {table words : List ℕ} {entries : ℕ} {s t : List ℕ} {depth : ℕ}
               };
         }
 
-    nothing-told : numbered (kindAt t i) ≡ false → leafTold table o (stateOf s t seen opens r) (nodeAt s t i) ≡ record { findings = []; state = stateOf s t seen opens r }
-    unfolding leafTold given
-    nothing-told h = let k = or-parts (eqb (kindAt t i) chapterKind) (eqb (kindAt t i) verseKind) h in rw (k .0, k .1)
+    no-findings : numbered (kindAt t i) ≡ false → leafChecked table o (stateOf s t seen opens r) (nodeAt s t i) ≡ record { findings = []; state = stateOf s t seen opens r }
+    unfolding leafChecked given
+    no-findings h = let k = or-parts (eqb (kindAt t i) chapterKind) (eqb (kindAt t i) verseKind) h in rw (k .0, k .1)
 
-    going-other : numbered (kindAt t i) ≡ false → isOpen (kindAt t i) ≡ false → Going table words entries s t depth o from to w₀ l₀ r₀ seen opens l r numbers after
+    going-other : numbered (kindAt t i) ≡ false → isOpen (kindAt t i) ≡ false → Going table index entries s t depth o from to w₀ l₀ r₀ seen opens l r numbers after
     going-other h e =
         let lt = going-later more in
         let same : anchorAfter t i (r .anchor) ≡ r .anchor = rw h in
         rw past
-        (stepped more seen opens l r numbers [] (stateOf s t seen opens r) refl refl (rw (nothing-told h, same) at (leaf-is more e)) refl (wrote-none l (countsOf r)) (g .ready .starts) (g .ready .sane) (omega (arith, lt .0)) (omega (arith, lt .0)) (omega (arith, lt .0))
+        (stepped more seen opens l r numbers [] (stateOf s t seen opens r) refl refl (rw (no-findings h, same) at (leaf-is more e)) refl (wrote-none l (countsOf r)) (g .ready .starts) (g .ready .bounded) (omega (arith, lt .0)) (omega (arith, lt .0)) (omega (arith, lt .0))
         (rw same at (leaf-anchored s t depth i to (g .ready .accepted) (g .ready .nested) (g .ready .start) (g .ready .within) more e (r .anchor) (g .ready .anchored)))
         (rw h at (leaf-starts s t depth i to (g .ready .accepted) (g .ready .nested) (g .ready .start) (g .ready .within) more e (r .anchor) (startsOf numbers) (g .ready .anchored) (g .attached))))
 
@@ -281,9 +281,9 @@ module _ {table words : List ℕ} {entries : ℕ} {s t : List ℕ} {depth : ℕ}
     -- after the visit of a leaf
     module _ (seen′ l′ : List ℕ) (q : State) (numbers′ : Attached) (ls : length seen′ ≡ length seen) (by : PassedBy table s t o i after to numbers seen l r seen′ l′ q numbers′) where
       abbrev Now : Type 0
-      Now = Going table words entries s t depth o from to w₀ l₀ r₀ seen′ opens l′ q numbers′ after
+      Now = Going table index entries s t depth o from to w₀ l₀ r₀ seen′ opens l′ q numbers′ after
 
-      same : numbered (kindAt t i) ≡ false → Going table words entries s t depth o from to w₀ l₀ r₀ seen opens l r numbers after → Now
+      same : numbered (kindAt t i) ≡ false → Going table index entries s t depth o from to w₀ l₀ r₀ seen opens l r numbers after → Now
       same h g′ = let u = by .other h in rw (u .same-seen, u .same-list, u .same-record, u .same-numbers) g′
 
       module _ (x : Info) (read : infoOf x ≡ onlyOpen (isOpen (kindAt t i)) (infoAt table t i)) where
@@ -310,13 +310,13 @@ module _ {table words : List ℕ} {entries : ℕ} {s t : List ℕ} {depth : ℕ}
           left-so : Unchanged numbers seen l r seen′ l′ q numbers′
           left-so = by .other (no-number opened-by)
 
-          pub visit-asks : Ready table words entries s t depth i to seen′ opens q × Visitable s t i to numbers′ q × (m .«name_start» + m .«name_len» ≤ length table) × Room (countsOf q) (visitFindings table s t o (entryOfInfo m) i to seen′ opens q)
+          pub visit-asks : Ready table index entries s t depth i to seen′ opens q × Visitable s t i to numbers′ q × (m .«name_start» + m .«name_len» ≤ length table) × Room (countsOf q) (visitFindings table s t o (entryOfInfo m) i to seen′ opens q)
           visit-asks =
               let u = left-so in
               rw (u .same-seen, u .same-record, u .same-numbers)
-              (g .ready, visit-able more opened-by (entryOfInfo m) entry-by, entry-inside table words entries s t i m (g .ready .indexed) entry-by, visit-room more opened-by (entryOfInfo m) entry-by)
+              (g .ready, visit-able more opened-by (entryOfInfo m) entry-by, entry-inside table index entries s t i m (g .ready .indexed) entry-by, visit-room more opened-by (entryOfInfo m) entry-by)
 
-          pub going-visited : (seen″ : List ℕ) (opens″ : List OpenStart) (l″ : List ℕ) (q″ : State) → length seen″ ≡ length seen′ → length opens″ ≡ length opens → Visited table s t o (entryOfInfo m) i to seen′ opens l′ q seen″ opens″ l″ q″ → Going table words entries s t depth o from to w₀ l₀ r₀ seen″ opens″ l″ q″ numbers′ after
+          pub going-visited : (seen″ : List ℕ) (opens″ : List OpenStart) (l″ : List ℕ) (q″ : State) → length seen″ ≡ length seen′ → length opens″ ≡ length opens → Visited table s t o (entryOfInfo m) i to seen′ opens l′ q seen″ opens″ l″ q″ → Going table index entries s t depth o from to w₀ l₀ r₀ seen″ opens″ l″ q″ numbers′ after
           going-visited seen″ opens″ l″ q″ ls″ lo v =
               let u = left-so in
               rw (u .same-numbers, past) (going-open more opened-by (entryOfInfo m) entry-by seen″ opens″ l″ q″ (ls″ ∙ ls) lo (rw (u .same-seen, u .same-list, u .same-record) at v))

@@ -17,14 +17,14 @@ use Rattle.findings.proofs.Overlay.{wrote-none}
 use Rattle.numbers.specs.Label.{numbered}
 use Rattle.definition.specs.State.{WalkState}
 use Rattle.definition.specs.State as state
-use Rattle.definition.specs.Checks.{given, leafTold}
+use Rattle.definition.specs.Checks.{given, leafChecked}
 use Rattle.definition.specs.Walk.{walk}
 use Rattle.definition.specs.Walk as Walk
 use Rattle.definition.specs.declared.OpenStart.{OpenStart}
 use Rattle.state.specs.Running.{stateOf, countsOf}
 use Rattle.state.specs.declared.State.{State}
 use Rattle.marker_checks.specs.Skip.{onlyTexts}
-use Rattle.walk.specs.Walking.{nowhere, walkAt, Ready, Walked, canSkipChildren}
+use Rattle.walk.specs.Walking.{nowhere, walkAt, Ready, RunWalked, canSkipChildren}
 use Rattle.text.specs.Pick.{pick}
 use Rattle.text.proofs.Bool.{and-left, and-right, or-parts}
 
@@ -65,7 +65,7 @@ abbrev still : WalkState → Walk.Walked
 still st = record { findings = []; anchor = none; state = st }
 
 pub skipped-walk : (table : List ℕ) (o : state.WalkContext) (f : Forest) (st : WalkState) → canSkipChildren f ≡ true → walk table o none f st ≡ still st
-unfolding canSkipChildren walk leafTold given
+unfolding canSkipChildren walk leafChecked given
 skipped-walk table o end st h = refl
 skipped-walk table o (leaf x r) st h = go (numbered (x .kind)) refl h (λ q. skipped-walk table o r st q)
   where
@@ -74,8 +74,8 @@ skipped-walk table o (leaf x r) st h = go (numbered (x .kind)) refl h (λ q. ski
     go false e h rest = let k = or-parts (eqb (x .kind) chapterKind) (eqb (x .kind) verseKind) e in rw (k .0, k .1) (rest h)
 skipped-walk table o (node x c r) st h = absurd (false≢true h)
 
-pub skipped-walked : {table words : List ℕ} {entries : ℕ} {s t : List ℕ} {depth from to : ℕ} {seen : List ℕ} {opens : List OpenStart} {r : State} (o : state.WalkContext) (l : List ℕ) → Ready table words entries s t depth from to seen opens r → r .anchor ≡ 0 → canSkipChildren (forest s t from to) ≡ true → Walked s t (walkAt table s t o from to seen opens r) depth from to l r seen opens l r
-skipped-walked {table} {words} {entries} {s} {t} {depth} {from} {to} {seen} {opens} {r} o l ready a h =
+pub skipped-walked : {table index : List ℕ} {entries : ℕ} {s t : List ℕ} {depth from to : ℕ} {seen : List ℕ} {opens : List OpenStart} {r : State} (o : state.WalkContext) (l : List ℕ) → Ready table index entries s t depth from to seen opens r → r .anchor ≡ 0 → canSkipChildren (forest s t from to) ≡ true → RunWalked s t (walkAt table s t o from to seen opens r) depth from to l r seen opens l r
+skipped-walked {table} {index} {entries} {s} {t} {depth} {from} {to} {seen} {opens} {r} o l ready a h =
     let same : walkAt table s t o from to seen opens r ≡ still (stateOf s t seen opens r) = rw a (skipped-walk table o (forest s t from to) (stateOf s t seen opens r) h) in
     rw same
     (record {
@@ -84,7 +84,7 @@ skipped-walked {table} {words} {entries} {s} {t} {depth} {from} {to} {seen} {ope
             wrote = wrote-none l (countsOf r);
             state = refl;
             starts = ready .starts;
-            sane = ready .sane;
+            bounded = ready .bounded;
             seen-few = omega arith;
             open-few = omega arith;
             verses-few = omega arith;

@@ -21,23 +21,23 @@ use Rattle.cursor.proofs.Runs.{one-nested, rest-nested, one-leaf, one-open, for
 use Rattle.numbers.specs.Label.{numbered}
 use Rattle.findings.specs.Finding.{Finding}
 use Rattle.findings.specs.Written.{Room}
-use Rattle.attachment.specs.Attached.{starts, attachedNumbers}
+use Rattle.attachment.specs.Attached.{startOffsets, attachedNumbers}
 use Rattle.attachment.specs.declared.Attached.{Attached}
-use Rattle.definition.specs.State.{WalkState, Anchor, past, Told}
+use Rattle.definition.specs.State.{WalkState, Anchor, past, NodeChecked}
 use Rattle.definition.specs.State as state
-use Rattle.definition.specs.Checks.{entryOf, leafTold}
-use Rattle.definition.specs.Walk.{leafAnchor, openTold, inside, before, after, thenWalk, byEntry, walk}
+use Rattle.definition.specs.Checks.{entryOf, leafChecked}
+use Rattle.definition.specs.Walk.{leafAnchor, openChecked, inside, withFindings, afterNode, thenWalk, byEntry, walk}
 use Rattle.definition.specs.Walk as def
-use Rattle.state.specs.Running.{stateOf, countsOf, anchorOf, startsFor, withAnchor, Sane}
+use Rattle.state.specs.Running.{stateOf, countsOf, anchorOf, startsFor, withAnchor, VerseBounded}
 use Rattle.state.specs.declared.State.{State}
 use Rattle.walk.specs.Walking.{Anchored, nowhere, behind, anchorAfter, numbersAfter, LeafPassed, Leafy, Leaved, Unchanged, PassedBy}
 use Rattle.chapter_verse.specs.Leaves.{LeafVisited}
 
 -- a marker with its entry, its children and what follows it
-open-walk : (table : List ℕ) (o : state.WalkContext) (a : Option Anchor) (x : Node) (c r : Forest) (st : WalkState) (e : Entry) → entryOf table x ≡ some e → walk table o a (node x c r) st ≡ before (openTold table o a st e x c (node x c r) .findings ++ walk table (inside o e) none c (openTold table o a st e x c (node x c r) .state) .findings) (walk table o (past a (node x c end)) r (walk table (inside o e) none c (openTold table o a st e x c (node x c r) .state) .state))
+open-walk : (table : List ℕ) (o : state.WalkContext) (a : Option Anchor) (x : Node) (c r : Forest) (st : WalkState) (e : Entry) → entryOf table x ≡ some e → walk table o a (node x c r) st ≡ withFindings (openChecked table o a st e x c (node x c r) .findings ++ walk table (inside o e) none c (openChecked table o a st e x c (node x c r) .state) .findings) (walk table o (past a (node x c end)) r (walk table (inside o e) none c (openChecked table o a st e x c (node x c r) .state) .state))
 unfolding walk
 open-walk table o a x c r st e h =
-    let t = openTold table o a st e x c (node x c r) in
+    let t = openChecked table o a st e x c (node x c r) in
     let w = walk table (inside o e) none c (t .state) in
     rw h (ap (λ (l : List Finding). record { findings = l; anchor = walk table o (past a (node x c end)) r (w .state) .anchor; state = walk table o (past a (node x c end)) r (w .state) .state }) (sym (append-assoc (t .findings) (w .findings) (walk table o (past a (node x c end)) r (w .state) .findings))))
 
@@ -73,7 +73,7 @@ module _ (s t : List ℕ) (d i to : ℕ) (ok : Accepted s t) (nested : Nested t 
   pub starts-past : (n : ℕ) → Anchored t d n i → startsFor (anchorOf s t n i) (forest s t i to) ≡ startsFor (anchorOf s t n next) (forest s t next to)
   starts-past n nowhere = refl
   starts-past (suc n) (behind l r) =
-      ap (λ (f : Forest). starts (attachedNumbers (kindAt t (suc n)) f)) (sym (forest-join s t r nested) ∙ forest-join s t (nested-join r first) (rest-nested s t d i to ok nested from within more))
+      ap (λ (f : Forest). startOffsets (attachedNumbers (kindAt t (suc n)) f)) (sym (forest-join s t r nested) ∙ forest-join s t (nested-join r first) (rest-nested s t d i to ok nested from within more))
 
   -- a leaf
   module _ (leafy : isOpen (kindAt t i) ≡ false) where
@@ -99,12 +99,12 @@ module _ (s t : List ℕ) (d i to : ℕ) (ok : Accepted s t) (nested : Nested t 
     unfolding followed
     leaf-starts n given a h = go (numbered (kindAt t i))
       where
-        go : (v : Bool) → pick v (starts (attachedNumbers (kindAt t i) (forest s t next to))) given ≡ startsFor (anchorOf s t (pick v i n) next) (forest s t next to)
-        go true = sym (ap (λ (a : Option Anchor). startsFor a (forest s t next to)) (anchor-at s t i next from) ∙ ap (λ (f : Forest). starts (attachedNumbers (kindAt t i) (followed f (forest s t next to)))) (forest-done s t next next (omega arith)))
+        go : (v : Bool) → pick v (startOffsets (attachedNumbers (kindAt t i) (forest s t next to))) given ≡ startsFor (anchorOf s t (pick v i n) next) (forest s t next to)
+        go true = sym (ap (λ (a : Option Anchor). startsFor a (forest s t next to)) (anchor-at s t i next from) ∙ ap (λ (f : Forest). startOffsets (attachedNumbers (kindAt t i) (followed f (forest s t next to)))) (forest-done s t next next (omega arith)))
         go false = h ∙ starts-past n a
 
     -- the walk from a leaf on
-    pub walk-leaf : (table : List ℕ) (o : state.WalkContext) (n : ℕ) (st : WalkState) → Anchored t d n i → walk table o (anchorOf s t n i) (forest s t i to) st ≡ before (leafTold table o st (nodeAt s t i) .findings) (walk table o (anchorOf s t (anchorAfter t i n) next) (forest s t next to) (leafTold table o st (nodeAt s t i) .state))
+    pub walk-leaf : (table : List ℕ) (o : state.WalkContext) (n : ℕ) (st : WalkState) → Anchored t d n i → walk table o (anchorOf s t n i) (forest s t i to) st ≡ withFindings (leafChecked table o st (nodeAt s t i) .findings) (walk table o (anchorOf s t (anchorAfter t i n) next) (forest s t next to) (leafChecked table o st (nodeAt s t i) .state))
     unfolding walk
     walk-leaf table o n st a = rw (forest-at-leaf s t i to run more leafy, leaf-anchor n a)
 
@@ -124,7 +124,7 @@ module _ (s t : List ℕ) (d i to : ℕ) (ok : Accepted s t) (nested : Nested t 
     unfolding walk
     walk-skip table o n st a e = rw (forest-at-open s t i to run more opened, e, open-anchor n a)
 
-    pub walk-open : (table : List ℕ) (o : state.WalkContext) (n : ℕ) (st : WalkState) (e : Entry) → Anchored t d n i → entryOf table x ≡ some e → walk table o (anchorOf s t n i) (forest s t i to) st ≡ before (openTold table o (anchorOf s t n i) st e x c (forest s t i to) .findings ++ walk table (inside o e) none c (openTold table o (anchorOf s t n i) st e x c (forest s t i to) .state) .findings) (walk table o (anchorOf s t n next) (forest s t next to) (walk table (inside o e) none c (openTold table o (anchorOf s t n i) st e x c (forest s t i to) .state) .state))
+    pub walk-open : (table : List ℕ) (o : state.WalkContext) (n : ℕ) (st : WalkState) (e : Entry) → Anchored t d n i → entryOf table x ≡ some e → walk table o (anchorOf s t n i) (forest s t i to) st ≡ withFindings (openChecked table o (anchorOf s t n i) st e x c (forest s t i to) .findings ++ walk table (inside o e) none c (openChecked table o (anchorOf s t n i) st e x c (forest s t i to) .state) .findings) (walk table o (anchorOf s t n next) (forest s t next to) (walk table (inside o e) none c (openChecked table o (anchorOf s t n i) st e x c (forest s t i to) .state) .state))
     unfolding walk
     walk-open table o n st e a h =
         rw (forest-at-open s t i to run more opened) (open-walk table o (anchorOf s t n i) x c (forest s t next to) st e h ∙ rw (open-anchor n a))
@@ -149,12 +149,12 @@ module _ (s t : List ℕ) (d n from to : ℕ) (ok : Accepted s t) (nested : Nest
       go nowhere h = absurd (h refl)
       go {n} (behind l r) h = record { accepted = ok; depth = d; nested = nested-join r nested; from = past-some (holdsNodes (kindAt t n)) (linkAt t n) n; inside = within }
 
-  pub begun-starts : (k p : ℕ) (xs : List ℕ) → k ≡ kindAt t n → p ≡ pastNode t n → xs ≡ starts (attachedNumbers k (forest s t p to)) → xs ≡ startsFor (anchorOf s t n from) (forest s t from to)
+  pub begun-starts : (k p : ℕ) (xs : List ℕ) → k ≡ kindAt t n → p ≡ pastNode t n → xs ≡ startOffsets (attachedNumbers k (forest s t p to)) → xs ≡ startsFor (anchorOf s t n from) (forest s t from to)
   begun-starts k p xs e f h = h ∙ rw (e, f) (go a some-anchor)
     where
-      go : {n : ℕ} → Anchored t d n from → (n ≡ 0 → ⊥) → starts (attachedNumbers (kindAt t n) (forest s t (pastNode t n) to)) ≡ startsFor (anchorOf s t n from) (forest s t from to)
+      go : {n : ℕ} → Anchored t d n from → (n ≡ 0 → ⊥) → startOffsets (attachedNumbers (kindAt t n) (forest s t (pastNode t n) to)) ≡ startsFor (anchorOf s t n from) (forest s t from to)
       go nowhere h = absurd (h refl)
-      go {n} (behind l r) h = ap (λ (f : Forest). starts (attachedNumbers (kindAt t n) f)) (forest-join s t r nested)
+      go {n} (behind l r) h = ap (λ (f : Forest). startOffsets (attachedNumbers (kindAt t n) f)) (forest-join s t r nested)
 
 pub begun-nothing : (s t : List ℕ) (n from : ℕ) (f : Forest) → n ≡ 0 → [] ≡ startsFor (anchorOf s t n from) f
 begun-nothing s t n from f e = rw e
@@ -171,7 +171,7 @@ module _ (t : List ℕ) (i k : ℕ) (is-kind : k ≡ kindAt t i) where
   is-neither n m = rw (← is-kind, ne-eqb k 3 n, ne-eqb k 4 m)
 
 module _ (s t : List ℕ) (i next to : ℕ) (given : List ℕ) where
-  pub new-numbers : (k : ℕ) (xs : List ℕ) → k ≡ kindAt t i → numbered (kindAt t i) ≡ true → xs ≡ starts (attachedNumbers k (forest s t next to)) → xs ≡ numbersAfter s t i next to given
+  pub new-numbers : (k : ℕ) (xs : List ℕ) → k ≡ kindAt t i → numbered (kindAt t i) ≡ true → xs ≡ startOffsets (attachedNumbers k (forest s t next to)) → xs ≡ numbersAfter s t i next to given
   new-numbers k xs e h q = q ∙ rw (e, h)
 
   pub same-numbers : numbered (kindAt t i) ≡ false → given ≡ numbersAfter s t i next to given
@@ -180,18 +180,18 @@ module _ (s t : List ℕ) (i next to : ℕ) (given : List ℕ) where
 -- the leaf with its anchor
 module _ {table s t : List ℕ} {o : state.WalkContext} {i : ℕ} {seen l : List ℕ} {r : State} {seen′ l′ : List ℕ} {q : State} (v : LeafVisited table s t o i seen l r seen′ l′ q) where
   pub leaf-new : (q′ : State) → q′ ≡ withAnchor q i → numbered (kindAt t i) ≡ true → LeafPassed table s t o i seen l r seen′ l′ q′
-  leaf-new q′ e h = rw e (record { wrote = v .wrote; state = v .state; sane = v .sane; seen-few = v .seen-few; verses-few = v .verses-few; opens = v .opens; anchor = rw h })
+  leaf-new q′ e h = rw e (record { wrote = v .wrote; state = v .state; bounded = v .bounded; seen-few = v .seen-few; verses-few = v .verses-few; opens = v .opens; anchor = rw h })
 
   pub leaf-old : numbered (kindAt t i) ≡ false → LeafPassed table s t o i seen l r seen′ l′ q
-  leaf-old h = record { wrote = v .wrote; state = v .state; sane = v .sane; seen-few = v .seen-few; verses-few = v .verses-few; opens = v .opens; anchor = v .anchor ∙ rw h }
+  leaf-old h = record { wrote = v .wrote; state = v .state; bounded = v .bounded; seen-few = v .seen-few; verses-few = v .verses-few; opens = v .opens; anchor = v .anchor ∙ rw h }
 
 -- what a Chapter or Verse asks for, one by one
-pub leafy-asks : {table words : List ℕ} {entries : ℕ} {s t : List ℕ} {o : state.WalkContext} {i next to : ℕ} {seen : List ℕ} {r : State} → Leafy table words entries s t o i next to seen r → Indexed table words entries × Spanned s t i × Sane r × (r .«seen_len» < length seen) × (r .verses < 4611686018427387904) × Room (countsOf r) (leafTold table o (stateOf s t seen [] r) (nodeAt s t i) .findings)
-leafy-asks a = (a .indexed, a .spanned, a .sane, a .seen-room, a .verses-room, a .room)
+pub leafy-asks : {table index : List ℕ} {entries : ℕ} {s t : List ℕ} {o : state.WalkContext} {i next to : ℕ} {seen : List ℕ} {r : State} → Leafy table index entries s t o i next to seen r → Indexed table index entries × Spanned s t i × VerseBounded r × (r .«seen_len» < length seen) × (r .verses < 4611686018427387904) × Room (countsOf r) (leafChecked table o (stateOf s t seen [] r) (nodeAt s t i) .findings)
+leafy-asks a = (a .indexed, a .spanned, a .bounded, a .seen-room, a .verses-room, a .room)
 
 -- the visit of a leaf, by what it is
 module _ {table s t : List ℕ} {o : state.WalkContext} {i next to : ℕ} {numbers : Attached} {seen l : List ℕ} {r : State} where
-  pub was-number : {seen′ l′ : List ℕ} {q : State} {after : Attached} → numbered (kindAt t i) ≡ true → Leaved table s t o i next to numbers seen l r seen′ l′ q after → PassedBy table s t o i next to numbers seen l r seen′ l′ q after
+  pub was-number : {seen′ l′ : List ℕ} {q : State} {afterNode : Attached} → numbered (kindAt t i) ≡ true → Leaved table s t o i next to numbers seen l r seen′ l′ q afterNode → PassedBy table s t o i next to numbers seen l r seen′ l′ q afterNode
   was-number h v = record { number = λ _. v; other = λ e. absurd (false≢true (sym e ∙ h)) }
 
   pub was-other : numbered (kindAt t i) ≡ false → PassedBy table s t o i next to numbers seen l r seen l r numbers

@@ -23,18 +23,18 @@ use Rattle.findings.specs.Written.{Wrote, Room}
 use Rattle.findings.proofs.Overlay.{Left, left-start, left-wrote, left-room, room-first, wrote-append}
 use Rattle.attachment.specs.Attached.{startsOf}
 use Rattle.attachment.specs.declared.Attached.{Attached}
-use Rattle.definition.specs.State.{WalkState, Anchor, Told}
+use Rattle.definition.specs.State.{WalkState, Anchor, NodeChecked}
 use Rattle.definition.specs.State as state
 use Rattle.definition.specs.Checks.{given, afterId}
 use Rattle.definition.specs.Milestones.{milestoneChecks, afterMilestone}
-use Rattle.definition.specs.Walk.{walk, openTold, inside}
+use Rattle.definition.specs.Walk.{walk, openChecked, inside}
 use Rattle.definition.specs.Walk as def
 use Rattle.definition.specs.declared.OpenStart.{OpenStart}
-use Rattle.state.specs.Running.{stateOf, countsOf, anchorOf, withCounts, withAnchor, Sane, Opens}
+use Rattle.state.specs.Running.{stateOf, countsOf, anchorOf, withCounts, withAnchor, VerseBounded, Opens}
 use Rattle.state.specs.declared.State.{State}
-use Rattle.marker_checks.specs.Own.{isId, childrenAt, ownAt, Marked}
-use Rattle.milestones.specs.Steps.{Stepped, Milestoned, Steppable}
-use Rattle.walk.specs.Walking.{Anchored, nowhere, walkAt, Ready, Went, Walked, toldAt, below, visitFindings, visitState, Visited, Visitable, canSkipChildren}
+use Rattle.marker_checks.specs.Own.{isId, childrenAt, ownAt, MarkerVisited}
+use Rattle.milestones.specs.Steps.{MilestoneStep, Milestoned, Steppable}
+use Rattle.walk.specs.Walking.{Anchored, nowhere, walkAt, Ready, Went, RunWalked, openCheckedAt, below, visitFindings, visitState, Visited, Visitable, canSkipChildren}
 use Rattle.marker_checks.specs.Skip.{canSkipMarkerAt}
 use Rattle.marker_checks.proofs.Skip.{skipped-texts, skipped-category, skipped-marked}
 use Rattle.milestones.proofs.Whole.{other as no-milestone}
@@ -48,12 +48,12 @@ count-low s t ok =
     ltb-false 65535 (count t) (or-parts (not (eqb (length t % 16) 0)) _ (a .1) .1)
 
 -- what a visit begins with
-pub record Visit (table words : List ℕ) (entries : ℕ) (s t : List ℕ) (depth : ℕ) (o : state.WalkContext) (i to : ℕ) (e : Entry) (numbers : Attached) (seen : List ℕ) (opens : List OpenStart) (l : List ℕ) (r : State) : Type 0 where
-  pub ready : Ready table words entries s t depth i to seen opens r
+pub record Visit (table index : List ℕ) (entries : ℕ) (s t : List ℕ) (depth : ℕ) (o : state.WalkContext) (i to : ℕ) (e : Entry) (numbers : Attached) (seen : List ℕ) (opens : List OpenStart) (l : List ℕ) (r : State) : Type 0 where
+  pub ready : Ready table index entries s t depth i to seen opens r
   pub able : Visitable s t i to numbers r
   pub room : Room (countsOf r) (visitFindings table s t o e i to seen opens r)
 
-module _ {table words : List ℕ} {entries : ℕ} {s t : List ℕ} {depth : ℕ} {o : state.WalkContext} {i to : ℕ} {e : Entry} {numbers : Attached} {seen : List ℕ} {opens : List OpenStart} {l : List ℕ} {r : State} (v : Visit table words entries s t depth o i to e numbers seen opens l r) where
+module _ {table index : List ℕ} {entries : ℕ} {s t : List ℕ} {depth : ℕ} {o : state.WalkContext} {i to : ℕ} {e : Entry} {numbers : Attached} {seen : List ℕ} {opens : List OpenStart} {l : List ℕ} {r : State} (v : Visit table index entries s t depth o i to e numbers seen opens l r) where
   abbrev x : Node
   x = nodeAt s t i
 
@@ -71,19 +71,19 @@ module _ {table words : List ℕ} {entries : ℕ} {s t : List ℕ} {depth : ℕ}
   milestone = given (milestoneChecks e st₁ x)
 
   abbrev children : List Finding
-  children = below table s t o e i (toldAt table s t o e i to seen opens r) .findings
+  children = below table s t o e i (openCheckedAt table s t o e i to seen opens r) .findings
 
   -- the parts of what is said
-  told-findings : toldAt table s t o e i to seen opens r .findings ≡ own ++ milestone
-  unfolding openTold afterId
-  told-findings = refl
+  open-findings : openCheckedAt table s t o e i to seen opens r .findings ≡ own ++ milestone
+  unfolding openChecked afterId
+  open-findings = refl
 
-  told-state : toldAt table s t o e i to seen opens r .state ≡ afterMilestone e st₁ x
-  unfolding openTold
-  told-state = refl
+  open-state : openCheckedAt table s t o e i to seen opens r .state ≡ afterMilestone e st₁ x
+  unfolding openChecked
+  open-state = refl
 
   parts : visitFindings table s t o e i to seen opens r ≡ (own ++ milestone) ++ children
-  parts = ap (_++ children) told-findings
+  parts = ap (_++ children) open-findings
 
   pub visit-run : Run s t i to
   visit-run = record { accepted = v .ready .accepted; depth = depth; nested = v .ready .nested; from = v .ready .start; inside = v .ready .within }
@@ -116,7 +116,7 @@ module _ {table words : List ℕ} {entries : ℕ} {s t : List ℕ} {depth : ℕ}
   link-later = open-later s t i to visit-run (v .able .more) (v .able .opened)
 
   -- after the checks of the marker
-  module _ (l₁ : List ℕ) (r₁ : State) (marked : Marked table s t o (anchorOf s t (r .anchor) i) e i to l r l₁ r₁) where
+  module _ (l₁ : List ℕ) (r₁ : State) (marked : MarkerVisited table s t o (anchorOf s t (r .anchor) i) e i to l r l₁ r₁) where
     same-open : r₁ .«open_len» ≡ r .«open_len»
     same-open = marked .same .opens
 
@@ -141,14 +141,14 @@ module _ {table words : List ℕ} {entries : ℕ} {s t : List ℕ} {depth : ℕ}
 
     -- after the milestone
     module _ (l₂ : List ℕ) (opens₂ : List OpenStart) (r₂ : State) (lo : length opens₂ ≡ length opens) (done : Milestoned e s t i opens l₁ r₁ opens₂ l₂ r₂) where
-      stepped : Stepped e s t i opens (withCounts r₁ (countsOf r₂)) opens₂ r₂
+      stepped : MilestoneStep e s t i opens (withCounts r₁ (countsOf r₂)) opens₂ r₂
       stepped = done .step
 
       both-wrote : Wrote (own ++ milestone) l (countsOf r) l₂ (countsOf r₂)
       both-wrote = wrote-append (marked .wrote) (rw milestone-same at (done .wrote))
 
-      state-now : stateOf s t seen opens₂ (withAnchor r₂ 0) ≡ toldAt table s t o e i to seen opens r .state
-      state-now = stepped .state seen ∙ ap (λ (z : WalkState). afterMilestone e z x) (marked .state seen opens) ∙ sym told-state
+      state-now : stateOf s t seen opens₂ (withAnchor r₂ 0) ≡ openCheckedAt table s t o e i to seen opens r .state
+      state-now = stepped .state seen ∙ ap (λ (z : WalkState). afterMilestone e z x) (marked .state seen opens) ∙ sym open-state
 
       seen-now : r₂ .«seen_len» ≡ r .«seen_len»
       seen-now = stepped .seen ∙ marked .same .seen
@@ -156,7 +156,7 @@ module _ {table words : List ℕ} {entries : ℕ} {s t : List ℕ} {depth : ℕ}
       verses-now : r₂ .verses ≡ r .verses
       verses-now = stepped .verses ∙ marked .same .verses
 
-      pub children-ready : Ready table words entries s t (depth - 1) (i + 1) (linkAt t i) seen opens₂ (withAnchor r₂ 0)
+      pub children-ready : Ready table index entries s t (depth - 1) (i + 1) (linkAt t i) seen opens₂ (withAnchor r₂ 0)
       children-ready =
           let inner = nested-open (v .ready .nested) (v .able .more) (v .able .opened) in
           let ll = link-later in
@@ -174,21 +174,21 @@ module _ {table words : List ℕ} {entries : ℕ} {s t : List ℕ} {depth : ℕ}
             start = omega arith;
             within = omega (arith, ll .1);
             starts = stepped .stays;
-            sane = rw (stepped .verse, marked .verse) (v .ready .sane);
+            bounded = rw (stepped .verse, marked .verse) (v .ready .bounded);
             seen-room = rw seen-now (omega (arith, ll .0, ll .1));
             open-room = rw lo (omega (arith, ll .0, ll .1));
             verses-room = rw verses-now (omega (arith, ll .0, ll .1));
             anchored = nowhere;
           }
 
-      walk-same : (o′ : state.WalkContext) → o′ ≡ inside o e → walkAt table s t o′ (i + 1) (linkAt t i) seen opens₂ (withAnchor r₂ 0) ≡ below table s t o e i (toldAt table s t o e i to seen opens r)
+      walk-same : (o′ : state.WalkContext) → o′ ≡ inside o e → walkAt table s t o′ (i + 1) (linkAt t i) seen opens₂ (withAnchor r₂ 0) ≡ below table s t o e i (openCheckedAt table s t o e i to seen opens r)
       walk-same o′ h = ap₂ (λ (z : state.WalkContext) (y : WalkState). walk table z none (forest s t (i + 1) (linkAt t i)) y) h state-now
 
       pub children-room : (o′ : state.WalkContext) → o′ ≡ inside o e → Room (countsOf (withAnchor r₂ 0)) (walkAt table s t o′ (i + 1) (linkAt t i) seen opens₂ (withAnchor r₂ 0) .findings)
       children-room o′ h =
           subst (λ (w : def.Walked). Room (countsOf r₂) (w .findings)) (sym (walk-same o′ h)) (left-room (left-wrote {gs = own ++ milestone} {fs = children} whole both-wrote) roomy)
 
-      pub visited : (o′ : state.WalkContext) (seen′ : List ℕ) (opens′ : List OpenStart) (l′ : List ℕ) (r₃ : State) → o′ ≡ inside o e → Walked s t (walkAt table s t o′ (i + 1) (linkAt t i) seen opens₂ (withAnchor r₂ 0)) (depth - 1) (i + 1) (linkAt t i) l₂ (withAnchor r₂ 0) seen′ opens′ l′ r₃ → Visited table s t o e i to seen opens l r seen′ opens′ l′ (withAnchor r₃ (r .anchor))
+      pub visited : (o′ : state.WalkContext) (seen′ : List ℕ) (opens′ : List OpenStart) (l′ : List ℕ) (r₃ : State) → o′ ≡ inside o e → RunWalked s t (walkAt table s t o′ (i + 1) (linkAt t i) seen opens₂ (withAnchor r₂ 0)) (depth - 1) (i + 1) (linkAt t i) l₂ (withAnchor r₂ 0) seen′ opens′ l′ r₃ → Visited table s t o e i to seen opens l r seen′ opens′ l′ (withAnchor r₃ (r .anchor))
       visited o′ seen′ opens′ l′ r₃ h walked =
           let w = walked .went in
           let same = walk-same o′ h in
@@ -208,7 +208,7 @@ module _ {table words : List ℕ} {entries : ℕ} {s t : List ℕ} {depth : ℕ}
                   wrote = rw parts (wrote-append both-wrote wrote);
                   state = rw same at (w .state);
                   starts = w .starts;
-                  sane = w .sane;
+                  bounded = w .bounded;
                   seen-few = omega (arith, ll .0);
                   open-few = omega (arith, ll .0);
                   verses-few = omega (arith, ll .0);
@@ -220,21 +220,21 @@ module _ {table words : List ℕ} {entries : ℕ} {s t : List ℕ} {depth : ℕ}
       pub visited-without-children : canSkipChildren c ≡ true → Visited table s t o e i to seen opens l r seen opens₂ l₂ (withAnchor r₂ (r .anchor))
       visited-without-children h = visited (inside o e) seen opens₂ l₂ (withAnchor r₂ 0) refl (skipped-walked (inside o e) l₂ children-ready refl h)
 
-pub visit-with : {table words : List ℕ} {entries : ℕ} {s t : List ℕ} {depth i to : ℕ} {numbers : Attached} {seen : List ℕ} {opens : List OpenStart} {r : State} (o : state.WalkContext) (e : Entry) (l : List ℕ) → Ready table words entries s t depth i to seen opens r → Visitable s t i to numbers r → Room (countsOf r) (visitFindings table s t o e i to seen opens r) → Visit table words entries s t depth o i to e numbers seen opens l r
+pub visit-with : {table index : List ℕ} {entries : ℕ} {s t : List ℕ} {depth i to : ℕ} {numbers : Attached} {seen : List ℕ} {opens : List OpenStart} {r : State} (o : state.WalkContext) (e : Entry) (l : List ℕ) → Ready table index entries s t depth i to seen opens r → Visitable s t i to numbers r → Room (countsOf r) (visitFindings table s t o e i to seen opens r) → Visit table index entries s t depth o i to e numbers seen opens l r
 visit-with o e l ready able room = record { ready = ready; able = able; room = room }
 
 -- the marker checked and its milestone paired: the list, the open starts and the record before its children
-pub record Entered (table words : List ℕ) (entries : ℕ) (s t : List ℕ) (depth : ℕ) (o : state.WalkContext) (i to : ℕ) (e : Entry) (numbers : Attached) (seen : List ℕ) (opens : List OpenStart) (l : List ℕ) (r : State) (l₂ : List ℕ) (opens₂ : List OpenStart) (r₂ : State) : Type 0 where
-  pub visit : Visit table words entries s t depth o i to e numbers seen opens l r
+pub record Entered (table index : List ℕ) (entries : ℕ) (s t : List ℕ) (depth : ℕ) (o : state.WalkContext) (i to : ℕ) (e : Entry) (numbers : Attached) (seen : List ℕ) (opens : List OpenStart) (l : List ℕ) (r : State) (l₂ : List ℕ) (opens₂ : List OpenStart) (r₂ : State) : Type 0 where
+  pub visit : Visit table index entries s t depth o i to e numbers seen opens l r
   pub l₁ : List ℕ
   pub r₁ : State
-  pub marked : Marked table s t o (anchorOf s t (r .anchor) i) e i to l r l₁ r₁
+  pub marked : MarkerVisited table s t o (anchorOf s t (r .anchor) i) e i to l r l₁ r₁
   pub long : length opens₂ ≡ length opens
   pub done : Milestoned e s t i opens l₁ r₁ opens₂ l₂ r₂
 
 -- the walk of the children
-pub record Inner (table words : List ℕ) (entries : ℕ) (s t : List ℕ) (depth : ℕ) (o : state.WalkContext) (i to : ℕ) (e : Entry) (numbers : Attached) (seen : List ℕ) (opens : List OpenStart) (l : List ℕ) (r : State) (l₂ : List ℕ) (opens₂ : List OpenStart) (r₂ b q : State) (from link d : ℕ) (o′ : state.WalkContext) : Type 0 where
-  pub whole : Entered table words entries s t depth o i to e numbers seen opens l r l₂ opens₂ r₂
+pub record Inner (table index : List ℕ) (entries : ℕ) (s t : List ℕ) (depth : ℕ) (o : state.WalkContext) (i to : ℕ) (e : Entry) (numbers : Attached) (seen : List ℕ) (opens : List OpenStart) (l : List ℕ) (r : State) (l₂ : List ℕ) (opens₂ : List OpenStart) (r₂ b q : State) (from link d : ℕ) (o′ : state.WalkContext) : Type 0 where
+  pub whole : Entered table index entries s t depth o i to e numbers seen opens l r l₂ opens₂ r₂
   pub before : b ≡ r
   pub now-is : q ≡ withAnchor r₂ 0
   pub from-is : from ≡ i + 1
@@ -242,8 +242,8 @@ pub record Inner (table words : List ℕ) (entries : ℕ) (s t : List ℕ) (dept
   pub deeper : d ≡ depth - 1
   pub context : o′ ≡ inside o e
 
-module _ {table words : List ℕ} {entries : ℕ} {s t : List ℕ} {depth : ℕ} {o : state.WalkContext} {i to : ℕ} {e : Entry} {numbers : Attached} {seen : List ℕ} {opens : List OpenStart} {l : List ℕ} {r : State} where
-  pub steppable : (v : Visit table words entries s t depth o i to e numbers seen opens l r) (l₁ : List ℕ) (r₁ : State) → Marked table s t o (anchorOf s t (r .anchor) i) e i to l r l₁ r₁ → Steppable e s t i opens r₁
+module _ {table index : List ℕ} {entries : ℕ} {s t : List ℕ} {depth : ℕ} {o : state.WalkContext} {i to : ℕ} {e : Entry} {numbers : Attached} {seen : List ℕ} {opens : List OpenStart} {l : List ℕ} {r : State} where
+  pub steppable : (v : Visit table index entries s t depth o i to e numbers seen opens l r) (l₁ : List ℕ) (r₁ : State) → MarkerVisited table s t o (anchorOf s t (r .anchor) i) e i to l r l₁ r₁ → Steppable e s t i opens r₁
   steppable v l₁ r₁ marked =
       let low = visit-low v in
       record {
@@ -255,25 +255,25 @@ module _ {table words : List ℕ} {entries : ℕ} {s t : List ℕ} {depth : ℕ}
       }
 
   -- of a canSkipMarker marker nothing is said, and nothing changes
-  pub visited-skipped : (v : Visit table words entries s t depth o i to e numbers seen opens l r) (b : Bool) → b ≡ canSkipMarkerAt table s t o e i (r .«has_chapter») → b ≡ true → Visited table s t o e i to seen opens l r seen opens l r
+  pub visited-skipped : (v : Visit table index entries s t depth o i to e numbers seen opens l r) (b : Bool) → b ≡ canSkipMarkerAt table s t o e i (r .«has_chapter») → b ≡ true → Visited table s t o e i to seen opens l r seen opens l r
   visited-skipped v b b-is h =
       let k : canSkipMarkerAt table s t o e i (r .«has_chapter») ≡ true = sym b-is ∙ h in
       let q : eqb (e .category) milestoneCategory ≡ false = skipped-category (cut (e .name) table) e o (r .«has_chapter») (childrenAt s t i) k in
       let m = skipped-marked table s t o (anchorOf s t (r .anchor) i) e i to r k l in
       visited-without-children v l r m l opens r refl (no-milestone e s t i opens l r (v .ready .starts) (rw q)) (texts-skipped (childrenAt s t i) (skipped-texts (cut (e .name) table) e o (r .«has_chapter») (childrenAt s t i) k))
 
-  pub enters : (v : Visit table words entries s t depth o i to e numbers seen opens l r) (l₁ : List ℕ) (r₁ : State) → Marked table s t o (anchorOf s t (r .anchor) i) e i to l r l₁ r₁ → (l₂ : List ℕ) (opens₂ : List OpenStart) (r₂ : State) → length opens₂ ≡ length opens → Milestoned e s t i opens l₁ r₁ opens₂ l₂ r₂ → Entered table words entries s t depth o i to e numbers seen opens l r l₂ opens₂ r₂
+  pub enters : (v : Visit table index entries s t depth o i to e numbers seen opens l r) (l₁ : List ℕ) (r₁ : State) → MarkerVisited table s t o (anchorOf s t (r .anchor) i) e i to l r l₁ r₁ → (l₂ : List ℕ) (opens₂ : List OpenStart) (r₂ : State) → length opens₂ ≡ length opens → Milestoned e s t i opens l₁ r₁ opens₂ l₂ r₂ → Entered table index entries s t depth o i to e numbers seen opens l r l₂ opens₂ r₂
   enters v l₁ r₁ marked l₂ opens₂ r₂ long done = record { visit = v; l₁ = l₁; r₁ = r₁; marked = marked; long = long; done = done }
 
-  module _ {l₂ : List ℕ} {opens₂ : List OpenStart} {r₂ : State} (x : Entered table words entries s t depth o i to e numbers seen opens l r l₂ opens₂ r₂) (link : ℕ) (link-is : link ≡ linkAt t i) where
+  module _ {l₂ : List ℕ} {opens₂ : List OpenStart} {r₂ : State} (x : Entered table index entries s t depth o i to e numbers seen opens l r l₂ opens₂ r₂) (link : ℕ) (link-is : link ≡ linkAt t i) where
     pub inner-run : Run s t (i + 1) link
     inner-run = rw link-is (visit-children (x .visit))
 
     pub visited-still : (q : Bool) → q ≡ canSkipChildren (forest s t (i + 1) link) → q ≡ true → (b p : State) → b ≡ r → p ≡ withAnchor r₂ (b .anchor) → Visited table s t o e i to seen opens l r seen opens₂ l₂ p
     visited-still q q-is h b p b-is p-is = rw (p-is, b-is) (visited-without-children (x .visit) (x .l₁) (x .r₁) (x .marked) l₂ opens₂ r₂ (x .long) (x .done) (rw link-is at (sym q-is ∙ h)))
 
-  module _ {l₂ : List ℕ} {opens₂ : List OpenStart} {r₂ b q : State} {from link d : ℕ} {o′ : state.WalkContext} (y : Inner table words entries s t depth o i to e numbers seen opens l r l₂ opens₂ r₂ b q from link d o′) where
-    pub inner-asks : Ready table words entries s t d from link seen opens₂ q × Room (countsOf q) (walkAt table s t o′ from link seen opens₂ q .findings)
+  module _ {l₂ : List ℕ} {opens₂ : List OpenStart} {r₂ b q : State} {from link d : ℕ} {o′ : state.WalkContext} (y : Inner table index entries s t depth o i to e numbers seen opens l r l₂ opens₂ r₂ b q from link d o′) where
+    pub inner-asks : Ready table index entries s t d from link seen opens₂ q × Room (countsOf q) (walkAt table s t o′ from link seen opens₂ q .findings)
     inner-asks =
         let x = y .whole in
         rw (y .from-is, y .link-is, y .now-is, y .deeper)
@@ -282,13 +282,13 @@ module _ {table words : List ℕ} {entries : ℕ} {s t : List ℕ} {depth : ℕ}
     pub inner-less : 2 * d + 1 < 2 * depth
     inner-less = let e = y .deeper in let h = visit-deep (y .whole .visit) in omega arith
 
-    pub visited-whole : (seen′ : List ℕ) (opens′ : List OpenStart) (l′ : List ℕ) (r₃ : State) → Walked s t (walkAt table s t o′ from link seen opens₂ q) d from link l₂ q seen′ opens′ l′ r₃ → (p : State) → p ≡ withAnchor r₃ (b .anchor) → Visited table s t o e i to seen opens l r seen′ opens′ l′ p
+    pub visited-whole : (seen′ : List ℕ) (opens′ : List OpenStart) (l′ : List ℕ) (r₃ : State) → RunWalked s t (walkAt table s t o′ from link seen opens₂ q) d from link l₂ q seen′ opens′ l′ r₃ → (p : State) → p ≡ withAnchor r₃ (b .anchor) → Visited table s t o e i to seen opens l r seen′ opens′ l′ p
     visited-whole seen′ opens′ l′ r₃ w p p-is =
         let x = y .whole in
         rw (p-is, y .before) (visited (x .visit) (x .l₁) (x .r₁) (x .marked) l₂ opens₂ r₂ (x .long) (x .done) o′ seen′ opens′ l′ r₃ (y .context) (rw (y .from-is, y .link-is, y .now-is, y .deeper) at w))
 
 -- numbers of a visit
-pub next-fits : {table words : List ℕ} {entries : ℕ} {s t : List ℕ} {depth : ℕ} {o : state.WalkContext} {i to : ℕ} {e : Entry} {numbers : Attached} {seen : List ℕ} {opens : List OpenStart} {l : List ℕ} {r : State} → Visit table words entries s t depth o i to e numbers seen opens l r → i + 1 < 2 ^ 64
+pub next-fits : {table index : List ℕ} {entries : ℕ} {s t : List ℕ} {depth : ℕ} {o : state.WalkContext} {i to : ℕ} {e : Entry} {numbers : Attached} {seen : List ℕ} {opens : List OpenStart} {l : List ℕ} {r : State} → Visit table index entries s t depth o i to e numbers seen opens l r → i + 1 < 2 ^ 64
 next-fits v = let low = visit-low v in omega arith
 
 pub same-depth : (d : ℕ) → 2 * d < 2 * d + 1

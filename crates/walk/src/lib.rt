@@ -10,7 +10,7 @@ ghost use mathlib.Core.List.{[]};
 ghost use Prim.Native.Nat.{_+_, _<_, _≤_};
 ghost use lib.ListN.{length};
 ghost use Rattle.tape.specs.Nodes.{nodeAt, kindAt, isOpen};
-ghost use Rattle.tape.specs.Nodes.{count as nodes};
+ghost use Rattle.tape.specs.Nodes.{count};
 ghost use Rattle.tape.specs.Forest.{forest, Nested, Accepted};
 ghost use Rattle.table.specs.Entries.{Indexed, infoOf, entryOfInfo};
 ghost use Rattle.cursor.specs.Info.{infoAt};
@@ -18,9 +18,9 @@ ghost use Rattle.numbers.specs.Label.{numbered};
 ghost use Rattle.cursor.specs.Inner.{Run, Spanned};
 ghost use Rattle.findings.specs.Written.{Room};
 ghost use Rattle.attachment.specs.Attached.{startsOf};
-ghost use Rattle.definition.specs.Checks.{leafTold};
-ghost use Rattle.state.specs.Running.{stateOf, contextOf, anchorOf, startsFor, countsOf, Sane};
-ghost use Rattle.walk.specs.Walking.{Ready, Walked, Visited, Visitable, Anchored, walkAt, visitFindings, LeafPassed, numbersAfter, onlyOpen, Passable, PassedBy, canSkipChildren};
+ghost use Rattle.definition.specs.Checks.{leafChecked};
+ghost use Rattle.state.specs.Running.{stateOf, contextOf, anchorOf, startsFor, countsOf, VerseBounded};
+ghost use Rattle.walk.specs.Walking.{Ready, RunWalked, Visited, Visitable, Anchored, walkAt, visitFindings, LeafPassed, numbersAfter, onlyOpen, Passable, PassedBy, canSkipChildren};
 
 // The numbers attached to an anchor, among the siblings up to `to`; none without an anchor.
 fn anchored(
@@ -31,7 +31,7 @@ fn anchored(
     from: usize,
     to: usize,
 ) -> Attached
-    requires { ⌜ (Accepted (now source) (now tape)) × (Nested (now tape) depth from to) × (to ≤ nodes (now tape)) × (Anchored (now tape) depth anchor from) ⌝ }
+    requires { ⌜ (Accepted (now source) (now tape)) × (Nested (now tape) depth from to) × (to ≤ count (now tape)) × (Anchored (now tape) depth anchor from) ⌝ }
     ensures { λ r. ⌜ startsOf r ≡ startsFor (anchorOf (now (source .entry)) (now (tape .entry)) anchor from) (forest (now (source .entry)) (now (tape .entry)) from to) ⌝ }
 {
     if anchor == 0 {
@@ -59,7 +59,7 @@ fn numbers_after(
     to: usize,
     numbers: Attached,
 ) -> Attached
-    requires { ⌜ (i < nodes (now tape)) × (Run (now source) (now tape) next to) ⌝ }
+    requires { ⌜ (i < count (now tape)) × (Run (now source) (now tape) next to) ⌝ }
     ensures { λ r. ⌜ startsOf r ≡ numbersAfter (now (source .entry)) (now (tape .entry)) i next to (startsOf numbers) ⌝ }
 {
     let kind = tape::kind_at(tape, i);
@@ -75,8 +75,8 @@ fn numbers_after(
 // The record after a leaf: a Chapter or a Verse is the new anchor.
 fn leaf(
     table: &[u8],
-    words: &[u64],
-    count: usize,
+    index: &[u64],
+    entries: usize,
     source: &[u8],
     tape: &[u8],
     i: usize,
@@ -85,13 +85,13 @@ fn leaf(
     seen: &mut [u32],
     list: &mut [u64],
 ) -> State
-    requires { ⌜ (Indexed (now table) (now words) count) × (Spanned (now source) (now tape) i) × Sane rec × (rec .«seen_len» < length (now seen)) × (rec .verses < 4611686018427387904) × Room (countsOf rec) (leafTold (now table) (contextOf context) (stateOf (now source) (now tape) (now seen) [] rec) (nodeAt (now source) (now tape) i) .findings) ⌝ }
+    requires { ⌜ (Indexed (now table) (now index) entries) × (Spanned (now source) (now tape) i) × VerseBounded rec × (rec .«seen_len» < length (now seen)) × (rec .verses < 4611686018427387904) × Room (countsOf rec) (leafChecked (now table) (contextOf context) (stateOf (now source) (now tape) (now seen) [] rec) (nodeAt (now source) (now tape) i) .findings) ⌝ }
     ensures { λ r. ⌜ LeafPassed (now (table .entry)) (now (source .entry)) (now (tape .entry)) (contextOf context) i (now (seen .entry)) (now (list .entry)) rec (now (seen .exit)) (now (list .exit)) r ⌝ }
 {
     let r = chapter_verse::visit_leaf(
         table,
-        words,
-        count,
+        index,
+        entries,
         source,
         tape,
         i,
@@ -112,19 +112,19 @@ fn leaf(
 
 // Whether a node is a Chapter or a Verse.
 fn is_number(tape: &[u8], i: usize) -> bool
-    requires { ⌜ i < nodes (now tape) ⌝ }
+    requires { ⌜ i < count (now tape) ⌝ }
     ensures { λ r. ⌜ r ≡ numbered (kindAt (now (tape .entry)) i) ⌝ }
 {
     numbers::is_numbered(tape::kind_at(tape, i))
 }
 
 // The table entry of a marker; a leaf has none here.
-fn marker(table: &[u8], words: &[u64], count: usize, tape: &[u8], i: usize) -> Info
-    requires { ⌜ (Indexed (now table) (now words) count) × (i < nodes (now tape)) ⌝ }
+fn marker(table: &[u8], index: &[u64], entries: usize, tape: &[u8], i: usize) -> Info
+    requires { ⌜ (Indexed (now table) (now index) entries) × (i < count (now tape)) ⌝ }
     ensures { λ r. ⌜ infoOf r ≡ onlyOpen (isOpen (kindAt (now (tape .entry)) i)) (infoAt (now (table .entry)) (now (tape .entry)) i) ⌝ }
 {
     if tape::kind_at(tape, i) == tape::MARKER_OPEN {
-        return cursor::marker_info(table, words, count, tape, i);
+        return cursor::marker_info(table, index, entries, tape, i);
     }
     Info::Missing
 }
@@ -133,8 +133,8 @@ fn marker(table: &[u8], words: &[u64], count: usize, tape: &[u8], i: usize) -> I
 // numbers attached to what follows, from `next` on.
 fn visit_leaf(
     table: &[u8],
-    words: &[u64],
-    count: usize,
+    index: &[u64],
+    entries: usize,
     source: &[u8],
     tape: &[u8],
     i: usize,
@@ -146,15 +146,15 @@ fn visit_leaf(
     seen: &mut [u32],
     list: &mut [u64],
 ) -> Attached
-    requires { ⌜ Passable (now table) (now words) count (now source) (now tape) (contextOf context) i next to (now seen) (now rec) ⌝ }
+    requires { ⌜ Passable (now table) (now index) entries (now source) (now tape) (contextOf context) i next to (now seen) (now rec) ⌝ }
     ensures { λ r. ⌜ PassedBy (now (table .entry)) (now (source .entry)) (now (tape .entry)) (contextOf context) i next to numbers (now (seen .entry)) (now (list .entry)) (now (rec .entry)) (now (seen .exit)) (now (list .exit)) (now (rec .exit)) r ⌝ }
 {
     if is_number(tape, i) {
         let before = *rec;
         *rec = leaf(
             table,
-            words,
-            count,
+            index,
+            entries,
             source,
             tape,
             i,
@@ -193,8 +193,8 @@ fn can_skip_children(source: &[u8], tape: &[u8], from: usize, to: usize) -> bool
 // What is said of a marker, and of what lies in it. The record is lent: it is updated.
 fn visit(
     table: &[u8],
-    words: &[u64],
-    count: usize,
+    index: &[u64],
+    entries: usize,
     source: &[u8],
     tape: &[u8],
     i: usize,
@@ -208,7 +208,7 @@ fn visit(
     opens: &mut [OpenStart],
     list: &mut [u64],
 )
-    requires { ⌜ (Ready (now table) (now words) count (now source) (now tape) depth i to (now seen) (now opens) (now rec)) × (Visitable (now source) (now tape) i to numbers (now rec)) × (m .«name_start» + m .«name_len» ≤ length (now table)) × Room (countsOf (now rec)) (visitFindings (now table) (now source) (now tape) (contextOf context) (entryOfInfo m) i to (now seen) (now opens) (now rec)) ⌝ }
+    requires { ⌜ (Ready (now table) (now index) entries (now source) (now tape) depth i to (now seen) (now opens) (now rec)) × (Visitable (now source) (now tape) i to numbers (now rec)) × (m .«name_start» + m .«name_len» ≤ length (now table)) × Room (countsOf (now rec)) (visitFindings (now table) (now source) (now tape) (contextOf context) (entryOfInfo m) i to (now seen) (now opens) (now rec)) ⌝ }
     ensures { λ _. ⌜ Visited (now (table .entry)) (now (source .entry)) (now (tape .entry)) (contextOf context) (entryOfInfo m) i to (now (seen .entry)) (now (opens .entry)) (now (list .entry)) (now (rec .entry)) (now (seen .exit)) (now (opens .exit)) (now (list .exit)) (now (rec .exit)) ⌝ }
 {
     if marker_checks::can_skip_marker(table, m, source, tape, i, context, rec.has_chapter) {
@@ -239,8 +239,8 @@ fn visit(
     let inner = state::inside(context, m);
     walk(
         table,
-        words,
-        count,
+        index,
+        entries,
         source,
         tape,
         from,
@@ -258,8 +258,8 @@ fn visit(
 // The findings of the nodes from one up to another, the record after them with its lists, and the last anchor.
 pub fn walk(
     table: &[u8],
-    words: &[u64],
-    count: usize,
+    index: &[u64],
+    entries: usize,
     source: &[u8],
     tape: &[u8],
     from: usize,
@@ -271,8 +271,8 @@ pub fn walk(
     opens: &mut [OpenStart],
     list: &mut [u64],
 )
-    requires { ⌜ (Ready (now table) (now words) count (now source) (now tape) depth from to (now seen) (now opens) (now rec)) × Room (countsOf (now rec)) (walkAt (now table) (now source) (now tape) (contextOf context) from to (now seen) (now opens) (now rec) .findings) ⌝ }
-    ensures { λ _. ⌜ Walked (now (source .entry)) (now (tape .entry)) (walkAt (now (table .entry)) (now (source .entry)) (now (tape .entry)) (contextOf context) from to (now (seen .entry)) (now (opens .entry)) (now (rec .entry))) depth from to (now (list .entry)) (now (rec .entry)) (now (seen .exit)) (now (opens .exit)) (now (list .exit)) (now (rec .exit)) ⌝ }
+    requires { ⌜ (Ready (now table) (now index) entries (now source) (now tape) depth from to (now seen) (now opens) (now rec)) × Room (countsOf (now rec)) (walkAt (now table) (now source) (now tape) (contextOf context) from to (now seen) (now opens) (now rec) .findings) ⌝ }
+    ensures { λ _. ⌜ RunWalked (now (source .entry)) (now (tape .entry)) (walkAt (now (table .entry)) (now (source .entry)) (now (tape .entry)) (contextOf context) from to (now (seen .entry)) (now (opens .entry)) (now (rec .entry))) depth from to (now (list .entry)) (now (rec .entry)) (now (seen .exit)) (now (opens .exit)) (now (list .exit)) (now (rec .exit)) ⌝ }
 {
     let mut numbers = anchored(source, tape, depth, rec.anchor, from, to);
     let mut i = from;
@@ -281,8 +281,8 @@ pub fn walk(
         i = cursor::past_node(tape, here);
         numbers = visit_leaf(
             table,
-            words,
-            count,
+            index,
+            entries,
             source,
             tape,
             here,
@@ -294,13 +294,13 @@ pub fn walk(
             seen,
             list,
         );
-        let Info::Known(m) = marker(table, words, count, tape, here) else {
+        let Info::Known(m) = marker(table, index, entries, tape, here) else {
             continue;
         };
         visit(
             table,
-            words,
-            count,
+            index,
+            entries,
             source,
             tape,
             here,

@@ -8,12 +8,12 @@ use mathlib.Core.Bool.{false}
 use mathlib.Core.Path.{_≡_, refl, sym, _∙_}
 use native.Mathlib.Omega.{arith}
 use Rattle.attributes.proofs.Quotes.{quote-ends, quote-here, quote-past}
-use Rattle.attributes.specs.Inner.{closing}
+use Rattle.attributes.specs.Inner.{closingPlace}
 use Rattle.attributes.proofs.closing_quote.Statement.{statement}
 use Rattle.attributes.proofs.closing_quote.Tie as tie
 
 abbrev Inv-loop : tie.InvT-loop
-Inv-loop s from i₀ i = (i ≤ length s) × (from + closing false (drop from s) ≡ i + closing false (drop i s))
+Inv-loop s from i₀ i = (i ≤ length s) × (from + closingPlace false (drop from s) ≡ i + closingPlace false (drop i s))
 
 abbrev μ-loop : tie.MeasureT-loop
 μ-loop s from i₀ i = length s - i

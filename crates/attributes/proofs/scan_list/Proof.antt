@@ -14,7 +14,7 @@ use Rattle.attributes.proofs.Owed.{at, Owing, owing-as, owing-room, owi
 use Rattle.attributes.proofs.Quotes.{unclosed, closed}
 use Rattle.attributes.proofs.Scanning.{key-alone, key-valued, leads-in, unquoted-starts, unquoted-next}
 use Rattle.attributes.proofs.Turns.{Going, going-start, going-on, going-end}
-use Rattle.attributes.specs.Attributes.{between, value, unquoted, scan, keyAlone, unquotedValue, emptyValue, unterminated}
+use Rattle.attributes.specs.Attributes.{between, value, unquoted, attributeScan, keyAlone, unquotedValue, emptyValue, unterminated}
 use Rattle.findings.specs.Finding.{Kind, findingOf}
 use Rattle.text.specs.Characters.{chars}
 use Rattle.attributes.proofs.scan_list.Statement.{statement}
@@ -37,7 +37,7 @@ short c = omega arith
 abbrev Due : tie.In-scan Inv-scan μ-scan → List Kind → Type 0
 Due c ks =
     let a = c .before .before .before .before .before .args in
-    Owing (a .w) (at (a .w) (scan between (chars (now (a .body))))) (now (a .list)) (a .counts) ks (c .before .scan .list) (c .before .scan .c)
+    Owing (a .w) (at (a .w) (attributeScan between (chars (now (a .body))))) (now (a .list)) (a .counts) ks (c .before .scan .list) (c .before .scan .c)
 
 due-alone : (c : tie.Then1 Inv-scan μ-scan) → Due (c .before .before .before) (keyAlone ∷ [])
 due-alone c =
@@ -45,7 +45,7 @@ due-alone c =
     let k = c .before .before .key-end in
     owing-as (key-alone (text (c .before .before .before)) (l .i) (k .result) (l .inv .fresh) (omega arith) (k .ensures .is) (sym (c .before .byte-is .ensures) ∙ not-true _ (c .if1 .taken))) (l .inv .owing)
 
-due-value : (c : tie.Else1 Inv-scan μ-scan) → Due (c .before .before .before) (scan value (chars (drop (c .before .before .key-end .result + 1) (text (c .before .before .before)))))
+due-value : (c : tie.Else1 Inv-scan μ-scan) → Due (c .before .before .before) (attributeScan value (chars (drop (c .before .before .key-end .result + 1) (text (c .before .before .before)))))
 due-value c =
     let l = c .before .before .before .before .scan in
     let k = c .before .before .key-end in
@@ -54,7 +54,7 @@ due-value c =
 key-inside : (c : tie.Else1 Inv-scan μ-scan) → c .before .before .key-end .result < length (text (c .before .before .before))
 key-inside c = leads-in 0x3D (text (c .before .before .before)) (c .before .before .key-end .result) (sym (c .before .byte-is .ensures) ∙ not-false _ (c .if1 .left))
 
-due-unquoted : (c : tie.Then2 Inv-scan μ-scan) → Due (c .before .before .before .before .before) (unquotedValue ∷ scan unquoted (chars (drop (c .before .before .before .before .key-end .result + 1) (text (c .before .before .before .before .before)))))
+due-unquoted : (c : tie.Then2 Inv-scan μ-scan) → Due (c .before .before .before .before .before) (unquotedValue ∷ attributeScan unquoted (chars (drop (c .before .before .before .before .key-end .result + 1) (text (c .before .before .before .before .before)))))
 due-unquoted c = owing-as (unquoted-starts (drop (c .before .before .before .before .key-end .result + 1) (text (c .before .before .before .before .before))) (sym (c .before .byte-is2 .ensures) ∙ not-true _ (c .if2 .taken))) (due-value (c .before .before))
 
 quote-inside : (c : tie.Else2 Inv-scan μ-scan) → c .before .before .before .before .key-end .result + 1 < length (text (c .before .before .before .before .before))
@@ -69,7 +69,7 @@ due-unclosed c =
 close-inside : (c : tie.Else3 Inv-scan μ-scan) → c .before .closing-quote .result < length (text (c .before .before .before .before .before .before .before))
 close-inside c = omega (arith, c .before .closing-quote .ensures .inside, c .if3 .left)
 
-due-closed : (c : tie.Else3 Inv-scan μ-scan) → Due (c .before .before .before .before .before .before .before) (pick (eqb (c .before .closing-quote .result) (c .before .before .before .before .before .before .key-end .result + 2)) (emptyValue ∷ []) [] ++ scan between (chars (drop (c .before .closing-quote .result + 1) (text (c .before .before .before .before .before .before .before)))))
+due-closed : (c : tie.Else3 Inv-scan μ-scan) → Due (c .before .before .before .before .before .before .before) (pick (eqb (c .before .closing-quote .result) (c .before .before .before .before .before .before .key-end .result + 2)) (emptyValue ∷ []) [] ++ attributeScan between (chars (drop (c .before .closing-quote .result + 1) (text (c .before .before .before .before .before .before .before)))))
 due-closed c =
     let q = c .before .closing-quote in
     let e = c .before .before in
@@ -105,7 +105,7 @@ finding-requires-2 : tie.Need-finding-requires-2 Inv-scan μ-scan
 finding-requires-2 c κs = search needs
 
 push-requires-2 : tie.Need-push-requires-2 Inv-scan μ-scan
-push-requires-2 c κs = owing-room unquotedValue true (scan unquoted (chars (drop (c .before .before .before .before .before .before .key-end .result + 1) (text (c .before .before .before .before .before .before .before))))) (findingOf (c .before .finding2 .result)) (c .before .finding2 .ensures) (due-unquoted (c .before .before))
+push-requires-2 c κs = owing-room unquotedValue true (attributeScan unquoted (chars (drop (c .before .before .before .before .before .before .key-end .result + 1) (text (c .before .before .before .before .before .before .before))))) (findingOf (c .before .finding2 .result)) (c .before .finding2 .ensures) (due-unquoted (c .before .before))
 
 add-find-from : tie.Need-add-find-from Inv-scan μ-scan
 add-find-from c = omega (arith, key-inside (c .before .before .before .before .before .before .before), short (c .before .before .before .before .before .before .before .before .before .before))
@@ -127,7 +127,7 @@ scan-again c =
     let f = c .before .before .before .before .before .before .finding2 in
     let j = c .before .find-from2 in
     let next = unquoted-next (text (c .before .before .before .before .before .before .before .before .before .before .before .before)) (c .before .before .before .before .before .before .before .before .before .before .before .key-end .result + 1) (j .result) (j .ensures .is) in
-    going-on (j .result) (c .find-from3 .result) (p .kept .0 ∙ c .before .before .before .before .before .before .before .before .before .before .before .before .before .scan .inv .same) (owing-as next (owing-wrote unquotedValue true (scan unquoted (chars (drop (c .before .before .before .before .before .before .before .before .before .before .before .key-end .result + 1) (text (c .before .before .before .before .before .before .before .before .before .before .before .before))))) (findingOf (f .result)) (f .ensures) (due-unquoted (c .before .before .before .before .before .before .before)) (p .ensures))) (c .find-from3 .ensures)
+    going-on (j .result) (c .find-from3 .result) (p .kept .0 ∙ c .before .before .before .before .before .before .before .before .before .before .before .before .before .scan .inv .same) (owing-as next (owing-wrote unquotedValue true (attributeScan unquoted (chars (drop (c .before .before .before .before .before .before .before .before .before .before .before .key-end .result + 1) (text (c .before .before .before .before .before .before .before .before .before .before .before .before))))) (findingOf (f .result)) (f .ensures) (due-unquoted (c .before .before .before .before .before .before .before)) (p .ensures))) (c .find-from3 .ensures)
 
 add-closing-quote : tie.Need-add-closing-quote Inv-scan μ-scan
 add-closing-quote c = let h = quote-inside c in omega arith
@@ -148,7 +148,7 @@ add-push-if : tie.Need-add-push-if Inv-scan μ-scan
 add-push-if c = let h = quote-inside (c .before .before .before .before) in omega arith
 
 push-if-requires : tie.Need-push-if-requires Inv-scan μ-scan
-push-if-requires c κs = owing-room emptyValue (eqb (c .before .before .before .closing-quote .result) (c .before .before .before .before .before .before .before .before .key-end .result + 2)) (scan between (chars (drop (c .before .before .before .closing-quote .result + 1) (text (c .before .before .before .before .before .before .before .before .before))))) (findingOf (c .before .finding4 .result)) (c .before .finding4 .ensures) (due-closed (c .before .before))
+push-if-requires c κs = owing-room emptyValue (eqb (c .before .before .before .closing-quote .result) (c .before .before .before .before .before .before .before .before .key-end .result + 2)) (attributeScan between (chars (drop (c .before .before .before .closing-quote .result + 1) (text (c .before .before .before .before .before .before .before .before .before))))) (findingOf (c .before .finding4 .result)) (c .before .finding4 .ensures) (due-closed (c .before .before))
 
 add-find-from-2 : tie.Need-add-find-from-2 Inv-scan μ-scan
 add-find-from-2 c = omega (arith, close-inside (c .before .before .before .before .before), short (c .before .before .before .before .before .before .before .before .before .before .before .before))
@@ -166,7 +166,7 @@ scan-again-2 : tie.Need-scan-again-2 Inv-scan μ-scan
 scan-again-2 c =
     let p = c .before .before .before .push-if in
     let f = c .before .before .before .before .before .finding4 in
-    going-on (c .before .before .before .before .before .before .before .closing-quote .result + 1) (c .find-from4 .result) (p .kept .0 ∙ c .before .before .before .before .before .before .before .before .before .before .before .before .before .before .scan .inv .same) (owing-wrote emptyValue (eqb (c .before .before .before .before .before .before .before .closing-quote .result) (c .before .before .before .before .before .before .before .before .before .before .before .before .key-end .result + 2)) (scan between (chars (drop (c .before .before .before .before .before .before .before .closing-quote .result + 1) (text (c .before .before .before .before .before .before .before .before .before .before .before .before .before))))) (findingOf (f .result)) (f .ensures) (due-closed (c .before .before .before .before .before .before)) (p .ensures)) (c .find-from4 .ensures)
+    going-on (c .before .before .before .before .before .before .before .closing-quote .result + 1) (c .find-from4 .result) (p .kept .0 ∙ c .before .before .before .before .before .before .before .before .before .before .before .before .before .before .scan .inv .same) (owing-wrote emptyValue (eqb (c .before .before .before .before .before .before .before .closing-quote .result) (c .before .before .before .before .before .before .before .before .before .before .before .before .key-end .result + 2)) (attributeScan between (chars (drop (c .before .before .before .before .before .before .before .closing-quote .result + 1) (text (c .before .before .before .before .before .before .before .before .before .before .before .before .before))))) (findingOf (f .result)) (f .ensures) (due-closed (c .before .before .before .before .before .before)) (p .ensures)) (c .find-from4 .ensures)
 
 same-length : tie.Need-same-length Inv-scan μ-scan
 same-length c = c .before .scan .inv .same

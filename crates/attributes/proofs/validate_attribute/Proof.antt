@@ -7,7 +7,7 @@ use mathlib.Core.List.{List, [], _∷_, _++_}
 use mathlib.Core.Path.{_≡_, ap, _∙_}
 use Rattle.attributes.proofs.Owed.{at, Owing, owing-start, owing-as, owing-room, owing-wrote, owing-end}
 use Rattle.attributes.proofs.Whole.{kinds-none, kinds-scan, kinds-bare}
-use Rattle.attributes.specs.Attributes.{emptyList, noDefault, between, scan, body, hasDefault, attributeKinds}
+use Rattle.attributes.specs.Attributes.{emptyList, noDefault, between, attributeScan, body, hasDefault, attributeKinds}
 use Rattle.cursor.specs.Names.{nameOf}
 use Rattle.findings.specs.Finding.{Kind, findingOf}
 use Rattle.table.specs.Names.{defaultOf}
@@ -35,7 +35,7 @@ due-none c =
     let a = c .before .before .before .before .before .before .args in
     owing-as (kinds-none (nameOf (now (a .marker))) (now (a .text)) (now (c .before .trim .result)) (is-body (c .before)) (c .if1 .taken)) (due-all (c .before .before .before .before .before .before))
 
-is-scan : (c : tie.Then2) → attributeKinds (nameOf (now (c .before .before .before .before .before .before .before .before .args .marker))) (now (c .before .before .before .before .before .before .before .before .args .text)) ≡ scan between (chars (now (c .before .before .before .trim .result)))
+is-scan : (c : tie.Then2) → attributeKinds (nameOf (now (c .before .before .before .before .before .before .before .before .args .marker))) (now (c .before .before .before .before .before .before .before .before .args .text)) ≡ attributeScan between (chars (now (c .before .before .before .trim .result)))
 is-scan c =
     let a = c .before .before .before .before .before .before .before .before .args in
     kinds-scan (nameOf (now (a .marker))) (now (a .text)) (now (c .before .before .before .trim .result)) (is-body (c .before .before .before)) (c .before .before .if1 .left) (c .before .find-byte .result) (c .before .find-byte .ensures) (c .if2 .taken)

@@ -10,7 +10,7 @@ use Rattle.table.specs.Entries.{Entry, infoOf}
 use Rattle.findings.specs.declared.Counts.{Counts}
 use Rattle.definition.specs.Checks.{Check, given, numberForm}
 use Rattle.chapter_verse.proofs.Givens.{Due, due-start, due-room, due-wrote, due-end}
-use Rattle.chapter_verse.proofs.Told.{spaced, zeros, is-led}
+use Rattle.chapter_verse.proofs.Checked.{spaced, zeros, is-led}
 use borrow.Author.Needs.{needs}
 use Rattle.chapter_verse.proofs.check_number_form.Statement.{statement}
 use Rattle.chapter_verse.proofs.check_number_form.Tie as tie

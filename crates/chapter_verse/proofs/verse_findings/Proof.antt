@@ -16,7 +16,7 @@ use Rattle.definition.specs.Checks.{Check, given, about, isEmpty, breaks, numbe
 use Rattle.state.specs.Running.{stateOf, countsOf, contextOf}
 use Rattle.chapter_verse.proofs.Givens.{Due, due-start, due-room, due-wrote, due-rest, due-all}
 use Rattle.chapter_verse.proofs.Positions.{low-read}
-use Rattle.chapter_verse.proofs.Told.{stray, crossing, bareVerse, amiss, is-bare, is-amiss, says-amiss}
+use Rattle.chapter_verse.proofs.Checked.{stray, crossing, bareVerse, amiss, is-bare, is-amiss, says-amiss}
 use borrow.Author.Needs.{needs}
 use Rattle.chapter_verse.proofs.verse_findings.Statement.{statement}
 use Rattle.chapter_verse.proofs.verse_findings.Tie as tie

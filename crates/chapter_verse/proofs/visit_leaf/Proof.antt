@@ -15,7 +15,7 @@ use Rattle.numbers.specs.Label.{numbered}
 use Rattle.definition.specs.State.{WalkState}
 use Rattle.state.specs.Running.{stateOf, contextOf, countsOf}
 use Rattle.chapter_verse.specs.Inner.{LabelRead}
-use Rattle.chapter_verse.proofs.Told.{label-read}
+use Rattle.chapter_verse.proofs.Checked.{label-read}
 use Rattle.chapter_verse.proofs.Passing.{room-chapter, visited-chapter, room-verse, visited-verse, visited-other}
 use borrow.Author.Needs.{needs}
 use Rattle.chapter_verse.proofs.visit_leaf.Statement.{statement}

@@ -10,8 +10,8 @@ use borrow.Author.Needs.{needs}
 use Rattle.chapter_verse.proofs.warn_if.Statement.{statement}
 use Rattle.chapter_verse.proofs.warn_if.Tie as tie
 
-abbrev told : tie.Start → Finding
-told c = let a = c .args in about (nodeAt [] (now (a .tape)) (a .i)) 1 (a .code) 0 (a .first) (a .second)
+abbrev finding : tie.Start → Finding
+finding c = let a = c .args in about (nodeAt [] (now (a .tape)) (a .i)) 1 (a .code) 0 (a .first) (a .second)
 
 about-requires : tie.Need-about-requires
 about-requires c κs = search needs
@@ -19,7 +19,7 @@ about-requires c κs = search needs
 push-if-requires : tie.Need-push-if-requires
 push-if-requires c κs =
     let s = c .before .before .before .before in
-    only-room (s .args .c) (s .args .there) (findingOf (c .before .about .result)) (told s) (c .before .about .ensures) (s .pre .1)
+    only-room (s .args .c) (s .args .there) (findingOf (c .before .about .result)) (finding s) (c .before .about .ensures) (s .pre .1)
 
 same-length : tie.Need-same-length
 same-length c = search needs
@@ -27,7 +27,7 @@ same-length c = search needs
 returns : tie.Need-returns
 returns c =
     let s = c .before .before .before .before .before .before .before in
-    only-wrote (s .args .there) (findingOf (c .before .before .before .before .about .result)) (told s) (c .before .before .before .before .about .ensures) (c .before .before .push-if .ensures)
+    only-wrote (s .args .there) (findingOf (c .before .before .before .before .about .result)) (finding s) (c .before .before .before .before .about .ensures) (c .before .before .push-if .ensures)
 
 pub warn-if-spec : {M : Type 1} → statement M
 warn-if-spec = tie.close (tie.spec about-requires push-if-requires same-length returns)

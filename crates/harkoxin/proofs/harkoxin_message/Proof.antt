@@ -2,7 +2,7 @@
 -- Assumes nothing.
 use mathlib.Core.Path.{ap, _∙_}
 use Rattle.buffer.specs.Over.{over}
-use Rattle.messages.specs.Answer.{Answer}
+use Rattle.messages.specs.Answer.{MessageAnswer}
 use Rattle.harkoxin.specs.Words.{messageWords}
 use borrow.Author.Needs.{needs}
 use Rattle.harkoxin.proofs.harkoxin_message.Statement.{statement}
@@ -24,7 +24,7 @@ returns : tie.Need-returns
 returns c =
     let a = c .before .before .before .before .before .before .before .before .before .before .before .before .before .args in
     let e = c .before .before .before .before .before .before .message .ensures in
-    (c .before .before .write-message-answer .ensures ∙ ap (λ (x : Answer). over (a .out .now) 0 (messageWords x)) (e .0), e .1)
+    (c .before .before .write-message-answer .ensures ∙ ap (λ (x : MessageAnswer). over (a .out .now) 0 (messageWords x)) (e .0), e .1)
 
 pub harkoxin-message-spec : {M : Type 1} → statement M
 harkoxin-message-spec =

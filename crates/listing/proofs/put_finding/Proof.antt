@@ -2,7 +2,7 @@
 -- Assumes nothing.
 use borrow.Author.Needs.{needs}
 use Rattle.text.specs.Literal.{ascii}
-use Rattle.table.specs.Inner.{wordsOf}
+use Rattle.table.specs.Inner.{linesOf}
 use Rattle.buffer.proofs.Over.{put-then}
 use Rattle.listing.specs.Lines.{findingLines, severityNames, codeNames}
 use Rattle.listing.proofs.put_finding.Statement.{statement}
@@ -48,7 +48,7 @@ same-length : tie.Need-same-length
 same-length c = search needs
 
 returns : tie.Need-returns
-unfolding ascii findingLines severityNames codeNames wordsOf
+unfolding ascii findingLines severityNames codeNames linesOf
 returns c =
     let fifth = c .before .before in
     let fourth = fifth .before .before .before .before .before in

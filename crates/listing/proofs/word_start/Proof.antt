@@ -7,14 +7,14 @@ use mathlib.Core.Path.{_≡_, refl, _∙_}
 use mathlib.Core.Logic.{⊎-elim}
 use lib.ListN.{length, drop}
 use borrow.Author.Tests.{ltb-true, ltb-false}
-use Rattle.table.specs.Inner.{wordsOf}
+use Rattle.table.specs.Inner.{linesOf}
 use Rattle.listing.specs.Lines.{nameAt}
 use Rattle.listing.proofs.Words.{word-passed, byte-passed, words-end}
 use Rattle.listing.proofs.word_start.Statement.{statement}
 use Rattle.listing.proofs.word_start.Tie as tie
 
 abbrev Inv-loop : tie.InvT-loop
-Inv-loop words k at₀ left₀ at left = (at ≤ length words) × (nameAt (wordsOf (drop at words)) left ≡ nameAt (wordsOf words) k)
+Inv-loop words k at₀ left₀ at left = (at ≤ length words) × (nameAt (linesOf (drop at words)) left ≡ nameAt (linesOf words) k)
 
 abbrev μ-loop : tie.MeasureT-loop
 μ-loop words k at₀ left₀ at left = length words - at

@@ -7,7 +7,7 @@ use mathlib.Core.Path.{_≡_, ap, _∙_}
 use mathlib.Core.Bool.{Bool, not}
 use Rattle.tape.specs.Forest.{forest}
 use Rattle.marker_checks.specs.Own.{childrenAt}
-use Rattle.marker_checks.specs.Skip.{onlyTexts, askedFor}
+use Rattle.marker_checks.specs.Skip.{onlyTexts, hasOwnCheck}
 use Rattle.marker_checks.proofs.Flags.{both-holds, both-fails}
 use Rattle.marker_checks.proofs.can_skip_marker.Statement.{statement}
 use Rattle.marker_checks.proofs.can_skip_marker.Tie as tie
@@ -43,11 +43,11 @@ returns-2 c = both-holds _ _ (c .before .before .before .before .is-placed .ensu
 name-requires : tie.Need-name-requires
 name-requires c κs = search needs
 
-is-asked-for-requires : tie.Need-is-asked-for-requires
-is-asked-for-requires c κs = search needs
+has-own-check-requires : tie.Need-has-own-check-requires
+has-own-check-requires c κs = search needs
 
 returns-3 : tie.Need-returns-3
-returns-3 c = both-holds _ _ (c .before .before .before .before .before .before .is-placed .ensures) _ _ (not-false _ (c .before .before .before .before .before .if1 .left)) (both-holds _ _ (children (c .before .before .before)) _ _ (not-false _ (c .before .before .if2 .left)) (ap not (c .is-asked-for .ensures ∙ ap askedFor (c .before .name .ensures))))
+returns-3 c = both-holds _ _ (c .before .before .before .before .before .before .is-placed .ensures) _ _ (not-false _ (c .before .before .before .before .before .if1 .left)) (both-holds _ _ (children (c .before .before .before)) _ _ (not-false _ (c .before .before .if2 .left)) (ap not (c .has-own-check .ensures ∙ ap hasOwnCheck (c .before .name .ensures))))
 
 pub can-skip-marker-spec : {M : Type 1} → statement M
 can-skip-marker-spec =
@@ -61,5 +61,5 @@ can-skip-marker-spec =
     has-only-texts-requires
     returns-2
     name-requires
-    is-asked-for-requires
+    has-own-check-requires
     returns-3)

@@ -45,11 +45,11 @@ add-empty-word c = search needs
 empty-word-requires : tie.Need-empty-word-requires
 empty-word-requires c κs = c .before .before .before .before .before .pre .1
 
-add-lacks-attribute : tie.Need-add-lacks-attribute
-add-lacks-attribute c = search needs
+add-lacks-required-attributes : tie.Need-add-lacks-required-attributes
+add-lacks-required-attributes c = search needs
 
-lacks-attribute-requires : tie.Need-lacks-attribute-requires
-lacks-attribute-requires c κs = c .before .before .before .before .before .before .pre .1
+lacks-required-attributes-requires : tie.Need-lacks-required-attributes-requires
+lacks-required-attributes-requires c κs = c .before .before .before .before .before .before .pre .1
 
 push-for-node-requires : tie.Need-push-for-node-requires
 push-for-node-requires c κs =
@@ -66,7 +66,7 @@ push-for-node-requires-2 c κs =
 push-for-node-requires-3 : tie.Need-push-for-node-requires-3
 push-for-node-requires-3 c κs =
     let p = c .before .before .before .before .before .before .before .before .before .before .before .before .before .before .before .before .pre in
-    let x = c .before .before .before .before .before .before .before .before .before .lacks-attribute in
+    let x = c .before .before .before .before .before .before .before .before .before .lacks-required-attributes in
     (p .0, given-room _ _ _ _ (left-2 (c .before .before .before)) (x .result) _ (x .ensures) refl (p .2))
 
 same-length : tie.Need-same-length
@@ -74,7 +74,7 @@ same-length c = search needs
 
 returns : tie.Need-returns
 returns c =
-    let x = c .before .before .before .before .before .before .before .before .before .before .before .before .lacks-attribute in
+    let x = c .before .before .before .before .before .before .before .before .before .before .before .before .lacks-required-attributes in
     given-end _ _ (given-wrote _ _ _ _ (left-2 (c .before .before .before .before .before .before)) (x .result) _ (x .ensures) refl _ _ (c .before .before .push-for-node3 .ensures))
 
 pub content-findings-spec : {M : Type 1} → statement M
@@ -85,8 +85,8 @@ content-findings-spec =
     empty-figure-requires
     add-empty-word
     empty-word-requires
-    add-lacks-attribute
-    lacks-attribute-requires
+    add-lacks-required-attributes
+    lacks-required-attributes-requires
     push-for-node-requires
     push-for-node-requires-2
     push-for-node-requires-3

@@ -3,7 +3,7 @@
 use borrow.Author.Needs.{needs}
 use mathlib.Core.Path.{sym, ap, _∙_}
 use Rattle.table.specs.Books.{idOf}
-use Rattle.definition.specs.Checks.{known}
+use Rattle.text.specs.Pick.{known}
 use Rattle.marker_checks.proofs.is_book.Statement.{statement}
 use Rattle.marker_checks.proofs.is_book.Tie as tie
 

@@ -5,13 +5,13 @@ use Prim.Native.Nat.{_-_}
 use native.Mathlib.Omega.{arith}
 use borrow.Author.Tests.{leb-true}
 use lib.ListN.{length}
-use Rattle.message_texts.specs.Inner.{Plain}
+use Rattle.message_texts.specs.Inner.{NoValues}
 use Rattle.message_texts.proofs.Filling.{plain-start, plain-on}
 use Rattle.message_texts.proofs.plain_end.Statement.{statement}
 use Rattle.message_texts.proofs.plain_end.Tie as tie
 
 abbrev Inv-loop : tie.InvT-loop
-Inv-loop text from i₀ i = Plain text from i
+Inv-loop text from i₀ i = NoValues text from i
 
 abbrev μ-loop : tie.MeasureT-loop
 μ-loop text from i₀ i = length text - i

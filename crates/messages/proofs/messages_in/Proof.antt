@@ -11,10 +11,10 @@ use Rattle.messages.proofs.messages_in.Statement.{statement}
 use Rattle.messages.proofs.messages_in.Tie as tie
 
 abbrev Inv-loop : tie.InvT-loop
-Inv-loop table words entries source tape list ends₀ out₀ n k₀ at₀ ends out k at = WritingTexts (textAt table source tape list) n ends₀ out₀ ends out k at
+Inv-loop table index entries source tape list ends₀ out₀ n k₀ at₀ ends out k at = WritingTexts (textAt table source tape list) n ends₀ out₀ ends out k at
 
 abbrev μ-loop : tie.MeasureT-loop
-μ-loop table words entries source tape list ends₀ out₀ n k₀ at₀ ends out k at = n - k
+μ-loop table index entries source tape list ends₀ out₀ n k₀ at₀ ends out k at = n - k
 
 loop-holds : tie.Need-loop-holds Inv-loop μ-loop
 loop-holds c = writing-start _ _ _ _

@@ -40,7 +40,7 @@ returns-2 c =
     let n = c .before .name-shown in
     let is = by-table (a .q .code) (nameOr (now (a .table)) (infoAt (now (a .table)) (now (a .tape)) (a .q .node))) (nameOf (nodeAt (now (a .source)) (now (a .tape)) (a .q .node) .text)) (now (n .result)) (n .ensures) (s .pre .1) in
     written-lacks (now (a .table)) (now (a .source)) (now (a .tape)) (requestBy (a .q)) texts.entryName texts.empty texts.empty (⊎-elim (holes-13 (a .q .code)) (holes-24 (a .q .code)) (s .pre .1))
-    (entry-none (now (a .table)) (now (a .source)) (now (a .tape)) (requestBy (a .q)) (entry-lacks (now (a .table)) (now (a .words)) (a .entries) (s .pre .0 .indexed) (now (a .tape)) (a .q .node) (now (n .result)) is (c .if2 .taken)))
+    (entry-none (now (a .table)) (now (a .source)) (now (a .tape)) (requestBy (a .q)) (entry-lacks (now (a .table)) (now (a .index)) (a .entries) (s .pre .0 .indexed) (now (a .tape)) (a .q .node) (now (n .result)) is (c .if2 .taken)))
     (now (a .out))
 
 slice-aggregate-write-text : tie.Need-slice-aggregate-write-text
@@ -55,7 +55,7 @@ write-text-requires c κs =
     let a = s .args in
     let n = c .before .before .before .before .name-shown in
     let is = by-table (a .q .code) (nameOr (now (a .table)) (infoAt (now (a .table)) (now (a .tape)) (a .q .node))) (nameOf (nodeAt (now (a .source)) (now (a .tape)) (a .q .node) .text)) (now (n .result)) (n .ensures) (s .pre .1) in
-    record { a-short = entry-fits (now (a .table)) (now (a .words)) (a .entries) (s .pre .0 .indexed) (now (a .tape)) (a .q .node) (now (n .result)) is; b-short = omega arith; c-short = omega arith }
+    record { a-short = entry-fits (now (a .table)) (now (a .index)) (a .entries) (s .pre .0 .indexed) (now (a .tape)) (a .q .node) (now (n .result)) is; b-short = omega arith; c-short = omega arith }
 
 same-length : tie.Need-same-length
 same-length c = search needs
@@ -68,7 +68,7 @@ returns-3 c =
     let is = by-table (a .q .code) (nameOr (now (a .table)) (infoAt (now (a .table)) (now (a .tape)) (a .q .node))) (nameOf (nodeAt (now (a .source)) (now (a .tape)) (a .q .node) .text)) (now (n .result)) (n .ensures) (s .pre .1) in
     written-with (now (a .table)) (now (a .source)) (now (a .tape)) (requestBy (a .q)) texts.entryName texts.empty texts.empty (⊎-elim (holes-13 (a .q .code)) (holes-24 (a .q .code)) (s .pre .1))
     (now (n .result)) [] []
-    (entry-shown (now (a .table)) (now (a .source)) (now (a .tape)) (requestBy (a .q)) (now (n .result)) (entry-there (now (a .table)) (now (a .words)) (a .entries) (s .pre .0 .indexed) (now (a .tape)) (a .q .node) (now (n .result)) is (c .before .before .before .before .before .before .if2 .left)))
+    (entry-shown (now (a .table)) (now (a .source)) (now (a .tape)) (requestBy (a .q)) (now (n .result)) (entry-there (now (a .table)) (now (a .index)) (a .entries) (s .pre .0 .indexed) (now (a .tape)) (a .q .node) (now (n .result)) is (c .before .before .before .before .before .before .if2 .left)))
     (now (a .out)) _ _ (c .before .before .write-text .ensures)
 
 pub write-entry-spec : {M : Type 1} → statement M

@@ -8,7 +8,7 @@ use Rattle.cursor.specs.Info.{infoAt}
 use Rattle.numbers.specs.Label.{numbered}
 use Rattle.buffer.specs.Decimal.{decimal}
 use Rattle.message_texts.specs.Texts as texts
-use Rattle.messages.specs.Message.{letter}
+use Rattle.messages.specs.Message.{letterBytes}
 use Rattle.messages.specs.Inner.{requestBy}
 use Rattle.messages.proofs.Values.{holes-11, written-with, written-lacks}
 use Rattle.messages.proofs.Shown.{far-letter, verse-lacks, verse-shown}
@@ -53,7 +53,7 @@ returns-3 c =
     let s = n .before .before .before .before .before .before .before .before in
     let a = s .args in
     let q = requestBy (a .q) in
-    written-with (now (a .table)) (now (a .source)) (now (a .tape)) q texts.position texts.label texts.empty (holes-11 (q .code) (s .pre .1)) (decimal (q .first) ++ letter (q .second)) (now (n .label-shown .result)) [] (verse-shown (now (a .table)) (now (a .source)) (now (a .tape)) q (now (n .label-shown .result)) (n .label-shown .ensures) (n .before .if1 .left) (e .if2 .left)) (now (a .out)) (p .write-position .last .1 .1 .1 .1 .1 .0) (p .write-position .result) (p .write-position .ensures)
+    written-with (now (a .table)) (now (a .source)) (now (a .tape)) q texts.position texts.label texts.empty (holes-11 (q .code) (s .pre .1)) (decimal (q .first) ++ letterBytes (q .second)) (now (n .label-shown .result)) [] (verse-shown (now (a .table)) (now (a .source)) (now (a .tape)) q (now (n .label-shown .result)) (n .label-shown .ensures) (n .before .if1 .left) (e .if2 .left)) (now (a .out)) (p .write-position .last .1 .1 .1 .1 .1 .0) (p .write-position .result) (p .write-position .ensures)
 
 pub write-verse-spec : {M : Type 1} → statement M
 write-verse-spec =

@@ -16,8 +16,8 @@ with-open-requires c κs = search needs
 enum-told : tie.Need-enum-told
 enum-told c = search needs
 
-tell-alone-requires : tie.Need-tell-alone-requires
-tell-alone-requires c κs =
+push-end-alone-requires : tie.Need-push-end-alone-requires
+push-end-alone-requires c κs =
     let b = c .before .before .before .before .before in
     (b .pre .0, countable-alone (now (b .args .tape)) (b .args .i) (b .args .p) (b .args .rec) (c .before .enum-told .given .1) (b .pre .1))
 
@@ -30,7 +30,7 @@ same-length c = search needs
 
 returns-2 : tie.Need-returns-2
 returns-2 c =
-    rw (c .before .before .before .before .enum-told .given .1) (c .before .before .tell-alone .ensures)
+    rw (c .before .before .before .before .enum-told .given .1) (c .before .before .push-end-alone .ensures)
 
 pub after-pair-spec : {M : Type 1} → statement M
 after-pair-spec =
@@ -39,7 +39,7 @@ after-pair-spec =
     enum-known-p
     with-open-requires
     enum-told
-    tell-alone-requires
+    push-end-alone-requires
     returns
     same-length
     returns-2)

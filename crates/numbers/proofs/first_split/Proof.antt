@@ -12,10 +12,10 @@ use Rattle.numbers.proofs.first_split.Statement.{statement}
 use Rattle.numbers.proofs.first_split.Tie as tie
 
 abbrev Inv-loop : tie.InvT-loop
-Inv-loop table words count source tape found j₀ j = firstAmong (badLabel table source tape) (drop j found) ≡ firstAmong (badLabel table source tape) found
+Inv-loop table index entries source tape found j₀ j = firstAmong (badLabel table source tape) (drop j found) ≡ firstAmong (badLabel table source tape) found
 
 abbrev μ-loop : tie.MeasureT-loop
-μ-loop table words count source tape found j₀ j = length found - j
+μ-loop table index entries source tape found j₀ j = length found - j
 
 loop-holds : tie.Need-loop-holds Inv-loop μ-loop
 loop-holds c = refl

@@ -4,12 +4,12 @@ use Prim.Native.Nat.{_-_, _≤_}
 use denote.Ref.{now}
 use mathlib.Core.Path.{_≡_, refl, sym, ap, _∙_}
 use native.Mathlib.Omega.{arith}
-use Rattle.tape.specs.Nodes as nodes
+use Rattle.tape.specs.Nodes.{count}
 use Rattle.refusals.specs.Refusal.{firstBad, splitLabel}
 use Rattle.tape.specs.Forest.{Accepted}
 use Rattle.refusals.proofs.First.{first-end}
 use Rattle.table.specs.Entries.{Indexed}
-use Rattle.numbers.specs.Label.{badLabel, labelRefusal, refusalOf}
+use Rattle.numbers.specs.Label.{badLabel, labelRefusal, labelCheckRefusal}
 use Rattle.numbers.proofs.Gathered.{first-there, first-later}
 use Rattle.numbers.proofs.Labels.{all-labels}
 use borrow.Author.Needs.{needs}
@@ -17,10 +17,10 @@ use Rattle.numbers.proofs.label_check.Statement.{statement}
 use Rattle.numbers.proofs.label_check.Tie as tie
 
 abbrev Inv-loop : tie.InvT-loop
-Inv-loop table words count source tape n i₀ i = (Indexed table words count) × (Accepted source tape) × (n ≡ nodes.count tape) × (1 ≤ i) × (firstBad splitLabel (badLabel table source tape) i (n - i) ≡ labelRefusal table source tape)
+Inv-loop table index entries source tape n i₀ i = (Indexed table index entries) × (Accepted source tape) × (n ≡ count tape) × (1 ≤ i) × (firstBad splitLabel (badLabel table source tape) i (n - i) ≡ labelRefusal table source tape)
 
 abbrev μ-loop : tie.MeasureT-loop
-μ-loop table words count source tape n i₀ i = n - i
+μ-loop table index entries source tape n i₀ i = n - i
 
 loop-holds : tie.Need-loop-holds Inv-loop μ-loop
 loop-holds c =
@@ -50,7 +50,7 @@ returns c =
     let m = c .before .before .before .before .least in
     let e = m .ensures in
     let x = c .before .before .before .split-in in
-    sym (first-there (badLabel (now (a .table)) (now (a .source)) (now (a .tape))) (l .i) (m .result) _ (omega arith) (omega arith) (refusalOf (x .result)) (c .before .at .given .0 .0) (ap refusalOf (c .before .at .given .1)) (x .ensures)) ∙ l .inv .4
+    sym (first-there (badLabel (now (a .table)) (now (a .source)) (now (a .tape))) (l .i) (m .result) _ (omega arith) (omega arith) (labelCheckRefusal (x .result)) (c .before .at .given .0 .0) (ap labelCheckRefusal (c .before .at .given .1)) (x .ensures)) ∙ l .inv .4
 
 enum-told : tie.Need-enum-told Inv-loop μ-loop
 enum-told c = search needs
@@ -68,7 +68,7 @@ loop-again c =
     let m = c .before .before .before .least in
     let e = m .ensures in
     let x = c .before .before .split-in in
-    (v .0, v .1, v .2, omega (arith, v .3), sym (first-later (badLabel (now (a .table)) (now (a .source)) (now (a .tape))) (l .i) (m .result) _ (omega arith) (omega arith) (refusalOf (x .result)) (ap refusalOf (c .enum-told .given .1)) (x .ensures)) ∙ v .4)
+    (v .0, v .1, v .2, omega (arith, v .3), sym (first-later (badLabel (now (a .table)) (now (a .source)) (now (a .tape))) (l .i) (m .result) _ (omega arith) (omega arith) (labelCheckRefusal (x .result)) (ap labelCheckRefusal (c .enum-told .given .1)) (x .ensures)) ∙ v .4)
 
 returns-2 : tie.Need-returns-2 Inv-loop μ-loop
 returns-2 c =

@@ -24,8 +24,8 @@ cast-to c = search needs
 attached-numbers-requires : tie.Need-attached-numbers-requires
 attached-numbers-requires c κs = let h : 1 ≤ c .before .before .before .after-anchor .result = omega (arith, c .before .before .if1 .left) in rw (c .link-at .ensures) (c .before .before .before .after-anchor .ensures h .run)
 
-starts-told-requires : tie.Need-starts-told-requires
-starts-told-requires c κs = search needs
+write-starts-requires : tie.Need-write-starts-requires
+write-starts-requires c κs = search needs
 
 same-length : tie.Need-same-length
 same-length c = search needs
@@ -43,6 +43,6 @@ compared-attached-spec =
     link-at-requires
     cast-to
     attached-numbers-requires
-    starts-told-requires
+    write-starts-requires
     same-length
     returns-2)

@@ -2,7 +2,7 @@
 -- Assumes nothing.
 use borrow.Author.Needs.{needs}
 use mathlib.Core.Path.{ap, _∙_}
-use Rattle.oracle_exports.specs.Told.{letterTold}
+use Rattle.oracle_exports.specs.Words.{letterWord}
 use Rattle.oracle_exports.proofs.compared_end_letter.Statement.{statement}
 use Rattle.oracle_exports.proofs.compared_end_letter.Tie as tie
 
@@ -13,7 +13,7 @@ part-letter-requires : tie.Need-part-letter-requires
 part-letter-requires c κs = search needs
 
 returns : tie.Need-returns
-returns c = c .part-letter .ensures ∙ ap letterTold (c .before .parse-verse-range-end .ensures)
+returns c = c .part-letter .ensures ∙ ap letterWord (c .before .parse-verse-range-end .ensures)
 
 pub compared-end-letter-spec : {M : Type 1} → statement M
 compared-end-letter-spec =

@@ -6,11 +6,11 @@ use borrow.Author.Needs.{needs}
 use Rattle.oracle_exports.proofs.compared_next_number.Statement.{statement}
 use Rattle.oracle_exports.proofs.compared_next_number.Tie as tie
 
-next-told-requires : tie.Need-next-told-requires
-next-told-requires c κs = search needs
+next-position-requires : tie.Need-next-position-requires
+next-position-requires c κs = search needs
 
 returns : tie.Need-returns
-returns c = ap (λ (p : Position). p .number) (c .next-told .ensures)
+returns c = ap (λ (p : Position). p .number) (c .next-position .ensures)
 
 pub compared-next-number-spec : {M : Type 1} → statement M
-compared-next-number-spec = tie.close (tie.spec next-told-requires returns)
+compared-next-number-spec = tie.close (tie.spec next-position-requires returns)

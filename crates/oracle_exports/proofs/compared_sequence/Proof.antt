@@ -5,18 +5,18 @@ use borrow.Author.Needs.{needs}
 use borrow.Author.Tests.{le-leb, lt-leb}
 use mathlib.Core.Path.{_≡_, refl, ap, ap₂, _∙_}
 use native.Mathlib.Omega.{arith}
-use Rattle.oracle_exports.specs.Told.{positionTold}
+use Rattle.oracle_exports.specs.Words.{positionFrom}
 use Rattle.numbers.specs.Verse.{Position, positionOf, inSequence}
 use Rattle.numbers.specs.declared.VersePart.{VersePart}
 use Rattle.oracle_exports.proofs.compared_sequence.Statement.{statement}
 use Rattle.oracle_exports.proofs.compared_sequence.Tie as tie
 
-told-number : (n b : ℕ) → positionTold n b .number ≡ n
-told-number n zero = refl
-told-number n (suc b) = refl
+position-number : (n b : ℕ) → positionFrom n b .number ≡ n
+position-number n zero = refl
+position-number n (suc b) = refl
 
-number-low : (p : VersePart) (n b : ℕ) → positionOf p ≡ positionTold n b → n ≤ 4294967296 → p .num ≤ 4294967296
-number-low p n b h l = let e : p .num ≡ n = ap (λ (q : Position). q .number) h ∙ told-number n b in omega arith
+number-low : (p : VersePart) (n b : ℕ) → positionOf p ≡ positionFrom n b → n ≤ 4294967296 → p .num ≤ 4294967296
+number-low p n b h l = let e : p .num ≡ n = ap (λ (q : Position). q .number) h ∙ position-number n b in omega arith
 
 returns : tie.Need-returns
 returns c = rw (lt-leb _ _ (c .if1 .taken))

@@ -1,4 +1,4 @@
--- `table::category_step` meets its contract. The first eight bytes of each word compute to the number that it is told by.
+-- `table::category_step` meets its contract. The first eight bytes of each word compute to the number that it is head-of by.
 -- Assumes nothing.
 use borrow.Author.Needs.{needs}
 use denote.Ref.{now}
@@ -11,7 +11,7 @@ use Rattle.table.specs.Bytes.{equal, all}
 use Rattle.table.specs.Lines.{categories}
 use Rattle.table.specs.Books.{codeFrom}
 use Rattle.table.proofs.Words.{every}
-use Rattle.table.proofs.Blocks.{Told, head-tells}
+use Rattle.table.proofs.Blocks.{HeadIs, head-is}
 use Rattle.table.proofs.Heads.{front, front-there, line-there, words-absent}
 use Rattle.table.proofs.category_step.Statement.{statement}
 use Rattle.table.proofs.category_step.Tie as tie
@@ -20,60 +20,60 @@ use Rattle.text.specs.Literal.{ascii}
 head-requires : tie.Need-head-requires
 head-requires c κs = search needs
 
-told : (c : tie.After-head) → Told (now (c .before .before .args .s)) (c .head .result)
-told c = head-tells _ _ (c .before .shared-slice-known .given) (c .head .ensures)
+head-of : (c : tie.After-head) → HeadIs (now (c .before .before .args .s)) (c .head .result)
+head-of c = head-is _ _ (c .before .shared-slice-known .given) (c .head .ensures)
 
 slice-aggregate-tail-step : tie.Need-slice-aggregate-tail-step
 slice-aggregate-tail-step c = search needs
 
 tail-step-requires : tie.Need-tail-step-requires
-tail-step-requires c κs = told (c .before .before) .long (omega arith)
+tail-step-requires c κs = head-of (c .before .before) .long (omega arith)
 
 returns : tie.Need-returns
 unfolding ascii categories codeFrom equal all every
 returns c =
     let d = c .before .before in
-    c .tail-step .ensures ∙ front-there 9 categories _ _ 4 refl refl refl refl (λ m e. rw e) (told (d .before)) (d .if1 .taken)
+    c .tail-step .ensures ∙ front-there 9 categories _ _ 4 refl refl refl refl (λ m e. rw e) (head-of (d .before)) (d .if1 .taken)
 
 slice-aggregate-tail-step-2 : tie.Need-slice-aggregate-tail-step-2
 slice-aggregate-tail-step-2 c = search needs
 
 tail-step-requires-2 : tie.Need-tail-step-requires-2
-tail-step-requires-2 c κs = told (c .before .before .before) .long (omega arith)
+tail-step-requires-2 c κs = head-of (c .before .before .before) .long (omega arith)
 
 returns-2 : tie.Need-returns-2
 unfolding ascii categories codeFrom equal all every
 returns-2 c =
     let d = c .before .before in
-    c .tail-step2 .ensures ∙ front-there 9 categories _ _ 3 refl refl refl refl (λ m e. rw e) (told (d .before .before)) (d .if2 .taken)
+    c .tail-step2 .ensures ∙ front-there 9 categories _ _ 3 refl refl refl refl (λ m e. rw e) (head-of (d .before .before)) (d .if2 .taken)
 
 slice-aggregate-tail-step-3 : tie.Need-slice-aggregate-tail-step-3
 slice-aggregate-tail-step-3 c = search needs
 
 tail-step-requires-3 : tie.Need-tail-step-requires-3
-tail-step-requires-3 c κs = told (c .before .before .before .before) .long (omega arith)
+tail-step-requires-3 c κs = head-of (c .before .before .before .before) .long (omega arith)
 
 returns-3 : tie.Need-returns-3
 unfolding ascii categories codeFrom equal all every
 returns-3 c =
     let d = c .before .before in
-    c .tail-step3 .ensures ∙ front-there 9 categories _ _ 6 refl refl refl refl (λ m e. rw e) (told (d .before .before .before)) (d .if3 .taken)
+    c .tail-step3 .ensures ∙ front-there 9 categories _ _ 6 refl refl refl refl (λ m e. rw e) (head-of (d .before .before .before)) (d .if3 .taken)
 
 slice-aggregate-tail-step-4 : tie.Need-slice-aggregate-tail-step-4
 slice-aggregate-tail-step-4 c = search needs
 
 tail-step-requires-4 : tie.Need-tail-step-requires-4
-tail-step-requires-4 c κs = told (c .before .before .before .before .before) .long (omega arith)
+tail-step-requires-4 c κs = head-of (c .before .before .before .before .before) .long (omega arith)
 
 returns-4 : tie.Need-returns-4
 unfolding ascii categories codeFrom equal all every
 returns-4 c =
     let d = c .before .before in
-    c .tail-step4 .ensures ∙ front-there 9 categories _ _ 0 refl refl refl refl (λ m e. rw e) (told (d .before .before .before .before)) (d .if4 .taken)
+    c .tail-step4 .ensures ∙ front-there 9 categories _ _ 0 refl refl refl refl (λ m e. rw e) (head-of (d .before .before .before .before)) (d .if4 .taken)
 
 returns-5 : tie.Need-returns-5
 unfolding ascii categories codeFrom equal all every
-returns-5 c = front-there 9 categories _ _ 1 refl refl refl refl (λ m e. absurd (false≢true (sym e))) (told (c .before .before .before .before .before)) (c .if5 .taken)
+returns-5 c = front-there 9 categories _ _ 1 refl refl refl refl (λ m e. absurd (false≢true (sym e))) (head-of (c .before .before .before .before .before)) (c .if5 .taken)
 
 slice-aggregate-starts-with : tie.Need-slice-aggregate-starts-with
 slice-aggregate-starts-with c = search needs
@@ -111,7 +111,7 @@ returns-9 c =
     let d = c .before .before .before in
     let e = d .before .before .before in
     let f = e .before .before .before in
-    let t = told (f .before .before .before .before .before) in
+    let t = head-of (f .before .before .before .before .before) in
     words-absent 9 _ 0 categories refl
     (rw (
       t .differs (front (getD categories 0 [])) refl (f .before .if4 .left),

@@ -9,7 +9,7 @@ use mathlib.Core.Option.{Option, some, none}
 use Rattle.table.specs.Books.{codeFrom}
 use Rattle.table.specs.Bytes.{starting}
 use Rattle.table.specs.Names.{qt, defaultOf}
-use Rattle.table.specs.Inner.{valueOf, wordsOf, attributeBy}
+use Rattle.table.specs.Inner.{valueOf, linesOf, attributeBy}
 use Rattle.table.proofs.Positions.{owners, default-is}
 use Rattle.table.proofs.default_attribute.Statement.{statement}
 use Rattle.table.proofs.default_attribute.Tie as tie
@@ -38,14 +38,14 @@ starts-with-requires : tie.Need-starts-with-requires
 starts-with-requires c κs = search needs
 
 returns : tie.Need-returns
-unfolding ascii owners wordsOf
+unfolding ascii owners linesOf
 returns c =
     let s = now (c .before .before .before .before .before .before .before .args .name) in
     let o : some (c .before .before .p .given .0 .0) ≡ codeFrom 0 owners s = sym (ap valueOf (c .before .before .p .given .1)) ∙ c .before .before .before .before .word-in .ensures in
     c .attribute .ensures ∙ ap (λ (x : Option ℕ). attributeBy x (starting qt s)) o ∙ sym (default-is s)
 
 unowned : (c : tie.After-starts-with) (t : Bool) → c .starts-with .result ≡ t → pick t Who NoDefault ≡ defaultOf (now (c .before .before .before .before .before .before .before .args .name))
-unfolding ascii owners wordsOf
+unfolding ascii owners linesOf
 unowned c t e =
     let d = c .before .before in
     let s = now (c .before .before .before .before .before .before .before .args .name) in

@@ -5,16 +5,16 @@ use lib.ListN.{drop}
 use mathlib.Core.Path.{_≡_, refl, sym, _∙_}
 use native.Mathlib.Omega.{arith}
 use Rattle.table.specs.Entries.{entries, Indexed}
-use Rattle.table.specs.Names.{namedFrom, named}
+use Rattle.table.specs.Names.{namedFrom, entryNamed}
 use Rattle.table.proofs.Unpack.{inside, name-hit, name-miss, name-none}
 use Rattle.table.proofs.find_name.Statement.{statement}
 use Rattle.table.proofs.find_name.Tie as tie
 
 abbrev Inv-loop : tie.InvT-loop
-Inv-loop table words count name k₀ k = (k ≤ count) × (Indexed table words count) × (named table name ≡ namedFrom table k (drop k (entries table)) name)
+Inv-loop table index n name k₀ k = (k ≤ n) × (Indexed table index n) × (entryNamed table name ≡ namedFrom table k (drop k (entries table)) name)
 
 abbrev μ-loop : tie.MeasureT-loop
-μ-loop table words count name k₀ k = count - k
+μ-loop table index n name k₀ k = n - k
 
 loop-holds : tie.Need-loop-holds Inv-loop μ-loop
 loop-holds c = (omega arith, c .before .before .before .pre, refl)

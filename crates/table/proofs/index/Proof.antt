@@ -5,16 +5,16 @@ use denote.Ref.{now}
 use lib.ListN.{length, length-set}
 use mathlib.Core.Path.{_≡_, refl, sym, subst, _∙_}
 use native.Mathlib.Omega.{arith}
-use Rattle.table.specs.Inner.{Passed, Marked}
+use Rattle.table.specs.Inner.{LinesGood, LinesRead}
 use Rattle.table.proofs.Filling.{Going, starts, goes-on, full, ends-well, indexed}
 use Rattle.table.proofs.index.Statement.{statement}
 use Rattle.table.proofs.index.Tie as tie
 
 abbrev Inv-loop : tie.InvT-loop
-Inv-loop table words₀ at₀ k₀ words at k = (length words ≡ length words₀) × (Going table words at k)
+Inv-loop table words₀ at₀ k₀ index at k = (length index ≡ length words₀) × (Going table index at k)
 
 abbrev μ-loop : tie.MeasureT-loop
-μ-loop table words₀ at₀ k₀ words at k = length table - at
+μ-loop table words₀ at₀ k₀ index at k = length table - at
 
 loop-holds : tie.Need-loop-holds Inv-loop μ-loop
 loop-holds c = (refl, starts _ _ (c .before .before .pre))
@@ -32,14 +32,14 @@ enum-known-word : tie.Need-enum-known-word Inv-loop μ-loop
 enum-known-word c = search needs
 
 -- the three lines that were read
-passed : (c : tie.After-known-told Inv-loop μ-loop) → Passed (now (c .before .before .before .before .before .before .before .before .before .args .table)) (c .before .before .before .before .before .before .loop .at) (c .before .word .given .0 .0) (c .before .word .given .0 .1 .0)
-passed c = subst (Marked (now (c .before .before .before .before .before .before .before .before .before .args .table)) (c .before .before .before .before .before .before .loop .at)) (c .before .word .given .1) (c .before .before .before .marker-at .ensures)
+passed : (c : tie.After-known-told Inv-loop μ-loop) → LinesGood (now (c .before .before .before .before .before .before .before .before .before .args .table)) (c .before .before .before .before .before .before .loop .at) (c .before .word .given .0 .0) (c .before .word .given .0 .1 .0)
+passed c = subst (LinesRead (now (c .before .before .before .before .before .before .before .before .before .args .table)) (c .before .before .before .before .before .before .loop .at)) (c .before .word .given .1) (c .before .before .before .marker-at .ensures)
 
-mul-words : tie.Need-mul-words Inv-loop μ-loop
-mul-words c = omega (arith, c .before .before .before .before .before .before .loop .inv .1 .few)
+mul-index : tie.Need-mul-index Inv-loop μ-loop
+mul-index c = omega (arith, c .before .before .before .before .before .before .loop .inv .1 .few)
 
-slice-write-words : tie.Need-slice-write-words Inv-loop μ-loop
-slice-write-words c = let l = c .before .before .before .before .before .before .loop in omega (arith, l .inv .1 .few, l .inv .1 .room, c .before .before .before .before .if1 .left)
+slice-write-index : tie.Need-slice-write-index Inv-loop μ-loop
+slice-write-index c = let l = c .before .before .before .before .before .before .loop in omega (arith, l .inv .1 .few, l .inv .1 .room, c .before .before .before .before .if1 .left)
 
 add-k : tie.Need-add-k Inv-loop μ-loop
 add-k c = omega (arith, c .before .before .before .before .before .before .loop .inv .1 .few)
@@ -51,7 +51,7 @@ loop-again : tie.Need-loop-again Inv-loop μ-loop
 loop-again c =
     let l = c .before .before .before .before .before .before .loop in
     let h : l .k < 512 = omega (arith, l .inv .1 .few, c .before .before .before .before .if1 .left) in
-    (length-set (l .words) (l .k) (c .before .word .given .0 .0) ∙ l .inv .0, goes-on _ _ _ _ (l .inv .1) h _ _ (passed c))
+    (length-set (l .index) (l .k) (c .before .word .given .0 .0) ∙ l .inv .0, goes-on _ _ _ _ (l .inv .1) h _ _ (passed c))
 
 enum-known-place : tie.Need-enum-known-place Inv-loop μ-loop
 enum-known-place c = search needs
@@ -63,7 +63,7 @@ returns-2 : tie.Need-returns-2 Inv-loop μ-loop
 returns-2 c =
     let l = c .before .before .before .before .before .before .loop in
     let h : l .k < 512 = omega (arith, l .inv .1 .few, c .before .before .before .before .if1 .left) in
-    let m = subst (Marked (now (c .before .before .before .before .before .before .before .before .before .args .table)) (l .at)) (c .before .place .given .1) (c .before .before .before .marker-at .ensures) in
+    let m = subst (LinesRead (now (c .before .before .before .before .before .before .before .before .before .args .table)) (l .at)) (c .before .place .given .1) (c .before .before .before .marker-at .ensures) in
     (sym (m (l .k) h) ∙ l .inv .1 .bad, tt)
 
 same-length-3 : tie.Need-same-length-3 Inv-loop μ-loop
@@ -83,8 +83,8 @@ index-spec =
     returns
     marker-at-requires
     enum-known-word
-    mul-words
-    slice-write-words
+    mul-index
+    slice-write-index
     add-k
     loop-less
     loop-again

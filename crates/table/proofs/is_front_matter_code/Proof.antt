@@ -2,7 +2,8 @@
 use borrow.Author.Needs.{needs}
 use mathlib.Core.Path.{sym, ap, _∙_}
 use Rattle.table.specs.Names.{frontMatter}
-use Rattle.table.specs.Inner.{triples, known}
+use Rattle.table.specs.Inner.{triples}
+use Rattle.text.specs.Pick.{known}
 use Rattle.table.proofs.Words.{one-of}
 use Rattle.table.proofs.is_front_matter_code.Statement.{statement}
 use Rattle.table.proofs.is_front_matter_code.Tie as tie

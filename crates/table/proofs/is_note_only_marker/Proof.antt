@@ -6,7 +6,8 @@ use lib.ListN.{length, getD, List·getD-eq-default}
 use mathlib.Core.Path.{_≡_, sym, ap, _∙_}
 use native.Mathlib.Omega.{arith}
 use Rattle.table.specs.Names.{noteOnly}
-use Rattle.table.specs.Inner.{wordsOf, known}
+use Rattle.table.specs.Inner.{linesOf}
+use Rattle.text.specs.Pick.{known}
 use Rattle.table.proofs.Words.{one-of, not-noted}
 use Rattle.table.proofs.is_note_only_marker.Statement.{statement}
 use Rattle.table.proofs.is_note_only_marker.Tie as tie
@@ -35,7 +36,7 @@ is-known-requires : tie.Need-is-known-requires
 is-known-requires c κs = search needs
 
 returns-3 : tie.Need-returns-3
-unfolding ascii wordsOf noteOnly
+unfolding ascii linesOf noteOnly
 returns-3 c = c .is-known .ensures ∙ ap known (c .before .word-in .ensures) ∙ sym (one-of noteOnly _ 0)
 
 pub is-note-only-marker-spec : {M : Type 1} → statement M

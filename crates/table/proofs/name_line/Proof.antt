@@ -6,7 +6,7 @@ use mathlib.Core.Path.{refl, _∙_}
 use native.Mathlib.Omega.{arith}
 use Rattle.table.specs.Bytes.{all}
 use Rattle.table.specs.Lines.{nameKey}
-use Rattle.table.specs.Inner.{nameOf, stepOf}
+use Rattle.table.specs.Inner.{nameLength, stepOf}
 use Rattle.table.proofs.Heads.{key-step}
 use Rattle.table.proofs.Steps.{Read, line-read}
 use Rattle.table.proofs.name_line.Statement.{statement}
@@ -33,7 +33,7 @@ name-step-requires c κs = search needs
 
 read : (c : tie.After-name-step) → let a = c .before .before .before .before .before .args in Read (now (a .table)) (a .at) 0 (c .name-step .result)
 unfolding ascii all stepOf
-read c = line-read _ _ 0 _ (c .before .before .before .before .before .pre) (c .name-step .ensures ∙ key-step nameKey nameOf _ _ refl (c .before .behind .ensures))
+read c = line-read _ _ 0 _ (c .before .before .before .before .before .pre) (c .name-step .ensures ∙ key-step nameKey nameLength _ _ refl (c .before .behind .ensures))
 
 moved-requires : tie.Need-moved-requires
 moved-requires c κs = omega (arith, read c .fits)

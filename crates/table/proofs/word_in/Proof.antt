@@ -8,13 +8,13 @@ use mathlib.Core.Path.{_≡_, sym, _∙_}
 use native.Mathlib.Omega.{arith}
 use Rattle.table.specs.Lines.{lines}
 use Rattle.table.specs.Books.{codeFrom}
-use Rattle.table.specs.Inner.{wordsOf}
+use Rattle.table.specs.Inner.{linesOf}
 use Rattle.table.proofs.Parts.{bodies, words-are, word-hit, word-miss, word-end, break-le, break-inside}
 use Rattle.table.proofs.word_in.Statement.{statement}
 use Rattle.table.proofs.word_in.Tie as tie
 
 abbrev Inv-loop : tie.InvT-loop
-Inv-loop words s at₀ k₀ at k = (k ≤ at) × (at ≤ length words + 1) × (codeFrom 0 (wordsOf words) s ≡ codeFrom k (bodies (lines at (drop at words))) s)
+Inv-loop words s at₀ k₀ at k = (k ≤ at) × (at ≤ length words + 1) × (codeFrom 0 (linesOf words) s ≡ codeFrom k (bodies (lines at (drop at words))) s)
 
 abbrev μ-loop : tie.MeasureT-loop
 μ-loop words s at₀ k₀ at k = length words + 1 - at

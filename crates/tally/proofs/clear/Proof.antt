@@ -6,17 +6,17 @@ use borrow.Author.Tests.{ltb-true, ltb-false}
 use native.Mathlib.Omega.{arith}
 use lib.ListN.{replicate}
 use Rattle.buffer.proofs.Writing.{Writing, writing-start, writing-full, writing-end}
-use Rattle.findings.specs.Codes.{codes}
+use Rattle.findings.specs.Codes.{codeCount}
 use Rattle.tally.proofs.Counting.{clear-on}
 use Rattle.tally.proofs.clear.Statement.{statement}
 use Rattle.tally.proofs.clear.Tie as tie
-use Rattle.findings.specs.Codes.{codes}
+use Rattle.findings.specs.Codes.{codeCount}
 
 abbrev Inv-loop : tie.InvT-loop
-Inv-loop counts₀ c₀ counts c = Writing (replicate codes 0) counts₀ 0 counts c
+Inv-loop counts₀ c₀ counts c = Writing (replicate codeCount 0) counts₀ 0 counts c
 
 abbrev μ-loop : tie.MeasureT-loop
-μ-loop counts₀ c₀ counts c = codes - c
+μ-loop counts₀ c₀ counts c = codeCount - c
 
 loop-holds : tie.Need-loop-holds Inv-loop μ-loop
 loop-holds c = writing-start _ _ _

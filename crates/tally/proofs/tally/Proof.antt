@@ -2,7 +2,7 @@
 -- Assumes nothing.
 use borrow.Author.Needs.{needs}
 use mathlib.Core.Path.{sym, ap, _∙_}
-use Rattle.tally.specs.Tally.{answerOf}
+use Rattle.tally.specs.Tally.{tallyAnswerOf}
 use Rattle.tally.proofs.tally.Statement.{statement}
 use Rattle.tally.proofs.tally.Tie as tie
 
@@ -16,11 +16,11 @@ enum-told : tie.Need-enum-told
 enum-told c = search needs
 
 count-requires : tie.Need-count-requires
-count-requires c κs = sym (c .before .before .before .list-check .ensures) ∙ ap answerOf (c .before .enum-told .given .1)
+count-requires c κs = sym (c .before .before .before .list-check .ensures) ∙ ap tallyAnswerOf (c .before .enum-told .given .1)
 
 returns : tie.Need-returns
 returns c =
-    let e = sym (ap answerOf (c .before .number .given .1)) ∙ c .before .before .before .list-check .ensures in
+    let e = sym (ap tallyAnswerOf (c .before .number .given .1)) ∙ c .before .before .before .list-check .ensures in
     (e, rw (sym e))
 
 same-length : tie.Need-same-length
@@ -28,7 +28,7 @@ same-length c = search needs
 
 returns-2 : tie.Need-returns-2
 returns-2 c =
-    let e = sym (ap answerOf (c .before .before .before .before .enum-told .given .1)) ∙ c .before .before .before .before .before .before .list-check .ensures in
+    let e = sym (ap tallyAnswerOf (c .before .before .before .before .enum-told .given .1)) ∙ c .before .before .before .before .before .before .list-check .ensures in
     (e, rw (sym e) (c .before .before .count .ensures))
 
 pub tally-spec : {M : Type 1} → statement M

@@ -6,7 +6,7 @@ use mathlib.Core.Bool.{true, false≢true}
 use mathlib.Core.Path.{_≡_, refl}
 use native.Mathlib.Omega.{arith}
 use borrow.Author.Tests.{not-false}
-use Rattle.text.specs.Characters.{starts}
+use Rattle.text.specs.Characters.{isBoundary}
 use Rattle.tape.specs.Inner.{Clear}
 use Rattle.tape.proofs.Settled.{clear-turn, clear-done}
 use Rattle.tape.proofs.Spans.{end-clear}
@@ -15,7 +15,7 @@ use Rattle.tape.proofs.are_clear.Statement.{statement}
 use Rattle.tape.proofs.are_clear.Tie as tie
 
 abbrev Inv-loop : tie.InvT-loop
-Inv-loop source tape n before₀ i₀ before i = (1 ≤ i) × (i ≤ n) × (starts source before ≡ true) × (Clear source tape n i → Clear source tape n 1)
+Inv-loop source tape n before₀ i₀ before i = (1 ≤ i) × (i ≤ n) × (isBoundary source before ≡ true) × (Clear source tape n i → Clear source tape n 1)
 
 abbrev μ-loop : tie.MeasureT-loop
 μ-loop source tape n before₀ i₀ before i = n - i

@@ -8,7 +8,7 @@ use mathlib.Core.Path.{_≡_, refl, sym, ap, _∙_}
 use native.Mathlib.Nat.{zero-add}
 use native.Mathlib.Omega.{arith}
 use Rattle.text.proofs.Chars.{in-text}
-use Rattle.text.proofs.Kept.{endOf, kept-blank, kept-solid, kept-end, kept-start}
+use Rattle.text.proofs.Kept.{endOf, kept-blank, kept-not-blank, kept-end, kept-start}
 use Rattle.text.specs.Blank.{blank}
 use Rattle.text.specs.Characters.{chars}
 use Rattle.text.specs.Words.{kept}
@@ -51,7 +51,7 @@ loop-again c =
     let w = ap (λ (d : Decoded). d .width) (d .ensures) in
     let t = in-text s (l .i) (omega arith) in
     let y = ap (λ (d : Decoded). blank (d .cp)) (sym (d .ensures)) ∙ sym (c .before .is-blank .ensures) ∙ not-true _ (c .if1 .taken) in
-    (omega arith, omega (arith, t, w), l .inv .2 ∙ kept-solid s (l .end) (l .i) (d .result .width) (omega arith) w (omega (arith, t, w)) y)
+    (omega arith, omega (arith, t, w), l .inv .2 ∙ kept-not-blank s (l .end) (l .i) (d .result .width) (omega arith) w (omega (arith, t, w)) y)
 
 loop-less-2 : tie.Need-loop-less-2 Inv-loop μ-loop
 loop-less-2 c =

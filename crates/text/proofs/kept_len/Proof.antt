@@ -8,7 +8,7 @@ use lib.Seq.{length-take-le}
 use mathlib.Core.Path.{_≡_, refl, sym, ap, _∙_}
 use native.Mathlib.Nat.{zero-add}
 use native.Mathlib.Omega.{arith}
-use Rattle.text.proofs.Kept.{ends-blank, ends-solid, kept-all, kept-none}
+use Rattle.text.proofs.Kept.{ends-blank, ends-not-blank, kept-all, kept-none}
 use Rattle.text.specs.Characters.{chars}
 use Rattle.text.specs.Words.{kept}
 use Rattle.text.proofs.kept_len.Statement.{statement}
@@ -55,7 +55,7 @@ returns-2 c =
     let s = c .before .before .before .before .before .before .before .args .s .now in
     let b = getD s (l .e - 1) 0 in
     let y = sym (c .before .is-blank .ensures) ∙ not-true _ (c .if2 .taken) in
-    record { is = sym (zero-add _ ∙ l .inv .1 ∙ ends-solid b (omega arith) s (l .e) (omega arith) (omega arith) refl y); inside = omega arith }
+    record { is = sym (zero-add _ ∙ l .inv .1 ∙ ends-not-blank b (omega arith) s (l .e) (omega arith) (omega arith) refl y); inside = omega arith }
 
 sub-e : tie.Need-sub-e Inv-loop μ-loop
 sub-e c = search needs

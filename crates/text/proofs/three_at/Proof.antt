@@ -9,7 +9,7 @@ use mathlib.Core.List.{[], _∷_}
 use mathlib.Core.Path.{_≡_, sym, ap, _∙_}
 use native.Mathlib.Omega.{arith}
 use Rattle.text.proofs.Second.{three-row}
-use Rattle.text.specs.Pick.{span, pick}
+use Rattle.text.specs.Pick.{range, pick}
 use Rattle.text.specs.Utf8.{begins}
 use Rattle.text.proofs.three_at.Statement.{statement}
 use Rattle.text.proofs.three_at.Tie as tie

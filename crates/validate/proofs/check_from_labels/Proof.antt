@@ -1,7 +1,7 @@
 -- `validate::check_from_labels` meets its contract.
 -- Assumes nothing.
 use mathlib.Core.Path.{sym, ap, _∙_}
-use Rattle.numbers.specs.Label.{refusalOf}
+use Rattle.numbers.specs.Label.{labelCheckRefusal}
 use Rattle.validate.proofs.Input.{then-none, first-some}
 use borrow.Author.Needs.{needs}
 use Rattle.validate.proofs.check_from_labels.Statement.{statement}
@@ -22,12 +22,12 @@ enum-known-i c = search needs
 returns : tie.Need-returns
 returns c =
     let k = c .before .before .before .label-check in
-    (then-none _ _ _ (sym (k .ensures) ∙ ap refusalOf (c .before .enum-told .given .1)) (c .check-lists .ensures .0), c .check-lists .ensures .1)
+    (then-none _ _ _ (sym (k .ensures) ∙ ap labelCheckRefusal (c .before .enum-told .given .1)) (c .check-lists .ensures .0), c .check-lists .ensures .1)
 
 returns-2 : tie.Need-returns-2
 returns-2 c =
     let k = c .before .before .before .label-check in
-    (first-some _ _ 9 (c .before .i .given .0 .0) (sym (k .ensures) ∙ ap refusalOf (c .before .i .given .1)), tt)
+    (first-some _ _ 9 (c .before .i .given .0 .0) (sym (k .ensures) ∙ ap labelCheckRefusal (c .before .i .given .1)), tt)
 
 pub check-from-labels-spec : {M : Type 1} → statement M
 check-from-labels-spec =

@@ -1,7 +1,7 @@
 -- Written by proof_writer/write from proof_writer/descriptions/validate.py, from the code and its contracts.
 -- The walk of `validate::checked`.
 use Rattle.reference_laws.proofs.Walk.{refl, sym, ap, _∙_, ℕ, _≤_, _/_, [], _∷_, length, URA, Heap, Tables, Atoms, givenOf, tables, Given, _$_, !, move, keep, of-opd, and-then, no-more, Rule, rule-of, Knows, calls-any, Facing, WalkFor, proves, ends, span, cell, cell-field, sets, relands-at, reslices, calls-into}
-use Rattle.findings.specs.Written.{total, limit}
+use Rattle.findings.specs.Written.{total, countLimit}
 use Rattle.state.specs.Running.{countsOf}
 use Rattle.validate.specs.Entry.{Fit}
 use Rattle.validate.proofs.Course.{seen-inside, opens-inside, finished-whole}
@@ -32,7 +32,7 @@ module _ {M : Type 1} (𝓤 : URA M) (H : Heap 𝓤) (A : Atoms 𝓤) (W : Given
       reslices ! 14 26 27 refl refl refl tt refl refl refl (tt, (tt, (record { fits = (seen-room .0) }, tt))) $ move ! (4 ∷ []) $ let req-clear-seen : (z-node-count .0) ≤ length (z-run .1 .0) = seen-inside req (z-run .1 .0) _ (s-run .1 .0) (s-node-count .1) in calls-into W 𝓣 clear-seen-C.terms ((seen-at, (z-run .1 .0)), (z-node-count .0, tt)) ! ((refl, ((s-node-count .0) .1)), tt) req-clear-seen known-clear-seen (and-then ! (cell ! 27 refl) (and-then ! (cell ! 18 refl) (no-more !))) 25 (λ _. refl) refl (λ z-clear-seen s-clear-seen.
       reslices ! 15 28 29 refl refl refl tt refl refl refl (tt, (tt, (record { fits = (opens-room .0) }, tt))) $ move ! (5 ∷ []) $ let req-clear-opens : (z-node-count .0) ≤ length (z-run .1 .1 .0) = opens-inside req (z-run .1 .1 .0) _ (s-run .1 .1 .0) (s-node-count .1) in calls-any W 𝓣 clear-opens-C.terms ((opens-at, (z-run .1 .1 .0)), (z-node-count .0, tt)) ! ((refl, ((s-node-count .0) .1)), tt) req-clear-opens known-clear-opens (and-then ! (cell ! 29 refl) (and-then ! (cell ! 18 refl) (no-more !))) (λ z-clear-opens s-clear-opens.
       relands-at ! 25 refl (tt, tt) $
-      sets ! (of-opd ! (cell-field ! 16 1 refl refl refl)) 30 refl (tt, record { fits = (list-room .0) }) $ let req-reported : total (countsOf (z-run .0)) ≤ limit = (s-run .1 .1 .1 .1) .low in calls-into W 𝓣 reported-C.terms (z-run .0, (list-at .n, tt)) ! ((s-run .0), ((refl, (list-room .0)), tt)) req-reported known-reported (and-then ! (cell ! 18 refl) (and-then ! (cell ! 31 refl) (no-more !))) 8 (λ _. refl) refl (λ z-reported s-reported.
+      sets ! (of-opd ! (cell-field ! 16 1 refl refl refl)) 30 refl (tt, record { fits = (list-room .0) }) $ let req-reported : total (countsOf (z-run .0)) ≤ countLimit = (s-run .1 .1 .1 .1) .low in calls-into W 𝓣 reported-C.terms (z-run .0, (list-at .n, tt)) ! ((s-run .0), ((refl, (list-room .0)), tt)) req-reported known-reported (and-then ! (cell ! 18 refl) (and-then ! (cell ! 31 refl) (no-more !))) 8 (λ _. refl) refl (λ z-reported s-reported.
       keep ! (span 7 24 (3 ∷ 4 ∷ 5 ∷ 2 ∷ 1 ∷ 0 ∷ 6 ∷ [])) $ ends ! ρ refl tt (z-reported .0) (s-reported .0) ((z-clear-seen .1 .0), ((z-clear-opens .1 .0), ((z-run .1 .1 .1 .0), tt))) (((s-clear-seen .1 .0) ∙ (s-run .1 .0)), (((s-clear-opens .1 .0) ∙ (s-run .1 .1 .0)), ((s-run .1 .1 .1 .0), tt))) (finished-whole req list₀ (z-run .1 .1 .1 .0) _ (s-run .1 .1 .1 .1) (s-run .1 .1 .1 .0) _ _ (s-node-count .1) (ap (λ (k : ℕ). k / 8) (list-n ∙ sym (s-run .1 .1 .1 .0))) (z-run .1 .0) _ (z-run .1 .1 .0) _ (s-run .1 .0) (s-run .1 .1 .0) (s-clear-seen .1 .1) (s-clear-opens .1 .1) _ (s-reported .1)) refl)))))
 
 pub checked-spec : {M : Type 1} → stated.statement M

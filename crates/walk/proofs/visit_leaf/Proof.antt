@@ -5,8 +5,8 @@ use Rattle.tape.specs.Nodes.{nodeAt, count as nodes}
 use Rattle.table.specs.Entries.{Indexed}
 use Rattle.cursor.specs.Inner.{Run, Spanned}
 use Rattle.findings.specs.Written.{Room}
-use Rattle.definition.specs.Checks.{leafTold}
-use Rattle.state.specs.Running.{stateOf, contextOf, countsOf, Sane}
+use Rattle.definition.specs.Checks.{leafChecked}
+use Rattle.state.specs.Running.{stateOf, contextOf, countsOf, VerseBounded}
 use Rattle.walk.proofs.Steps.{leafy-asks, was-number, was-other}
 use prog.Wp.{afterTurn}
 use contract.Running.{tablesOf}
@@ -34,7 +34,7 @@ module _ {M : Type 1} (𝓤 : URA M) (H : Heap 𝓤) (A : Atoms 𝓤) (W : Given
       move ! (25 ∷ []) $ let req-is-number : i₀ < nodes tape₀ = req .inside in calls-into W 𝓣 is-number-C.terms ((tape-at, tape₀), (i₀, tt)) ! ((refl, i₀-is), tt) req-is-number known-is-number (and-then ! (cell ! 7 refl) (and-then ! (cell ! 8 refl) (no-more !))) 17 (λ _. refl) refl (λ z-is-number s-is-number.
       if-then 𝓣 ! (cell ! 17 refl)
       (λ h-is-number. move ! (26 ∷ []) $ opens-ref ! tt (of-struct State-T.the-type State-T.Laws.the-laws State-T.Laws.the-plain) rec-at rec₀ (λ open-1. assigns ! (of-opd ! (load ! (from ! (hop ! (look ! 15 refl) (stop !))) (look-raw ! 0 refl))) (from ! (stop !)) (init ! 18 refl (LL.lawful State-T.the-type State-L.the-laws 𝓤 H A W .typed rec₀ _ open-1 .0)) $ shuts-ref ! tt (of-struct State-T.the-type State-T.Laws.the-laws State-T.Laws.the-plain) rec-at rec₀ rec₀ open-1 $
-      reslices ! 15 20 21 refl refl refl tt refl refl refl (tt, (tt, (record { fits = (seen-room .0) }, tt))) $ reslices ! 16 22 23 refl refl refl tt refl refl refl (tt, (tt, (record { fits = (list-room .0) }, tt))) $ move ! (24 ∷ 25 ∷ 26 ∷ 1 ∷ 27 ∷ 28 ∷ []) $ let req-leaf : (Indexed table₀ words₀ count₀) × (Spanned source₀ tape₀ i₀) × Sane rec₀ × (rec₀ .«seen_len» < length seen₀) × (rec₀ .verses < 4611686018427387904) × Room (countsOf rec₀) (leafTold table₀ (contextOf context₀) (stateOf source₀ tape₀ seen₀ [] rec₀) (nodeAt source₀ tape₀ i₀) .findings) = leafy-asks (req .leafy (sym (s-is-number .1) ∙ (is-true (z-is-number .0) h-is-number))) in calls-into W 𝓣 leaf-C.terms ((table-at, table₀), ((words-at, words₀), (count₀, ((source-at, source₀), ((tape-at, tape₀), (i₀, (context₀, (rec₀, ((seen-at, seen₀), ((list-at, list₀), tt)))))))))) ! ((refl, count₀-is), ((refl, i₀-is), (context₀-is, (open-1, tt)))) req-leaf known-leaf (and-then ! (cell ! 4 refl) (and-then ! (cell ! 5 refl) (and-then ! (cell ! 6 refl) (and-then ! (cell ! 7 refl) (and-then ! (cell ! 8 refl) (and-then ! (cell ! 9 refl) (and-then ! (cell ! 12 refl) (and-then ! (cell ! 17 refl) (and-then ! (cell ! 21 refl) (and-then ! (cell ! 23 refl) (no-more !))))))))))) 24 (λ _. refl) refl (λ z-leaf s-leaf.
+      reslices ! 15 20 21 refl refl refl tt refl refl refl (tt, (tt, (record { fits = (seen-room .0) }, tt))) $ reslices ! 16 22 23 refl refl refl tt refl refl refl (tt, (tt, (record { fits = (list-room .0) }, tt))) $ move ! (24 ∷ 25 ∷ 26 ∷ 1 ∷ 27 ∷ 28 ∷ []) $ let req-leaf : (Indexed table₀ words₀ count₀) × (Spanned source₀ tape₀ i₀) × VerseBounded rec₀ × (rec₀ .«seen_len» < length seen₀) × (rec₀ .verses < 4611686018427387904) × Room (countsOf rec₀) (leafChecked table₀ (contextOf context₀) (stateOf source₀ tape₀ seen₀ [] rec₀) (nodeAt source₀ tape₀ i₀) .findings) = leafy-asks (req .leafy (sym (s-is-number .1) ∙ (is-true (z-is-number .0) h-is-number))) in calls-into W 𝓣 leaf-C.terms ((table-at, table₀), ((words-at, words₀), (count₀, ((source-at, source₀), ((tape-at, tape₀), (i₀, (context₀, (rec₀, ((seen-at, seen₀), ((list-at, list₀), tt)))))))))) ! ((refl, count₀-is), ((refl, i₀-is), (context₀-is, (open-1, tt)))) req-leaf known-leaf (and-then ! (cell ! 4 refl) (and-then ! (cell ! 5 refl) (and-then ! (cell ! 6 refl) (and-then ! (cell ! 7 refl) (and-then ! (cell ! 8 refl) (and-then ! (cell ! 9 refl) (and-then ! (cell ! 12 refl) (and-then ! (cell ! 17 refl) (and-then ! (cell ! 21 refl) (and-then ! (cell ! 23 refl) (no-more !))))))))))) 24 (λ _. refl) refl (λ z-leaf s-leaf.
       move ! (6 ∷ []) $ opens-ref ! tt (of-struct State-T.the-type State-T.Laws.the-laws State-T.Laws.the-plain) rec-at rec₀ (λ open-2. assigns ! (of-opd ! (cell ! 25 refl)) (from ! (hop ! (look ! 20 refl) (stop !))) (store-raw ! 0 refl (LL.lawful State-T.the-type State-L.the-laws 𝓤 H A W .typed (z-leaf .0) _ (s-leaf .0) .0)) $ shuts-ref ! tt (of-struct State-T.the-type State-T.Laws.the-laws State-T.Laws.the-plain) rec-at rec₀ (z-leaf .0) (s-leaf .0) $
       move ! (3 ∷ 4 ∷ []) $ let req-numbers-after : (i₀ < nodes tape₀) × (Run source₀ tape₀ next₀ to₀) = (req .inside, req .leafy (sym (s-is-number .1) ∙ (is-true (z-is-number .0) h-is-number)) .rest) in calls-into W 𝓣 numbers-after-C.terms ((source-at, source₀), ((tape-at, tape₀), (i₀, (next₀, (to₀, (numbers₀, tt)))))) ! ((refl, i₀-is), ((refl, next₀-is), ((refl, to₀-is), (numbers₀-is, tt)))) req-numbers-after known-numbers-after (and-then ! (cell ! 11 refl) (and-then ! (cell ! 12 refl) (and-then ! (cell ! 13 refl) (and-then ! (cell ! 14 refl) (and-then ! (cell ! 15 refl) (and-then ! (cell ! 17 refl) (no-more !))))))) 8 (λ _. refl) refl (λ z-numbers-after s-numbers-after.
       first ! $ keep ! (span 7 22 (3 ∷ 4 ∷ 0 ∷ 1 ∷ 2 ∷ 5 ∷ 6 ∷ [])) $ ends ! ρ refl tt (z-numbers-after .0) (s-numbers-after .0) (z-leaf .0, ((z-leaf .1 .0), ((z-leaf .1 .1 .0), tt))) ((s-leaf .1 .0), ((s-leaf .1 .1 .0), tt)) (was-number (sym (s-is-number .1) ∙ (is-true (z-is-number .0) h-is-number)) (record { leaf = (s-leaf .1 .1 .1); attached = (s-numbers-after .1) })) refl)))))

@@ -2,7 +2,7 @@
 use borrow.Author.Needs.{needs}
 use mathlib.Core.Path.{sym, ap, _∙_}
 use native.Mathlib.Omega.{arith}
-use Rattle.table.specs.Books.{codes, bookOf}
+use Rattle.table.specs.Books.{bookCodes, bookOf}
 use Rattle.table.specs.Inner.{triples, valueOf}
 use Rattle.table.proofs.Words.{found}
 use Rattle.table.proofs.BookId.from_code.Statement.{statement}
@@ -26,11 +26,11 @@ enum-told : tie.Need-enum-told
 enum-told c = search needs
 
 returns : tie.Need-returns
-unfolding ascii triples codes bookOf
+unfolding ascii triples bookCodes bookOf
 returns c = sym (ap valueOf (c .before .k .given .1)) ∙ c .before .before .before .code-in .ensures
 
 returns-2 : tie.Need-returns-2
-unfolding ascii triples codes bookOf
+unfolding ascii triples bookCodes bookOf
 returns-2 c = sym (ap valueOf (c .enum-told .given .1)) ∙ c .before .before .code-in .ensures
 
 pub from-code-spec : {M : Type 1} → statement M

@@ -1,11 +1,11 @@
--- `closing::tell_open` meets its contract.
+-- `closing::push_unclosed` meets its contract.
 -- Assumes nothing.
 use borrow.Author.Needs.{needs}
 use denote.Ref.{now}
 use Rattle.findings.specs.Finding.{findingOf}
-use Rattle.closing.proofs.Starts.{told-as}
-use Rattle.closing.proofs.tell_open.Statement.{statement}
-use Rattle.closing.proofs.tell_open.Tie as tie
+use Rattle.closing.proofs.Starts.{wrote-as}
+use Rattle.closing.proofs.push_unclosed.Statement.{statement}
+use Rattle.closing.proofs.push_unclosed.Tie as tie
 
 cast-about : tie.Need-cast-about
 cast-about c = search needs
@@ -23,7 +23,7 @@ returns : tie.Need-returns
 returns c =
     let w = c .before .before .push in
     let f = c .before .before .before .before .about in
-    told-as (f .ensures) (w .ensures)
+    wrote-as (f .ensures) (w .ensures)
 
-pub tell-open-spec : {M : Type 1} → statement M
-tell-open-spec = tie.close (tie.spec cast-about about-requires push-requires same-length returns)
+pub push-unclosed-spec : {M : Type 1} → statement M
+push-unclosed-spec = tie.close (tie.spec cast-about about-requires push-requires same-length returns)

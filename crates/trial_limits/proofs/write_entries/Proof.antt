@@ -1,12 +1,12 @@
--- `trial_limits::lay_entries` meets its contract.
+-- `trial_limits::write_entries` meets its contract.
 -- Assumes nothing.
 use Prim.Native.Nat.{_≤_, _-_}
 use borrow.Author.Needs.{needs}
 use lib.ListN.{length, length-set}
 use native.Mathlib.Omega.{arith}
 use mathlib.Core.Path.{_≡_}
-use Rattle.trial_limits.proofs.lay_entries.Statement.{statement}
-use Rattle.trial_limits.proofs.lay_entries.Tie as tie
+use Rattle.trial_limits.proofs.write_entries.Statement.{statement}
+use Rattle.trial_limits.proofs.write_entries.Tie as tie
 
 abbrev Inv-loop : tie.InvT-loop
 Inv-loop table₀ entry k₀ table k = (k ≤ length table) × (length table ≡ length table₀) × (length entry ≡ 40)
@@ -38,8 +38,8 @@ same-length c = search needs
 returns : tie.Need-returns Inv-loop μ-loop
 returns c = search needs
 
-pub lay-entries-spec : {M : Type 1} → statement M
-lay-entries-spec =
+pub write-entries-spec : {M : Type 1} → statement M
+write-entries-spec =
     tie.close
     (tie.spec
     Inv-loop

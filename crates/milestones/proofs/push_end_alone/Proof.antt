@@ -1,11 +1,11 @@
--- `milestones::tell_alone` meets its contract.
+-- `milestones::push_end_alone` meets its contract.
 -- Assumes nothing.
 use denote.Ref.{now}
 use Rattle.findings.specs.Finding.{findingOf}
-use Rattle.milestones.proofs.Whole.{told-alone}
+use Rattle.milestones.proofs.Whole.{wrote-end-alone}
 use borrow.Author.Needs.{needs}
-use Rattle.milestones.proofs.tell_alone.Statement.{statement}
-use Rattle.milestones.proofs.tell_alone.Tie as tie
+use Rattle.milestones.proofs.push_end_alone.Statement.{statement}
+use Rattle.milestones.proofs.push_end_alone.Tie as tie
 
 about-requires : tie.Need-about-requires
 about-requires c κs = search needs
@@ -28,10 +28,10 @@ returns c =
     let f = c .before .before .before .before .before .before .about in
     let k = c .before .before .before .before .counts in
     let w = c .before .before .before .push in
-    told-alone (now (a .tape)) (a .i) (now (a .list)) (w .last .0) (a .rec) (c .with-counts .result) (findingOf (f .result)) (k .result) (w .result) (f .ensures) (k .ensures) (w .ensures) (c .with-counts .ensures)
+    wrote-end-alone (now (a .tape)) (a .i) (now (a .list)) (w .last .0) (a .rec) (c .with-counts .result) (findingOf (f .result)) (k .result) (w .result) (f .ensures) (k .ensures) (w .ensures) (c .with-counts .ensures)
 
-pub tell-alone-spec : {M : Type 1} → statement M
-tell-alone-spec =
+pub push-end-alone-spec : {M : Type 1} → statement M
+push-end-alone-spec =
     tie.close
     (tie.spec
     about-requires

@@ -23,36 +23,36 @@ use Rattle.definition.specs.Document.{textBefore}
 use Rattle.findings.specs.Codes.{textBeforeId}
 
 -- whether a node is a Text that isn't blank
-abbrev pub solidAt : List ℕ → List ℕ → ℕ → Bool
-solidAt s t i = eqb (kindAt t i) textKind && not (blankText (nodeAt s t i .text))
+abbrev pub notBlankAt : List ℕ → List ℕ → ℕ → Bool
+notBlankAt s t i = eqb (kindAt t i) textKind && not (blankText (nodeAt s t i .text))
 
 module _ (s t : List ℕ) (i k : ℕ) (kind-is : k ≡ kindAt t i) where
-  pub solid-other : (k ≡ 5 → ⊥) → false ≡ solidAt s t i
-  solid-other n = rw (← kind-is, ne-eqb k 5 n)
+  pub not-blank-other : (k ≡ 5 → ⊥) → false ≡ notBlankAt s t i
+  not-blank-other n = rw (← kind-is, ne-eqb k 5 n)
 
-  pub solid-by : (u : List ℕ) (x : Bool) → k ≡ 5 → u ≡ cut (span t i) s → x ≡ blankText u → not x ≡ solidAt s t i
-  solid-by u x e f g = ap not g ∙ rw (← kind-is, eq-eqb k 5 e, f)
+  pub not-blank-by : (u : List ℕ) (x : Bool) → k ≡ 5 → u ≡ cut (span t i) s → x ≡ blankText u → not x ≡ notBlankAt s t i
+  not-blank-by u x e f g = ap not g ∙ rw (← kind-is, eq-eqb k 5 e, f)
 
 pub before-none : (s t : List ℕ) (to : ℕ) (l : List ℕ) (c₀ c : Counts) → to ≤ 1 → c ≡ c₀ → Wrote (textBefore (forest s t 1 to)) l c₀ l c
 unfolding textBefore
 before-none s t to l c₀ c h e = rw (forest-done s t 1 to h, e) (wrote-none l c₀)
 
-open-solid : (s t : List ℕ) (i : ℕ) → isOpen (kindAt t i) ≡ true → solidAt s t i ≡ false
-open-solid s t i h =
+open-not-text : (s t : List ℕ) (i : ℕ) → isOpen (kindAt t i) ≡ true → notBlankAt s t i ≡ false
+open-not-text s t i h =
     let e : kindAt t i ≡ markerOpenKind = eqb-true (kindAt t i) markerOpenKind h in
     rw (ne-eqb (kindAt t i) textKind (λ q. omega arith))
 
 module _ (s t : List ℕ) (to : ℕ) (run : Run s t 1 to) (more : 1 < to) where
-  before-is : textBefore (forest s t 1 to) ≡ only (solidAt s t 1) (warning (nodeAt s t 1) textBeforeId 0)
+  before-is : textBefore (forest s t 1 to) ≡ only (notBlankAt s t 1) (warning (nodeAt s t 1) textBeforeId 0)
   unfolding textBefore
   before-is = go (isOpen (kindAt t 1)) refl
     where
-      go : (v : Bool) → isOpen (kindAt t 1) ≡ v → textBefore (forest s t 1 to) ≡ only (solidAt s t 1) (warning (nodeAt s t 1) textBeforeId 0)
-      go true e = ap textBefore (forest-at-open s t 1 to run more e) ∙ ap (λ (v : Bool). only v (warning (nodeAt s t 1) textBeforeId 0)) (sym (open-solid s t 1 e))
+      go : (v : Bool) → isOpen (kindAt t 1) ≡ v → textBefore (forest s t 1 to) ≡ only (notBlankAt s t 1) (warning (nodeAt s t 1) textBeforeId 0)
+      go true e = ap textBefore (forest-at-open s t 1 to run more e) ∙ ap (λ (v : Bool). only v (warning (nodeAt s t 1) textBeforeId 0)) (sym (open-not-text s t 1 e))
       go false e = ap textBefore (forest-at-leaf s t 1 to run more e)
 
   -- the test and the finding as the code has them
-  module _ (there : Bool) (f : Finding) (is : there ≡ solidAt s t 1) (says : f ≡ about (nodeAt [] t 1) warningSeverity textBeforeId 0 0 0) (c₀ c : Counts) (same : c ≡ c₀) where
+  module _ (there : Bool) (f : Finding) (is : there ≡ notBlankAt s t 1) (says : f ≡ about (nodeAt [] t 1) warningSeverity textBeforeId 0 0 0) (c₀ c : Counts) (same : c ≡ c₀) where
     one : only there f ≡ textBefore (forest s t 1 to)
     one = rw (is, says) (sym before-is)
 

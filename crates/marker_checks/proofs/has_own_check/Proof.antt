@@ -1,9 +1,9 @@
--- `marker_checks::is_asked_for` meets its contract.
+-- `marker_checks::has_own_check` meets its contract.
 -- Assumes nothing.
 use borrow.Author.Needs.{needs}
 use Rattle.marker_checks.proofs.Flags.{either-holds, either-fails}
-use Rattle.marker_checks.proofs.is_asked_for.Statement.{statement}
-use Rattle.marker_checks.proofs.is_asked_for.Tie as tie
+use Rattle.marker_checks.proofs.has_own_check.Statement.{statement}
+use Rattle.marker_checks.proofs.has_own_check.Tie as tie
 use Rattle.text.specs.Literal.{ascii}
 
 slice-aggregate-is-either : tie.Need-slice-aggregate-is-either
@@ -52,8 +52,8 @@ returns-4 : tie.Need-returns-4
 unfolding ascii
 returns-4 c = either-fails _ _ (c .before .before .before .before .before .before .before .before .before .before .is-either .ensures) _ _ (c .before .before .before .before .before .before .before .before .before .if1 .left) (either-fails _ _ (c .before .before .before .before .before .before .is-either2 .ensures) _ _ (c .before .before .before .before .before .if2 .left) (either-fails _ _ (c .before .before .is-either3 .ensures) _ _ (c .before .if3 .left) (c .is-number-marker .ensures)))
 
-pub is-asked-for-spec : {M : Type 1} → statement M
-is-asked-for-spec =
+pub has-own-check-spec : {M : Type 1} → statement M
+has-own-check-spec =
     tie.close
     (tie.spec
     slice-aggregate-is-either

@@ -1,11 +1,11 @@
--- `trial_limits::lay_nested` meets its contract.
+-- `trial_limits::write_nested` meets its contract.
 -- Assumes nothing.
 use Prim.Native.Nat.{_≤_, _+_, _-_}
 use borrow.Author.Needs.{needs}
 use lib.ListN.{length}
 use mathlib.Core.Path.{_≡_}
-use Rattle.trial_limits.proofs.lay_nested.Statement.{statement}
-use Rattle.trial_limits.proofs.lay_nested.Tie as tie
+use Rattle.trial_limits.proofs.write_nested.Statement.{statement}
+use Rattle.trial_limits.proofs.write_nested.Tie as tie
 
 abbrev Inv-loop : tie.InvT-loop
 Inv-loop nodes₀ d i₀ nodes i = (i ≤ d + 1) × (length nodes ≡ length nodes₀)
@@ -70,8 +70,8 @@ same-length c = search needs
 returns : tie.Need-returns Inv-loop μ-loop
 returns c = search needs
 
-pub lay-nested-spec : {M : Type 1} → statement M
-lay-nested-spec =
+pub write-nested-spec : {M : Type 1} → statement M
+write-nested-spec =
     tie.close
     (tie.spec
     Inv-loop

@@ -1,11 +1,11 @@
--- `trial_limits::lay_flat` meets its contract.
+-- `trial_limits::write_flat` meets its contract.
 -- Assumes nothing.
 use Prim.Native.Nat.{_≤_, _+_, _-_}
 use borrow.Author.Needs.{needs}
 use lib.ListN.{length}
 use mathlib.Core.Path.{_≡_}
-use Rattle.trial_limits.proofs.lay_flat.Statement.{statement}
-use Rattle.trial_limits.proofs.lay_flat.Tie as tie
+use Rattle.trial_limits.proofs.write_flat.Statement.{statement}
+use Rattle.trial_limits.proofs.write_flat.Tie as tie
 
 abbrev Inv-loop : tie.InvT-loop
 Inv-loop nodes₀ n i₀ nodes i = (i ≤ n + 1) × (length nodes ≡ length nodes₀)
@@ -37,8 +37,8 @@ same-length c = search needs
 returns : tie.Need-returns Inv-loop μ-loop
 returns c = search needs
 
-pub lay-flat-spec : {M : Type 1} → statement M
-lay-flat-spec =
+pub write-flat-spec : {M : Type 1} → statement M
+write-flat-spec =
     tie.close
     (tie.spec
     Inv-loop

@@ -1,11 +1,11 @@
--- `marker_checks::lacks_attribute` meets its contract.
+-- `marker_checks::lacks_required_attributes` meets its contract.
 -- Assumes nothing.
 use borrow.Author.Needs.{needs}
 use mathlib.Core.Path.{ap}
 use mathlib.Core.Bool.{not}
 use Rattle.marker_checks.proofs.Flags.{both-holds, both-fails}
-use Rattle.marker_checks.proofs.lacks_attribute.Statement.{statement}
-use Rattle.marker_checks.proofs.lacks_attribute.Tie as tie
+use Rattle.marker_checks.proofs.lacks_required_attributes.Statement.{statement}
+use Rattle.marker_checks.proofs.lacks_required_attributes.Tie as tie
 use Rattle.text.specs.Literal.{ascii}
 
 slice-aggregate-same : tie.Need-slice-aggregate-same
@@ -25,7 +25,7 @@ returns-2 : tie.Need-returns-2
 unfolding ascii
 returns-2 c = both-fails _ _ (c .before .same .ensures) _ (c .if1 .left)
 
-pub lacks-attribute-spec : {M : Type 1} → statement M
-lacks-attribute-spec =
+pub lacks-required-attributes-spec : {M : Type 1} → statement M
+lacks-required-attributes-spec =
     tie.close
     (tie.spec slice-aggregate-same same-requires has-attribute-requires returns returns-2)
