@@ -11,12 +11,12 @@ use borrow.Author.Tests.{eq-eqb, ne-eqb}
 use Rattle.text.specs.Pick.{cut}
 use Rattle.text.specs.Words.{blankText}
 use Rattle.tape.specs.Nodes.{nodeAt, kindAt, span, chapterKind}
-use Rattle.table.specs.Bytes.{equal}
 use Rattle.table.proofs.Words.{equal-apart}
 use Rattle.cursor.specs.Names.{nameOf}
 use Rattle.attachment.specs.Attached.{numberLetter, isAlternate, isPublished, claims, isBlank, among, startsOf}
 use Rattle.attachment.specs.Inner.{claimsAt, takenAlternate, takenPublished}
 use Rattle.attachment.specs.declared.Attached.{Attached}
+use Rattle.text.specs.Bytes.{equal}
 
 pub letter-chapter : (kind : ℕ) → kind ≡ chapterKind → 0x63 ≡ numberLetter kind
 letter-chapter kind e = rw (eq-eqb kind chapterKind e)

@@ -9,9 +9,9 @@ use Rattle.text.specs.Pick.{pick}
 use Rattle.text.specs.Words.{blankText}
 use Rattle.tape.specs.Nodes.{Node, chapterKind, textKind}
 use Rattle.tape.specs.Forest.{Forest, end, leaf, node}
-use Rattle.table.specs.Bytes.{equal}
 use Rattle.cursor.specs.Names.{nameOf}
 use Rattle.attachment.specs.declared.Attached.{Attached}
+use Rattle.text.specs.Bytes.{equal}
 
 -- `c` of a Chapter, `v` of a Verse: the letter with which the names of its numbers begin
 abbrev pub numberLetter : ℕ → ℕ

@@ -6,10 +6,10 @@ ghost use Prim.Native.Nat.{_<_};
 ghost use lib.ListN.{length};
 ghost use Rattle.tape.specs.Nodes.{nodeAt};
 ghost use Rattle.tape.specs.Forest.{forest};
-ghost use Rattle.table.specs.Bytes.{equal};
 ghost use Rattle.cursor.specs.Inner.{Spanned, Run};
-ghost use Rattle.attachment.specs.Attached.{isAlternate, isPublished, isBlank, plain, attachedNumbers, startOffsets, startsOf, among};
+ghost use Rattle.attachment.specs.Attached.{numberLetter, isAlternate, isPublished, isBlank, plain, attachedNumbers, startOffsets, startsOf, among};
 ghost use Rattle.attachment.specs.Inner.{claimsAt, takenAlternate, takenPublished};
+ghost use Rattle.text.specs.Bytes.{equal};
 
 // The start offsets of the numbers that are attached to one chapter or verse, at most one of each sort.
 // How many they are, and the first and the second; fields are handed on in registers, where an enum would be copied.
@@ -20,7 +20,7 @@ pub struct Attached {
 }
 
 fn letter(kind: u8) -> u8
-    ensures { λ r. ⌜ r ≡ Rattle.attachment.specs.Attached.letter kind ⌝ }
+    ensures { λ r. ⌜ r ≡ numberLetter kind ⌝ }
 {
     if kind == tape::CHAPTER { b'c' } else { b'v' }
 }

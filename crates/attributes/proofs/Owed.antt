@@ -7,12 +7,13 @@ use Prim.Native.Nat.{ℕ, _+_}
 use lib.Dec.{eqb}
 use Rattle.findings.specs.Finding.{Finding, Kind}
 use Rattle.findings.specs.declared.Counts.{Counts}
-use Rattle.findings.specs.Written.{Wrote, Room, only}
+use Rattle.findings.specs.Written.{only}
 use Rattle.findings.proofs.Overlay.{Left, left-start, left-wrote, left-end, left-room, room-first}
 use Rattle.attributes.specs.declared.Where.{Where}
 use Rattle.attributes.specs.Attributes.{findingsAt}
 use Rattle.attributes.specs.Inner.{findingOfKind}
 use Rattle.text.specs.Pick.{pick}
+use Rattle.findings.specs.Inner.{Wrote, Room}
 
 abbrev pub at : Where → List Kind → List Finding
 at w ks = findingsAt (w .start) (w .len) (w .node) (w .owner) ks

@@ -4,15 +4,15 @@ use mathlib.Core.Path.{_≡_, refl, ap, _∙_}
 use mathlib.Core.List.{List}
 use Prim.Native.Nat.{ℕ, _-_, _≤_}
 use lib.ListN.{length, drop, drop-of-length-le}
-use Rattle.text.specs.Scans.{Ended}
+use Rattle.text.specs.Inner.{Ended}
 use Rattle.text.specs.Characters.{chars, find}
 use Rattle.text.specs.Words.{notBlank}
 use Rattle.findings.specs.declared.Counts.{Counts}
-use Rattle.findings.specs.Written.{Wrote, Room}
 use Rattle.attributes.specs.declared.Where.{Where}
 use Rattle.attributes.specs.Attributes.{between, attributeScan}
 use Rattle.attributes.proofs.Scanning.{First, scan-end, next-key, next-first}
 use Rattle.attributes.proofs.Owed.{at, Owing, owing-start, owing-as, owing-end}
+use Rattle.findings.specs.Inner.{Wrote, Room}
 
 -- At a place of the list where a key begins, or at its end: the list and the counts at the start, and now.
 pub record Going (w : Where) (s l₀ : List ℕ) (c₀ : Counts) (i : ℕ) (l : List ℕ) (c : Counts) : Type 0 where

@@ -19,10 +19,10 @@ use Rattle.cursor.specs.Steps.{pastNode}
 use Rattle.cursor.proofs.Runs.{run-next, forest-at-leaf, forest-at-open}
 use Rattle.findings.specs.Finding.{Finding}
 use Rattle.findings.specs.declared.Counts.{Counts}
-use Rattle.findings.specs.Written.{Wrote, Room}
 use Rattle.findings.proofs.Overlay.{Left, left-start, left-wrote, left-end, left-room, room-first}
 use Rattle.attributes.specs.Attributes.{emptyList, noDefault, between, attributeScan, body, hasDefault, attributeKinds, findingsAt, attributesFindings}
 use Rattle.attributes.specs.Inner.{ofNode}
+use Rattle.findings.specs.Inner.{Wrote, Room}
 
 module _ (marker text b : List ℕ) (is : b ≡ body text) where
   pub kinds-none : length b ≡ 0 → attributeKinds marker text ≡ emptyList ∷ []

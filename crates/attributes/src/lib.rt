@@ -10,17 +10,17 @@ ghost use mathlib.Core.Path.{_≡_};
 ghost use mathlib.Core.Bool.{false};
 ghost use Prim.Native.Nat.{_<_, _≤_};
 ghost use lib.ListN.{length, drop};
-ghost use Rattle.text.specs.Scans.{Ended};
+ghost use Rattle.text.specs.Inner.{Ended};
 ghost use Rattle.text.specs.Characters.{chars, find};
 ghost use Rattle.tape.specs.Nodes.{nodeAt};
 ghost use Rattle.tape.specs.Forest.{forest};
 ghost use Rattle.cursor.specs.Names.{nameOf};
 ghost use Rattle.cursor.specs.Inner.{Run, Spanned};
 ghost use Rattle.findings.specs.Finding.{findingOf, severityOf};
-ghost use Rattle.findings.specs.Written.{Wrote, Room};
 ghost use Rattle.attributes.specs.Attributes.{hasDefault, kind, attributeScan, between, afterBar, attributeKinds, findingsAt, attributesFindings};
 ghost use Rattle.attributes.specs.Inner.{leads, endsKey, escapes, closingPlace, findingOfKind, ofNode};
 ghost use Rattle.text.specs.Pick.{pick};
+ghost use Rattle.findings.specs.Inner.{Wrote, Room};
 
 // The Attribute node that is looked at, and the node that owns it.
 pub struct Where {

@@ -6,10 +6,11 @@ use mathlib.Core.Bool.{Bool}
 use mathlib.Core.List.{List, [], _∷_, append-nil}
 use Rattle.findings.specs.Finding.{Finding}
 use Rattle.findings.specs.declared.Counts.{Counts}
-use Rattle.findings.specs.Written.{Wrote, Room, only}
+use Rattle.findings.specs.Written.{only}
 use Rattle.findings.proofs.Overlay.{Left, left-start, left-wrote, left-end, left-room}
 use Rattle.definition.specs.Checks.{Check, given}
 use Rattle.definition.proofs.Givens.{given-room, given-wrote, given-end}
+use Rattle.findings.specs.Inner.{Wrote, Room}
 
 -- a finding that the code makes, and what it says
 pub only-room : (c : Counts) (there : Bool) (f g : Finding) → f ≡ g → Room c (only there g) → Room c (only there f)

@@ -14,7 +14,6 @@ use Rattle.tape.specs.Nodes.{nodeAt, kindAt, linkAt, span, chapterKind, verseKi
 use Rattle.table.specs.Entries.{Entry}
 use Rattle.cursor.specs.Info.{infoAt}
 use Rattle.findings.specs.declared.Counts.{Counts}
-use Rattle.findings.specs.Written.{Wrote, Room}
 use Rattle.findings.proofs.Overlay.{wrote-none}
 use Rattle.numbers.specs.Label.{labelOf, numbered}
 use Rattle.numbers.specs.Verse.{Position, positionOf, versePart}
@@ -23,12 +22,13 @@ use Rattle.numbers.specs.declared.Suffix.the-variants as suffix
 use Rattle.definition.specs.State.{WalkState, firstVerse}
 use Rattle.definition.specs.State as state
 use Rattle.definition.specs.Checks.{given, chapterChecks, verseChecks, afterChapter, afterVerse, expectedAfter, leafChecked}
-use Rattle.state.specs.Running.{stateOf, countsOf, withCounts, VerseBounded}
+use Rattle.state.specs.Inner.{stateOf, countsOf, withCounts, VerseBounded}
 use Rattle.state.specs.declared.State.{State}
 use Rattle.chapter_verse.specs.Inner.{PassedChapter, PassedVerse}
-use Rattle.chapter_verse.specs.Leaves.{LeafVisited}
+use Rattle.chapter_verse.specs.InnerVisit.{LeafVisited}
 use Rattle.chapter_verse.proofs.Seen.{latest-push}
 use Rattle.text.proofs.Bool.{or-parts}
+use Rattle.findings.specs.Inner.{Wrote, Room}
 
 -- the record as the code makes it of the chapter's number
 abbrev pub chapterRecord : ℕ → State → State

@@ -11,7 +11,7 @@ use lib.ListN.{length, getD, set}
 use lib.Seq.{getD-set-same, getD-set-other}
 use borrow.Author.Tests.{eq-eqb, ne-eqb}
 use Rattle.attachment.specs.Attached.{among}
-use Rattle.state.specs.Running.{latest}
+use Rattle.state.specs.Inner.{latest}
 
 module _ (words : List ℕ) (n : ℕ) where
   last : (i : ℕ) → 0 < i → latest words i ≡ getD words (i - 1) 0 ∷ latest words (i - 1)

@@ -13,7 +13,7 @@ use Rattle.numbers.specs.declared.PartRead.the-variants as read
 use Rattle.definition.specs.State as state
 use Rattle.definition.specs.Checks.{afterChapter, afterVerse}
 use Rattle.definition.specs.declared.OpenStart.{OpenStart}
-use Rattle.state.specs.Running.{stateOf, VerseBounded}
+use Rattle.state.specs.Inner.{stateOf, VerseBounded}
 use Rattle.state.specs.declared.State.{State}
 
 -- a number that a verse position can have, if one is read

@@ -23,17 +23,19 @@ ghost use Prim.Native.Nat.{_+_, _<_, _≤_};
 ghost use lib.Dec.{eqb, ltb};
 ghost use lib.ListN.{length, getD};
 ghost use Rattle.tape.specs.Nodes.{count, nodeAt};
-ghost use Rattle.table.specs.Entries.{Indexed, infoOf};
+ghost use Rattle.table.specs.Entries.{infoOf};
 ghost use Rattle.cursor.specs.Inner.{Spanned};
-ghost use Rattle.findings.specs.Written.{Room, Wrote, only};
+ghost use Rattle.findings.specs.Written.{only};
 ghost use Rattle.numbers.specs.Label.{labelOf};
 ghost use Rattle.numbers.specs.Verse.{positionOf, readOf, suffixOf, versePart, verseEnd};
 ghost use Rattle.attachment.specs.Attached.{among};
 ghost use Rattle.definition.specs.Checks;
 ghost use Rattle.definition.specs.Checks.{about, error, given, numberForm, chapterChecks, verseChecks, letterByte, expectedAfter, leafChecked};
-ghost use Rattle.state.specs.Running.{latest, stateOf, contextOf, countsOf, VerseBounded};
+ghost use Rattle.state.specs.Inner.{latest, stateOf, contextOf, countsOf, VerseBounded};
 ghost use Rattle.chapter_verse.specs.Inner.{LowRead, LabelRead, PassedChapter, PassedVerse};
-ghost use Rattle.chapter_verse.specs.Leaves.{LeafVisited};
+ghost use Rattle.chapter_verse.specs.InnerVisit.{LeafVisited};
+ghost use Rattle.table.specs.Inner.{Indexed};
+ghost use Rattle.findings.specs.Inner.{Room, Wrote};
 
 // Whether a number is among the first k words, a word at a time.
 fn is_among_few(seen: &[u32], k: usize, num: u32) -> bool

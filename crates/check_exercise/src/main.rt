@@ -9,8 +9,7 @@ ghost use mathlib.Core.Path.{_≡_};
 ghost use Prim.Native.Nat.{_*_, _≤_};
 ghost use lib.ListN.{length};
 ghost use Rattle.tape.specs.Forest.{Accepted};
-ghost use Rattle.table.specs.Entries.{Indexed};
-
+ghost use Rattle.table.specs.Inner.{Indexed};
 // One byte more than a file may have.
 fn room() -> [u8; 65537]
     ensures { λ r. ⌜ 65537 ≡ length r ⌝ }

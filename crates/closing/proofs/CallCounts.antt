@@ -2,7 +2,7 @@
 -- The contract of `state::counts`, for its own walk and for the walks that call it: its symbol and its result; what is passed; what is asked of that; what is said of it, of the result r and of the last values z. `known` shows that it is the contract.
 use Rattle.reference_laws.proofs.Call.{Terms, stated-as, val, of-struct, [], _∷_, Known, bound-at, rule-of, cited}
 use mathlib.Core.Path.{_≡_}
-use Rattle.state.specs.Running.{countsOf}
+use Rattle.state.specs.Inner.{countsOf}
 use Rattle.findings.proofs.Counts as Counts-T
 use Rattle.state.proofs.State as State-T
 use Rattle.state.proofs.counts as counts-F

@@ -2,14 +2,14 @@
 -- The contract of `closing::unclosed`, for its own walk and for the walks that call it: its symbol and its result; what is passed; what is asked of that; what is said of it, of the result r and of the last values z. `known` shows that it is the contract.
 use Rattle.reference_laws.proofs.Call.{Terms, stated-as, val, shr, mut, of-struct, u8, u64, [], _∷_, Known, bound-at, rule-of, cited}
 use mathlib.Core.Path.{_≡_}
-use Rattle.findings.specs.Written.{Wrote}
-use Rattle.state.specs.Running.{countsOf, openNodes}
-use Rattle.closing.specs.Ends.{Left}
+use Rattle.state.specs.Inner.{countsOf, openNodes}
+use Rattle.closing.specs.Inner.{Left}
 use Rattle.definition.specs.Document as Document
 use Rattle.findings.proofs.Counts as Counts-T
 use Rattle.definition.proofs.OpenStart as OpenStart-T
 use Rattle.state.proofs.State as State-T
 use Rattle.closing.proofs.unclosed as unclosed-F
+use Rattle.findings.specs.Inner.{Wrote}
 
 abbrev pub terms : Terms
 terms = stated-as unclosed-F.Symbol.name (of-struct Counts-T.the-type Counts-T.Laws.the-laws Counts-T.Laws.the-plain)

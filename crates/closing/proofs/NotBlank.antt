@@ -16,11 +16,12 @@ use Rattle.cursor.specs.Inner.{Run}
 use Rattle.cursor.proofs.Runs.{forest-at-leaf, forest-at-open}
 use Rattle.findings.specs.Finding.{Finding, warningSeverity}
 use Rattle.findings.specs.declared.Counts.{Counts}
-use Rattle.findings.specs.Written.{Wrote, Room, only}
+use Rattle.findings.specs.Written.{only}
 use Rattle.findings.proofs.Overlay.{wrote-none}
 use Rattle.definition.specs.Checks.{about, warning}
 use Rattle.definition.specs.Document.{textBefore}
 use Rattle.findings.specs.Codes.{textBeforeId}
+use Rattle.findings.specs.Inner.{Wrote, Room}
 
 -- whether a node is a Text that isn't blank
 abbrev pub notBlankAt : List ℕ → List ℕ → ℕ → Bool

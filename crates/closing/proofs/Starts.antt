@@ -9,17 +9,18 @@ use lib.ListN.{length, getD}
 use Rattle.tape.specs.Nodes.{nodeAt, count}
 use Rattle.findings.specs.Finding.{Finding}
 use Rattle.findings.specs.declared.Counts.{Counts}
-use Rattle.findings.specs.Written.{Wrote, Room, total}
+use Rattle.findings.specs.Written.{total}
 use Rattle.findings.proofs.Overlay.{wrote-none, wrote-append, counted-total}
-use Rattle.state.specs.Running.{openNodes, Opens}
+use Rattle.state.specs.Inner.{openNodes, Opens}
 use Rattle.definition.specs.Checks.{error}
 use Rattle.definition.specs.Document.{unclosed}
 use Rattle.definition.specs.Outcome.{noStart}
 use Rattle.definition.specs.declared.OpenStart.{OpenStart}
 use Rattle.definition.proofs.Few.{unclosed-length}
 use Rattle.state.proofs.Opened.{starts-length}
-use Rattle.closing.specs.Ends.{ofOpen, UnclosedReady}
+use Rattle.closing.specs.Inner.{ofOpen, UnclosedReady}
 use Rattle.findings.specs.Codes.{milestoneMismatch, unclosedStart}
+use Rattle.findings.specs.Inner.{Wrote, Room}
 
 left-length : (s t : List ℕ) (opens : List OpenStart) (k : ℕ) → length (unclosed (openNodes s t opens k)) ≡ k
 left-length s t opens k = unclosed-length (openNodes s t opens k) ∙ starts-length s t opens k

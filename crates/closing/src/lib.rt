@@ -18,13 +18,13 @@ ghost use Rattle.tape.specs.Nodes.{nodeAt, kindAt, textKind};
 ghost use Rattle.tape.specs.Forest.{forest};
 ghost use Rattle.cursor.specs.Inner.{Run, Spanned};
 ghost use Rattle.findings.specs.Finding.{findingOf};
-ghost use Rattle.findings.specs.Written.{Wrote, Room};
 ghost use Rattle.definition.specs.Checks.{given};
 ghost use Rattle.definition.specs.Document.{textBefore, ofDocument};
 ghost use Rattle.definition.specs.Document;
 ghost use Rattle.definition.specs.Outcome.{noStart, cleared};
-ghost use Rattle.state.specs.Running.{countsOf, openNodes};
-ghost use Rattle.closing.specs.Ends.{missingChecks, Left, ofOpen, UnclosedReady};
+ghost use Rattle.state.specs.Inner.{countsOf, openNodes};
+ghost use Rattle.closing.specs.Inner.{missingChecks, Left, ofOpen, UnclosedReady};
+ghost use Rattle.findings.specs.Inner.{Wrote, Room};
 
 // A finding of no node.
 fn of_document(code: u64) -> Finding

@@ -11,10 +11,11 @@ ghost use Rattle.tape.specs.Nodes.{count, startAt, lenAt, kindAt, linkAt};
 ghost use Rattle.tape.specs.Nodes as nodes;
 ghost use Rattle.cursor.specs.Names.{pastOne, endsName, namePart, nameOf};
 ghost use Rattle.cursor.specs.Steps.{firstChild, nextSibling, numberAt, holdsNodes, nodePlace, numberRead};
-ghost use Rattle.table.specs.Entries.{Indexed, infoOf};
+ghost use Rattle.table.specs.Entries.{infoOf};
 ghost use Rattle.cursor.specs.Info.{hasMarker, infoAt};
 ghost use Rattle.cursor.specs.Inner.{Spanned, Reached, PlainByte, Named};
-ghost use Rattle.text.specs.Scans.{Ended};
+ghost use Rattle.text.specs.Inner.{Ended};
+ghost use Rattle.table.specs.Inner.{Indexed};
 
 // Where a node's text stands in the source.
 pub struct NodeSpan {

@@ -11,7 +11,6 @@ use lib.Dec.{eqb, ltb}
 use lib.ListN.{length, getD}
 use Rattle.text.specs.Pick.{cut, pick}
 use Rattle.text.specs.Words.{blankText}
-use Rattle.table.specs.Bytes.{equal, oneOf}
 use Rattle.attachment.specs.Attached.{among}
 use Rattle.text.specs.Blank.{blank}
 use Rattle.text.specs.Characters.{chars}
@@ -27,7 +26,7 @@ use Rattle.cursor.specs.Names.{nameOf}
 use Rattle.findings.specs.Finding.{Finding, Kind}
 use Rattle.findings.specs.Written.{only, room}
 use Rattle.attributes.specs.Attributes.{emptyList, noDefault, Mode, between, key, value, opened, quoted, escaping, unquoted, inQuotes, ScanStep, go, tell, stop, scanStep, endOfText, scanOn, attributeScan, body, hasDefault, holdsEquals, attributeKinds, findingsAt, attributeFindings, attributesFindings}
-use Rattle.rows.specs.Cells.{Columns}
+use Rattle.rows.specs.Cells.{ColumnRange}
 use Rattle.rows.specs.Row.{cellIn, outOfOrder, byColumns, rowFrom, rowFindings}
 use Rattle.numbers.specs.Verse.{Position, versePart, inSequence}
 use Rattle.numbers.specs.Label.{isGlued, labelOf}
@@ -39,6 +38,7 @@ use Rattle.definition.specs.Document.{textBefore, ofDocument, unclosed, 
 use Rattle.definition.specs.Outcome.{Lent, refusal, addIf, ofSeverity, smaller, listOf, writtenOf, checkedOf}
 use Rattle.definition.proofs.Demand3.{checked-accepted}
 use Rattle.findings.specs.Codes.{codeCount, milestoneMismatch, unclosedStart, textBeforeId}
+use Rattle.text.specs.Bytes.{equal, oneOf}
 
 -- "severity (0 error, 1 warning, 2 info)"; of the codes "the last is 34"
 abbrev pub Listed : ℕ → ℕ → Type 0
@@ -69,7 +69,7 @@ graded-then b f fs h p = graded-append (only b f) fs (graded-only b f h) p
 graded-snoc : (fs : List Finding) (b : Bool) (f : Finding) → Graded fs → Listed (f .severity) (f .code) → Graded (fs ++ only b f)
 graded-snoc fs b f p h = graded-append fs (only b f) p (graded-only b f h)
 
-cell-graded : (q : Option Columns) (x : Node) (e : ℕ) (later : ℕ → List Finding) → ((n : ℕ) → Graded (later n)) → Graded (byColumns q x e later)
+cell-graded : (q : Option ColumnRange) (x : Node) (e : ℕ) (later : ℕ → List Finding) → ((n : ℕ) → Graded (later n)) → Graded (byColumns q x e later)
 cell-graded none x e later h = h e
 cell-graded (some c) x e later h = graded-then (not (eqb (c .start) e)) (outOfOrder x e (c .start)) (later (c .end + 1)) (omega arith) (h (c .end + 1))
 

@@ -14,7 +14,6 @@ use Rattle.text.specs.Words.{blankText}
 use Rattle.tape.specs.Nodes.{Node, chapterKind, verseKind, textKind}
 use Rattle.tape.specs.Forest.{Forest, end, leaf, node}
 use Rattle.tape.proofs.Sizes.{amount, breadth, weight, breadth-le, nodesIn}
-use Rattle.table.specs.Bytes.{equal}
 use Rattle.table.specs.Entries.{Entry}
 use Rattle.cursor.specs.Names.{nameOf}
 use Rattle.findings.specs.Finding.{Finding}
@@ -29,6 +28,7 @@ use Rattle.definition.specs.Milestones.{milestoneChecks}
 use Rattle.definition.specs.Walk.{Walked, leafAnchor, openChecked, inside, afterNode, thenWalk, byEntry, walk}
 use Rattle.definition.specs.Document.{textBefore, ofDocument, unclosed, closing, walked, running, findings}
 use Rattle.findings.specs.Codes.{textBeforeId, missingIdMarker, missingChapterMarker}
+use Rattle.text.specs.Bytes.{equal}
 
 pub given-few : (cs : List Check) → length (given cs) ≤ length cs
 unfolding given

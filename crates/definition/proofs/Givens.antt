@@ -6,9 +6,10 @@ use mathlib.Core.Bool.{Bool, true, false}
 use mathlib.Core.List.{List, [], _∷_, _++_, append-assoc}
 use Rattle.findings.specs.Finding.{Finding}
 use Rattle.findings.specs.declared.Counts.{Counts}
-use Rattle.findings.specs.Written.{only, Wrote, Room}
+use Rattle.findings.specs.Written.{only}
 use Rattle.findings.proofs.Overlay.{Left, left-wrote, left-room, left-end, room-first, wrote-none}
 use Rattle.definition.specs.Checks.{Check, given}
+use Rattle.findings.specs.Inner.{Wrote, Room}
 
 pub given-append : (ks js : List Check) → given (ks ++ js) ≡ given ks ++ given js
 unfolding given

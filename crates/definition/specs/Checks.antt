@@ -1,15 +1,14 @@
 -- The checks of one node, in the Rust's order: "Checks and findings stand in the Rust's order."
-use Prim.Native.Nat.{ℕ, _+_, _-_}
+use Prim.Native.Nat.{ℕ, _+_}
 use mathlib.Core.Bool.{Bool, true, false, not, _&&_, _||_}
 use mathlib.Core.List.{List, [], _∷_, _++_}
 use mathlib.Core.Option.{Option, some, none}
 use lib.Dec.{eqb, ltb}
-use lib.ListN.{length, getD, take, drop}
-use Rattle.text.specs.Pick.{within, cut, pick, known}
+use lib.ListN.{length, getD}
+use Rattle.text.specs.Pick.{cut, pick, known}
 use Rattle.text.specs.Words.{firstWord, blankText}
 use Rattle.tape.specs.Nodes.{Node, chapterKind, verseKind, textKind, attributeKind}
 use Rattle.tape.specs.Forest.{Forest, end, leaf, node, followed}
-use Rattle.table.specs.Bytes.{equal, oneOf}
 use Rattle.table.specs.Entries.{Entry, entries, nth, paragraphCategory, characterCategory, boundaryRole}
 use Rattle.table.specs.Names.{frontMatter, noteOnly}
 use Rattle.table.specs.Books.{bookOf}
@@ -23,6 +22,7 @@ use Rattle.attachment.specs.Attached.{among, isAttached}
 use Rattle.definition.specs.State.{WalkState, firstVerse, WalkContext, Anchor, NodeChecked}
 use Rattle.findings.specs.Codes.{missingSpaceBeforeNumber, leadingZeros, missingChapterNumber, verseOutsideParagraph, charCrossesVerseBoundary, missingVerseNumber, duplicateId, invalidBookCode, noteSubmarkerOutsideNote, nonEmptyBlankLine, bodyParagraphBeforeChapter, misplacedNumberMarker, emptyFigure, emptyWordMarker, missingRequiredAttribute, duplicateChapter, invalidChapterSequence, invalidVerseSequence, chapterForm, verseForm, shouldBeUppercase, notValid}
 use Rattle.text.specs.Literal.{ascii}
+use Rattle.text.specs.Bytes.{equal, oneOf}
 
 -- a finding with the span of a node: severity, code, form, two numbers
 abbrev pub about : Node → ℕ → ℕ → ℕ → ℕ → ℕ → Finding
@@ -152,10 +152,6 @@ bookCode (node x c r) = bookCode r
 
 abbrev pub isBook : List ℕ → Bool
 isBook code = known (bookOf code)
-
-unfoldable pub upper : List ℕ → List ℕ
-upper [] = []
-upper (b ∷ s) = pick (within 0x61 0x7A b) (b - 32) b ∷ upper s
 
 -- `id`: DuplicateId, InvalidBookCode ("0 should be uppercase, 1 not valid")
 abbrev pub idChecks : Bool → WalkState → List ℕ → Node → List Check

@@ -8,12 +8,12 @@ use lib.ListN.{length, getD, take, drop}
 use Rattle.text.specs.Pick.{pick}
 use Rattle.tape.specs.Nodes.{Node}
 use Rattle.tape.specs.Forest.{Forest, end, leaf, node}
-use Rattle.table.specs.Bytes.{equal}
 use Rattle.table.specs.Entries.{Entry, milestoneCategory}
 use Rattle.cursor.specs.Names.{nameOf}
 use Rattle.definition.specs.State.{WalkState}
 use Rattle.definition.specs.Checks.{error, entryOf, Check, when}
 use Rattle.findings.specs.Codes.{milestoneMismatch, endAlone}
+use Rattle.text.specs.Bytes.{equal}
 
 -- the name ends in a hyphen and the letter
 abbrev pub endsIn : ℕ → List ℕ → Bool

@@ -7,7 +7,6 @@ use lib.Dec.{eqb}
 use Rattle.text.specs.Pick.{cut, pick}
 use Rattle.tape.specs.Nodes.{Node}
 use Rattle.tape.specs.Forest.{Forest, end, leaf, node}
-use Rattle.table.specs.Bytes.{equal}
 use Rattle.table.specs.Entries.{Entry, noteCategory, characterCategory}
 use Rattle.cursor.specs.Names.{nameOf}
 use Rattle.findings.specs.Finding.{Finding}
@@ -17,6 +16,7 @@ use Rattle.numbers.specs.Label.{numbered}
 use Rattle.definition.specs.State.{WalkState, WalkContext, Anchor, past, NodeChecked}
 use Rattle.definition.specs.Checks.{given, entryOf, leafChecked, idName, trName, bookCode, idChecks, afterId, isBody, placeChecks, contentChecks}
 use Rattle.definition.specs.Milestones.{milestoneChecks, afterMilestone}
+use Rattle.text.specs.Bytes.{equal}
 
 -- the findings of a run, its last anchor, and the record after it
 pub record Walked : Type 0 where

@@ -13,8 +13,9 @@ use lib.Seq.{sets, sets-eq, take-at, drop-append-add, drop-drop, length-take-le}
 use borrow.Author.Tests.{lt-ltb, le-ltb}
 use Rattle.findings.specs.Finding.{Finding, wordsOf}
 use Rattle.findings.specs.declared.Counts.{Counts}
-use Rattle.findings.specs.Written.{total, bySeverity, counted, room, put, overlay, encode, only, Wrote, countLimit, Room}
+use Rattle.findings.specs.Written.{total, room, put, overlay, encode, only}
 use Rattle.text.specs.Pick.{pick}
+use Rattle.findings.specs.Inner.{bySeverity, counted, Wrote, countLimit, Room}
 
 pub put-in : (l : List ℕ) (k : ℕ) (f : Finding) → k < room l → put l k f ≡ sets l (8 * k) (wordsOf f)
 unfolding put

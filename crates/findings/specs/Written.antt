@@ -1,6 +1,5 @@
 -- Document 01, "A finding": "Written is the smaller of total and the list's length divided by 8, rounded down; words beyond are untouched".
-use Prim.Native.Nat.{ℕ, zero, suc, _+_, _*_, _/_, _<_, _≤_}
-use mathlib.Core.Path.{_≡_}
+use Prim.Native.Nat.{ℕ, _+_, _*_, _/_}
 use mathlib.Core.Bool.{Bool, true, false}
 use mathlib.Core.List.{List, [], _∷_, _++_}
 use lib.Dec.{ltb}
@@ -12,16 +11,6 @@ use Rattle.text.specs.Pick.{pick}
 
 abbrev pub total : Counts → ℕ
 total c = c .errors + c .warnings + c .infos
-
--- one more of the severity
-abbrev pub bySeverity : ℕ → Counts → Counts
-bySeverity zero c = record { errors = c .errors + 1; warnings = c .warnings; infos = c .infos }
-bySeverity (suc zero) c = record { errors = c .errors; warnings = c .warnings + 1; infos = c .infos }
-bySeverity (suc (suc n)) c = record { errors = c .errors; warnings = c .warnings; infos = c .infos + 1 }
-
-unfoldable pub counted : Counts → List Finding → Counts
-counted c [] = c
-counted c (f ∷ fs) = counted (bySeverity (f .severity) c) fs
 
 -- how many whole records of eight words a list has
 abbrev pub wholeRecords : List ℕ → ℕ
@@ -49,15 +38,3 @@ encode (f ∷ fs) = wordsOf f ++ encode fs
 abbrev pub only : Bool → Finding → List Finding
 only true f = f ∷ []
 only false f = []
-
--- the findings were written behind those that the counts count, and counted: the list and the counts before, and after
-pub record Wrote (fs : List Finding) (l : List ℕ) (c : Counts) (l′ : List ℕ) (c′ : Counts) : Type 0 where
-  pub words : l′ ≡ overlay l (total c) fs
-  pub counts : c′ ≡ counted c fs
-
--- no count of them leaves 64 bits
-abbrev pub countLimit : ℕ
-countLimit = 4611686018427387904
-
-abbrev pub Room : Counts → List Finding → Type 0
-Room c fs = total c + length fs ≤ countLimit

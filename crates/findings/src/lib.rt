@@ -2,7 +2,8 @@
 ghost use Prim.Native.Nat.{_<_};
 ghost use mathlib.Core.List.{[], _∷_};
 ghost use Rattle.findings.specs.Finding.{findingOf, severityOf};
-ghost use Rattle.findings.specs.Written.{Wrote, Room, only, total, countLimit, bySeverity};
+ghost use Rattle.findings.specs.Written.{only, total};
+ghost use Rattle.findings.specs.Inner.{Wrote, Room, countLimit, bySeverity};
 ghost use mathlib.Core.Path.{_≡_};
 
 // In the Rust's order, with its names.

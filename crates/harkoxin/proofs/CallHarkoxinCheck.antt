@@ -3,11 +3,11 @@
 use Rattle.reference_laws.proofs.Call.{Terms, stated-as, shr, mut, of-nothing, u8, u32, u64, [], _∷_, Known, bound-at, rule-of, cited}
 use mathlib.Core.Path.{_≡_}
 use Rattle.definition.specs.Outcome.{answer, listAfter, seenAfter, openAfter}
-use Rattle.validate.specs.Entry.{lent}
 use Rattle.buffer.specs.Over.{over}
 use Rattle.harkoxin.specs.Words.{answerWords}
 use Rattle.definition.proofs.OpenStart as OpenStart-T
 use Rattle.harkoxin.proofs.harkoxin_check as harkoxin-check-F
+use Rattle.validate.specs.Inner.{lent}
 
 abbrev pub terms : Terms
 terms = stated-as harkoxin-check-F.Symbol.name of-nothing

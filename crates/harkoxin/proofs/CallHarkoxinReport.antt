@@ -4,13 +4,13 @@ use Rattle.reference_laws.proofs.Call.{Terms, stated-as, shr, same, mut, of-not
 use mathlib.Core.Path.{_≡_}
 use mathlib.Core.List.{_++_}
 use Rattle.definition.specs.Outcome.{answer, listAfter, seenAfter, openAfter}
-use Rattle.validate.specs.Entry.{lent}
 use lib.ListN.{length}
 use Rattle.buffer.specs.Over.{over}
 use Rattle.harkoxin.specs.Words.{answerWords, messagesWords}
 use Rattle.harkoxin.specs.Report.{reportAnswer, reportText, reportEnds}
 use Rattle.definition.proofs.OpenStart as OpenStart-T
 use Rattle.harkoxin.proofs.harkoxin_report as harkoxin-report-F
+use Rattle.validate.specs.Inner.{lent}
 
 abbrev pub terms : Terms
 terms = stated-as harkoxin-report-F.Symbol.name of-nothing

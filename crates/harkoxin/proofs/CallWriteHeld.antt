@@ -7,13 +7,13 @@ use Prim.Native.Nat.{_*_, _≤_}
 use Rattle.validate.specs.Entry.{answerOf}
 use lib.ListN.{length}
 use Rattle.tape.specs.Forest.{Accepted}
-use Rattle.table.specs.Entries.{Indexed}
 use Rattle.buffer.specs.Over.{over}
 use Rattle.messages.specs.Messages.{textsOf, joined, endsFrom}
 use Rattle.harkoxin.specs.Words.{answerWords, messagesWords}
 use Rattle.harkoxin.specs.Report.{heldOf, heldIn, heldAnswer}
 use Rattle.validate.proofs.Answer as Answer-T
 use Rattle.harkoxin.proofs.write_held as write-held-F
+use Rattle.table.specs.Inner.{Indexed}
 
 abbrev pub terms : Terms
 terms = stated-as write-held-F.Symbol.name of-nothing

@@ -12,12 +12,10 @@ use lib.ListN.{length}
 use borrow.Author.Tests.{ltb-true}
 use Rattle.refusals.specs.Refusal.{refuse}
 use Rattle.tape.specs.Forest.{Accepted}
-use Rattle.table.specs.Entries.{Indexed}
 use Rattle.buffer.specs.Over.{over}
 use Rattle.buffer.proofs.Over.{over-over}
 use Rattle.definition.specs.Outcome.{Lent, Answer, refused, checked, refusal, answer, listAfter, listOf, checkedOf}
 use Rattle.definition.specs.declared.OpenStart.{OpenStart}
-use Rattle.validate.specs.Entry.{checkRefusal, fromTable, lent}
 use Rattle.validate.specs.declared.InputCheck.{InputCheck}
 use Rattle.validate.specs.declared.InputCheck.the-variants as input
 use Rattle.validate.proofs.Whole.{refusal-is}
@@ -27,6 +25,8 @@ use Rattle.messages.specs.Messages.{textsOf, joined, endsFrom}
 use Rattle.harkoxin.specs.Words.{answerWords, messagesWords}
 use Rattle.harkoxin.specs.Report.{heldOf, heldIn, heldAnswer, turnedWords, reportAnswer, reportText, reportEnds}
 use Rattle.text.specs.Pick.{pick}
+use Rattle.table.specs.Inner.{Indexed}
+use Rattle.validate.specs.Inner.{checkRefusal, fromTable, lent}
 
 pub nine-words : (a : Answer) → length (answerWords a) ≡ 9
 nine-words (refused r) = refl

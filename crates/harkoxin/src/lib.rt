@@ -11,10 +11,9 @@ ghost use mathlib.Core.Path.{_≡_};
 ghost use mathlib.Core.List.{_++_};
 ghost use Prim.Native.Nat.{_*_, _≤_};
 ghost use Rattle.definition.specs.Outcome.{answer, listAfter, seenAfter, openAfter};
-ghost use Rattle.validate.specs.Entry.{answerOf, lent};
+ghost use Rattle.validate.specs.Entry.{answerOf};
 ghost use lib.ListN.{length};
 ghost use Rattle.tape.specs.Forest.{Accepted};
-ghost use Rattle.table.specs.Entries.{Indexed};
 ghost use Rattle.buffer.specs.Over.{over};
 ghost use Rattle.messages.specs.Answer.{messageAnswer, messageAfter};
 ghost use Rattle.messages.specs.Inner as message;
@@ -23,6 +22,8 @@ ghost use Rattle.tally.specs.Tally.{tallyRefusal, countsAfter};
 ghost use Rattle.messages.specs.Messages.{textsOf, joined, endsFrom, messagesAnswer, messagesAnswerOf, messagesAfter, endsAfter};
 ghost use Rattle.harkoxin.specs.Words.{answerWords, reportWords, refusalWords, messageWords, messagesWords, tallyWords};
 ghost use Rattle.harkoxin.specs.Report.{heldOf, heldIn, heldAnswer, turnedWords, reportAnswer, reportText, reportEnds};
+ghost use Rattle.validate.specs.Inner.{lent};
+ghost use Rattle.table.specs.Inner.{Indexed};
 
 // Writes words over a lent list from a place on, as far as there is room.
 fn write_words(words: &[u64], at: usize, out: &mut [u64])

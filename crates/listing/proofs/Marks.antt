@@ -11,7 +11,7 @@ use borrow.Author.Tests.{eq-eqb, ne-eqb}
 use Rattle.buffer.specs.Over.{over}
 use Rattle.buffer.proofs.Over.{over-none, over-set}
 use Rattle.listing.specs.Lines.{Place, afterByte, placeFrom, lineAndColumn}
-use Rattle.listing.specs.Marks.{eachFrom, linesFrom, columnsFrom}
+use Rattle.listing.specs.LinesAndColumns.{eachFrom, linesFrom, columnsFrom}
 
 -- one byte further
 place-on : (p : Place) (s : List ℕ) (i : ℕ) → i < length s → placeFrom p s (suc i) ≡ afterByte (getD s i 0) (placeFrom p s i)

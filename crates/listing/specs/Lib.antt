@@ -1,3 +1,3 @@
 pub mod Lines
-pub mod Marks
+pub mod LinesAndColumns
 pub mod Inner

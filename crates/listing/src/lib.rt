@@ -6,7 +6,7 @@ ghost use Rattle.buffer.specs.Over.{Put, over};
 ghost use Rattle.buffer.specs.Decimal.{decimal};
 ghost use Rattle.table.specs.Inner.{linesOf};
 ghost use Rattle.listing.specs.Lines.{tooLargeLines, refusedLines, checkedLines, findingLines, nameAt};
-ghost use Rattle.listing.specs.Marks.{linesFrom, columnsFrom};
+ghost use Rattle.listing.specs.LinesAndColumns.{linesFrom, columnsFrom};
 ghost use Rattle.listing.specs.Inner.{lineOf, farthest, Near};
 use buffer::put;
 use buffer::put_decimal;

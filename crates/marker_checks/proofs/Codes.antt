@@ -10,13 +10,13 @@ use lib.Dec.{eqb}
 use lib.ListN.{length, getD}
 use borrow.Author.Tests.{ne-eqb}
 use Rattle.text.specs.Pick.{within, pick}
-use Rattle.table.specs.Bytes.{oneOf}
 use Rattle.table.specs.Books.{bookCodes, bookOf}
 use Rattle.table.specs.Inner as table
 use Rattle.table.proofs.Words.{one-of, every, one-passes}
-use Rattle.definition.specs.Checks.{isBook, upper}
+use Rattle.definition.specs.Checks.{isBook}
 use Rattle.text.specs.Pick.{known}
 use Rattle.text.specs.Literal.{ascii}
+use Rattle.text.specs.Bytes.{oneOf, upper}
 
 same-known : (o : Option ℕ) → known o ≡ table.known o
 same-known none = refl

@@ -11,18 +11,18 @@ use lib.ListN.{length}
 use Rattle.text.specs.Pick.{pick}
 use Rattle.tape.specs.Nodes.{Node}
 use Rattle.tape.specs.Forest.{Forest}
-use Rattle.table.specs.Bytes.{equal, oneOf}
 use Rattle.table.specs.Names.{frontMatter}
 use Rattle.attachment.specs.Attached.{among}
 use Rattle.findings.specs.declared.Counts.{Counts}
-use Rattle.findings.specs.Written.{Wrote}
 use Rattle.findings.proofs.Overlay.{wrote-none}
 use Rattle.definition.specs.State.{WalkState, Anchor}
 use Rattle.definition.specs.Checks.{given, idChecks, numberMarkers, frontBy, attachedTo}
-use Rattle.state.specs.Running.{startsFor}
+use Rattle.state.specs.Inner.{startsFor}
 use Rattle.state.specs.declared.State.{State}
 use Rattle.marker_checks.specs.Inner.{withId}
 use Rattle.text.specs.Literal.{ascii}
+use Rattle.text.specs.Bytes.{equal, oneOf}
+use Rattle.findings.specs.Inner.{Wrote}
 
 -- the code's flag a is the test x
 module _ (a x : Bool) (is : a ≡ x) where

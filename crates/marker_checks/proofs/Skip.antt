@@ -11,7 +11,6 @@ use borrow.Author.Tests.{eq-eqb, ne-eqb, eqb-true, not-true}
 use Rattle.text.specs.Pick.{cut, pick}
 use Rattle.tape.specs.Nodes.{Node, nodeAt, kindAt, isOpen, markerOpenKind, textKind, attributeKind}
 use Rattle.tape.specs.Forest.{Forest, end, leaf, node, forest}
-use Rattle.table.specs.Bytes.{equal, oneOf}
 use Rattle.table.specs.Entries.{Entry, paragraphCategory, characterCategory, milestoneCategory}
 use Rattle.cursor.specs.Inner.{Run}
 use Rattle.cursor.specs.Steps.{pastNode}
@@ -24,11 +23,12 @@ use Rattle.definition.specs.State as state
 use Rattle.table.specs.Names.{noteOnly}
 use Rattle.cursor.specs.Names.{nameOf}
 use Rattle.definition.specs.Checks.{given, afterId, isBody, numberMarkers, bName, figName, idName, rbName, trName, wName}
-use Rattle.state.specs.Running.{stateOf, countsOf}
+use Rattle.state.specs.Inner.{stateOf, countsOf}
 use Rattle.state.specs.declared.State.{State}
-use Rattle.marker_checks.specs.Own.{ownFindings, ownAt, isId, childrenAt, MarkerVisited}
-use Rattle.marker_checks.specs.Skip.{onlyTexts, hasOwnCheck, placed, canSkipMarker, canSkipMarkerAt}
+use Rattle.marker_checks.specs.InnerVisit.{ownFindings, ownAt, isId, childrenAt, MarkerVisited}
+use Rattle.marker_checks.specs.InnerSkip.{onlyTexts, hasOwnCheck, placed, canSkipMarker, canSkipMarkerAt}
 use Rattle.text.proofs.Bool.{and-left, and-right, or-parts}
+use Rattle.text.specs.Bytes.{equal, oneOf}
 
 -- a run of Texts, a node at a time
 module _ (s t : List ℕ) (i to : ℕ) (run : Run s t i to) (more : i < to) where

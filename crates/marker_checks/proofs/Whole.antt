@@ -9,22 +9,23 @@ use lib.ListN.{length, length-append}
 use Rattle.text.specs.Pick.{cut, pick}
 use Rattle.tape.specs.Nodes.{nodeAt, span, linkAt}
 use Rattle.tape.specs.Forest.{forest}
-use Rattle.table.specs.Bytes.{equal}
 use Rattle.table.specs.Entries.{Entry}
 use Rattle.cursor.specs.Names.{nameOf}
 use Rattle.findings.specs.Finding.{Finding}
 use Rattle.findings.specs.declared.Counts.{Counts}
-use Rattle.findings.specs.Written.{total, Wrote, Room}
+use Rattle.findings.specs.Written.{total}
 use Rattle.findings.proofs.Overlay.{counted-total, wrote-append, room-first}
 use Rattle.attributes.specs.Attributes.{attributesFindings}
 use Rattle.rows.specs.Row.{rowFindings}
 use Rattle.definition.specs.State.{WalkContext}
 use Rattle.definition.specs.Checks.{Check, given, idName, trName, bookCode, idChecks, afterId, placeChecks, contentChecks}
-use Rattle.state.specs.Running.{stateOf, anchorOf, countsOf, withCounts}
+use Rattle.state.specs.Inner.{stateOf, anchorOf, countsOf, withCounts}
 use Rattle.state.specs.declared.State.{State}
-use Rattle.marker_checks.specs.Own.{ownAt, childrenAt, MarkerVisited}
+use Rattle.marker_checks.specs.InnerVisit.{ownAt, childrenAt, MarkerVisited}
 use Rattle.marker_checks.specs.Inner.{withId}
 use Rattle.definition.proofs.Givens.{given-append}
+use Rattle.text.specs.Bytes.{equal}
+use Rattle.findings.specs.Inner.{Wrote, Room}
 
 -- the room of what follows
 room-after : (fs gs : List Finding) (l l′ : List ℕ) (c c′ : Counts) → Wrote fs l c l′ c′ → Room c (fs ++ gs) → Room c′ gs

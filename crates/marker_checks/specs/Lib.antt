@@ -1,3 +1,3 @@
-pub mod Own
+pub mod InnerVisit
 pub mod Inner
-pub mod Skip
+pub mod InnerSkip

@@ -25,22 +25,23 @@ ghost use lib.ListN.{length};
 ghost use Rattle.text.specs.Pick.{within, pick};
 ghost use Rattle.tape.specs.Nodes.{count, nodeAt, kindAt, startAt, linkAt, isOpen};
 ghost use Rattle.tape.specs.Forest.{forest};
-ghost use Rattle.table.specs.Bytes.{equal, oneOf};
 ghost use Rattle.table.specs.Names.{noteOnly};
 ghost use Rattle.table.specs.Entries.{entryOfInfo, characterCategory};
 ghost use Rattle.cursor.specs.Names.{nameOf};
 ghost use Rattle.cursor.specs.Inner.{Run, Spanned};
 ghost use Rattle.findings.specs.Finding.{severityOf};
-ghost use Rattle.findings.specs.Written.{Room, Wrote, only};
+ghost use Rattle.findings.specs.Written.{only};
 ghost use Rattle.attachment.specs.Attached.{startsOf, among};
 ghost use Rattle.rows.specs.Row.{rowFindings};
 ghost use Rattle.definition.specs.Checks;
-ghost use Rattle.definition.specs.Checks.{given, idChecks, placeChecks, contentChecks, bookCode, isBook, upper, frontBy, inlineContent, hasText, hasAttribute, hasMarkers, numberMarkers, bName, figName, wName, rbName, trName, isBody};
-ghost use Rattle.state.specs.Running.{contextOf, anchorOf, startsFor, stateOf, countsOf};
-ghost use Rattle.marker_checks.specs.Skip.{onlyTexts, hasOwnCheck, placed, canSkipMarkerAt};
-ghost use Rattle.marker_checks.specs.Own.{ownAt, MarkerVisited, childrenAt};
+ghost use Rattle.definition.specs.Checks.{given, idChecks, placeChecks, contentChecks, bookCode, isBook, frontBy, inlineContent, hasText, hasAttribute, hasMarkers, numberMarkers, bName, figName, wName, rbName, trName, isBody};
+ghost use Rattle.state.specs.Inner.{contextOf, anchorOf, startsFor, stateOf, countsOf};
+ghost use Rattle.marker_checks.specs.InnerSkip.{onlyTexts, hasOwnCheck, placed, canSkipMarkerAt};
+ghost use Rattle.marker_checks.specs.InnerVisit.{ownAt, MarkerVisited, childrenAt};
 ghost use Rattle.marker_checks.specs.Inner.{isText, hasContent, withId};
 ghost use Rattle.findings.specs.Codes.{shouldBeUppercase, notValid};
+ghost use Rattle.text.specs.Bytes.{equal, oneOf, upper};
+ghost use Rattle.findings.specs.Inner.{Room, Wrote};
 
 // A finding with the span of a node, if it is there.
 fn push_for_node(

@@ -5,8 +5,8 @@ use mathlib.Core.Path.{_≡_, refl, ap}
 use mathlib.Core.List.{List, [], _∷_}
 use lib.ListN.{length, set, getD}
 use Rattle.text.specs.Pick.{within, pick}
-use Rattle.definition.specs.Checks.{upper}
 use Rattle.buffer.proofs.Writing.{Writing, writing-on}
+use Rattle.text.specs.Bytes.{upper}
 
 abbrev pub capitalOf : ℕ → ℕ
 capitalOf b = pick (within 0x61 0x7A b) (b - 32) b

@@ -4,9 +4,9 @@ use mathlib.Core.Bool.{Bool, true, false}
 use mathlib.Core.List.{List, [], _∷_, _++_}
 use mathlib.Core.Option.{Option, some, none}
 use lib.Dec.{eqb}
-use Rattle.definition.specs.Checks.{upper}
 use Rattle.message_texts.specs.Texts.{Code, documentTexts, numberTexts, markerTexts, attributeTexts}
 use Rattle.text.specs.Pick.{pick}
+use Rattle.text.specs.Bytes.{upper}
 
 -- three values
 pub record Values : Type 0 where

@@ -5,11 +5,11 @@ ghost use mathlib.Core.Option.{some};
 ghost use Prim.Native.Nat.{_-_, _≤_};
 ghost use lib.ListN.{length, drop};
 ghost use Rattle.text.specs.Pick.{within, pick};
-ghost use Rattle.definition.specs.Checks.{upper};
 ghost use Rattle.buffer.specs.Over.{Put, placeLimit};
 ghost use Rattle.message_texts.specs.Texts.{numberTexts, markerTexts, attributeTexts};
 ghost use Rattle.message_texts.specs.Filled.{byteOf, filled, allTexts};
 ghost use Rattle.message_texts.specs.Inner.{values, Short, NoValues, WrittenAs, WrittenFrom, WrittenOf};
+ghost use Rattle.text.specs.Bytes.{upper};
 
 fn capital(b: u8) -> u8
     ensures { λ r. ⌜ r ≡ pick (within 0x61 0x7A b) (b - 32) b ⌝ }

@@ -14,7 +14,6 @@ use Rattle.text.specs.Words.{blankText}
 use Rattle.tape.specs.Nodes.{Node, count, kindAt, linkAt, isOpen, nodeAt, chapterKind, verseKind, textKind, attributeKind}
 use Rattle.tape.specs.Forest.{Forest, end, leaf, node, forest, Nested, done, one, inner, top}
 use Rattle.tape.proofs.Nest.{nested-le, forest-done, forest-leaf, forest-node}
-use Rattle.table.specs.Bytes.{equal, oneOf}
 use Rattle.table.specs.Entries.{Entry, milestoneCategory}
 use Rattle.cursor.specs.Names.{nameOf}
 use Rattle.cursor.specs.Info.{infoAt}
@@ -23,10 +22,10 @@ use Rattle.findings.specs.Finding.{Finding, Kind, warningSeverity}
 use Rattle.findings.specs.Written.{only}
 use Rattle.numbers.specs.Label.{labelOf, numbered}
 use Rattle.attributes.specs.Attributes.{attributeKinds, findingsAt, attributeFindings, attributesFindings}
-use Rattle.rows.specs.Cells.{Columns}
+use Rattle.rows.specs.Cells.{ColumnRange}
 use Rattle.rows.specs.Row.{cellIn, outOfOrder, byColumns, rowFrom, rowFindings}
 use Rattle.definition.specs.State.{WalkState, initial, outside, WalkContext, Anchor, past}
-use Rattle.definition.specs.Checks.{about, error, warning, given, entryOf, letterByte, afterChapter, afterVerse, numberForm, chapterChecks, verseChecks, leafChecked, bookCode, isBook, upper, numberMarkers, idName, trName, idChecks, afterId, attachedTo, placeChecks, contentChecks}
+use Rattle.definition.specs.Checks.{about, error, warning, given, entryOf, letterByte, afterChapter, afterVerse, numberForm, chapterChecks, verseChecks, leafChecked, bookCode, isBook, numberMarkers, idName, trName, idChecks, afterId, attachedTo, placeChecks, contentChecks}
 use Rattle.definition.specs.Milestones.{isStart, isEnd, isMilestone, waits, startsAfter, milestoneChecks, afterMilestone}
 use Rattle.definition.specs.Walk.{Walked, leafAnchor, openChecked, inside, withFindings, afterNode, thenWalk, byEntry, walk}
 use Rattle.definition.specs.Document.{textBefore, unclosed, closing, walked, running}
@@ -40,6 +39,7 @@ use Rattle.messages.proofs.LowLetters.{next-low, breaks-some}
 use Rattle.messages.proofs.AttributeKinds.{OfAttributes, all-kinds}
 use Rattle.text.proofs.Bool.{and-left, and-right}
 use Rattle.findings.specs.Codes.{milestoneMismatch, unclosedStart, leadingZeros, textBeforeId, endAlone, invalidBookCode, misplacedNumberMarker, invalidVerseSequence}
+use Rattle.text.specs.Bytes.{equal, oneOf, upper}
 
 -- the text of the finding is there, so that number 12 does not turn it back
 abbrev pub HasMessage : List ℕ → List ℕ → List ℕ → Finding → Type 0
@@ -140,7 +140,7 @@ module _ (table s t : List ℕ) where
   entry-is i = refl
 
   -- the cells among the children of a node
-  cell-all : (i : ℕ) → i < count t → (q : Option Columns) (n : ℕ) (later : ℕ → List Finding) → ((m : ℕ) → AllOf Has (later m)) → AllOf Has (byColumns q (nodeAt s t i) n later)
+  cell-all : (i : ℕ) → i < count t → (q : Option ColumnRange) (n : ℕ) (later : ℕ → List Finding) → ((m : ℕ) → AllOf Has (later m)) → AllOf Has (byColumns q (nodeAt s t i) n later)
   cell-all i l none n later h = h n
   cell-all i l (some c) n later h =
       let differs = not (eqb (c .start) n) in

@@ -11,8 +11,7 @@ use lib.ListN.{length, take, drop, length-take, length-drop}
 use Rattle.text.specs.Pick.{Part, cut, pick}
 use Rattle.text.specs.Words.{secondWord}
 use Rattle.tape.specs.Nodes.{nodeAt, span}
-use Rattle.table.specs.Bytes.{equal, oneOf}
-use Rattle.table.specs.Entries.{Entry, Indexed}
+use Rattle.table.specs.Entries.{Entry}
 use Rattle.cursor.specs.Names.{namePart, nameOf}
 use Rattle.cursor.specs.Info.{infoAt}
 use Rattle.numbers.specs.Label.{labelOf, isGlued, baseLen}
@@ -20,6 +19,8 @@ use Rattle.definition.specs.Checks.{numberMarkers}
 use Rattle.messages.specs.Inner.{nameOr, isTables}
 use Rattle.messages.proofs.Shown.{entry-sound}
 use Rattle.text.specs.Literal.{ascii}
+use Rattle.text.specs.Bytes.{equal, oneOf}
+use Rattle.table.specs.Inner.{Indexed}
 
 -- the table's name for two codes, the source's for the others
 module _ (code : ℕ) (a b name : List ℕ) (is : name ≡ pick (isTables code) a b) where

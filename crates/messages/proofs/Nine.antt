@@ -19,7 +19,6 @@ use Rattle.refusals.proofs.First.{neither, only-not}
 use Rattle.tape.proofs.OneNumber.{accepted}
 use Rattle.numbers.specs.Label.{labelRefusal}
 use Rattle.definition.specs.Outcome.{Lent, of1, of2, of3, ofTape, of9, of10, refusal}
-use Rattle.validate.specs.Entry.{checkRefusal, listsRefusal, fromTape, fromTable}
 use Rattle.validate.proofs.Whole.{or-assoc}
 use Rattle.validate.specs.declared.InputCheck.{InputCheck}
 use Rattle.validate.specs.declared.InputCheck.the-variants as input
@@ -29,6 +28,7 @@ use Rattle.messages.specs.Message.{Request, messageText}
 use Rattle.messages.specs.Inner.{WrittenBy}
 use Rattle.messages.specs.Answer.{document, firstNine, MessageAnswer, refused, written, byRoom, bytesBy}
 use Rattle.text.proofs.Bool.{or-parts}
+use Rattle.validate.specs.Inner.{checkRefusal, listsRefusal, fromTape, fromTable}
 
 or-none : (x : Option Refusal) → orElse x none ≡ x
 or-none none = refl

@@ -13,8 +13,7 @@ use borrow.Author.Tests.{lt-ltb, le-ltb, le-leb, lt-leb, eq-eqb, ne-eqb, eqb-tru
 use Rattle.text.specs.Pick.{Part, cut, pick}
 use Rattle.tape.specs.Nodes.{Node, count, kindAt, markerAt, linkAt, isOpen, nodeAt, rootKind}
 use Rattle.tape.specs.Forest.{Accepted, forest}
-use Rattle.table.specs.Bytes.{oneOf}
-use Rattle.table.specs.Entries.{Entry, Indexed, Sound, entries, nth}
+use Rattle.table.specs.Entries.{Entry, entries, nth}
 use Rattle.cursor.specs.Names.{nameOf}
 use Rattle.cursor.specs.Info.{infoAt, hasMarker, onlyFor}
 use Rattle.cursor.specs.Inner.{Spanned}
@@ -27,6 +26,8 @@ use Rattle.message_texts.specs.Texts as texts
 use Rattle.message_texts.specs.Inner.{values}
 use Rattle.messages.specs.Message.{Request, letterBytes, labelIn, hasGluedLabel, nameIn, codeIn, isNumber, ofChapter, unitOf, hasBase, onlyIfTrue, shown, shownOf, three}
 use Rattle.messages.specs.Inner.{isTables, nameOr}
+use Rattle.text.specs.Bytes.{oneOf}
+use Rattle.table.specs.Inner.{Indexed, Sound}
 
 -- a label, empty for a node that has none
 module _ (e : Option Entry) (x : Node) (label : List ℕ) (is : label ≡ pick (numbered (x .kind)) (labelOf e (x .text)) []) where

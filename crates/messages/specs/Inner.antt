@@ -8,7 +8,7 @@ use lib.ListN.{length}
 use Rattle.text.specs.Pick.{cut}
 use Rattle.tape.specs.Nodes.{count}
 use Rattle.tape.specs.Forest.{Accepted}
-use Rattle.table.specs.Entries.{Entry, Indexed}
+use Rattle.table.specs.Entries.{Entry}
 use Rattle.message_texts.specs.Filled.{allTexts, codeOf}
 use Rattle.message_texts.specs.Inner.{WrittenAs, WrittenFrom}
 use Rattle.messages.specs.Message as message
@@ -17,6 +17,7 @@ use Rattle.messages.specs.Answer as answers
 use Rattle.messages.specs.declared.MessageRequest as code
 use Rattle.messages.specs.declared.MessageAnswer.the-variants as answer
 use Rattle.messages.specs.declared.MessageAnswer as declared
+use Rattle.table.specs.Inner.{Indexed}
 
 -- the request that the code makes
 abbrev pub requestBy : code.MessageRequest → message.Request

@@ -9,7 +9,6 @@ use Rattle.text.specs.Pick.{cut, pick}
 use Rattle.text.specs.Literal.{ascii}
 use Rattle.tape.specs.Nodes.{Node, count, linkAt, isOpen, nodeAt}
 use Rattle.tape.specs.Forest.{forest}
-use Rattle.table.specs.Bytes.{oneOf}
 use Rattle.table.specs.Entries.{Entry}
 use Rattle.cursor.specs.Names.{nameOf}
 use Rattle.cursor.specs.Info.{infoAt}
@@ -21,6 +20,7 @@ use Rattle.buffer.specs.Decimal.{decimal}
 use Rattle.message_texts.specs.Texts as texts
 use Rattle.message_texts.specs.Texts.{Hole, Code}
 use Rattle.message_texts.specs.Filled.{Values, allTexts, codeOf, formOf, filledBy}
+use Rattle.text.specs.Bytes.{oneOf}
 
 -- a request for a text: of a finding's words, those that the text depends on
 pub record Request : Type 0 where

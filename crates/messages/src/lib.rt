@@ -25,7 +25,6 @@ ghost use lib.ListN.{length, getD, take};
 ghost use Rattle.text.specs.Pick.{pick};
 ghost use Rattle.tape.specs.Nodes.{count, kindAt, nodeAt};
 ghost use Rattle.tape.specs.Forest.{Accepted};
-ghost use Rattle.table.specs.Entries.{Indexed};
 ghost use Rattle.cursor.specs.Names.{nameOf};
 ghost use Rattle.cursor.specs.Info.{infoAt};
 ghost use Rattle.cursor.specs.Inner.{Spanned};
@@ -39,6 +38,7 @@ ghost use Rattle.messages.specs.Messages.{requestAt, textAt, textsOf, en
 ghost use Rattle.messages.specs.Inner.{requestBy, messageAnswerOf, DocumentNode, WrittenBy, nameOr, isTables};
 ghost use Rattle.message_texts.specs.Filled.{allTexts};
 ghost use Rattle.message_texts.specs.Inner.{WrittenFrom};
+ghost use Rattle.table.specs.Inner.{Indexed};
 
 // Of a finding's words, those that its text depends on.
 pub struct MessageRequest {

@@ -5,11 +5,11 @@ use mathlib.Core.Path.{_≡_}
 use Prim.Native.Nat.{_+_, _≤_}
 use lib.ListN.{length}
 use Rattle.tape.specs.Nodes.{nodeAt}
-use Rattle.table.specs.Bytes.{equal}
 use Rattle.definition.specs.Milestones.{baseOf}
 use Rattle.milestones.specs.Inner.{Measured, baseAt}
 use Rattle.definition.proofs.OpenStart as OpenStart-T
 use Rattle.milestones.proofs.has_base as has-base-F
+use Rattle.text.specs.Bytes.{equal}
 
 abbrev pub terms : Terms
 terms = stated-as has-base-F.Symbol.name of-truth

@@ -2,7 +2,7 @@
 -- The contract of `milestones::milestone`, for its own walk and for the walks that call it: its symbol and its result; what is passed; what is asked of that; what is said of it, of the result r and of the last values z. `known` shows that it is the contract.
 use Rattle.reference_laws.proofs.Call.{Terms, stated-as, val, shr, mut, of-number, of-struct, w64, u8, u64, [], _∷_, Known, bound-at, rule-of, cited}
 use Rattle.table.specs.Entries.{entryOfInfo}
-use Rattle.milestones.specs.Steps.{Milestoned, Steppable}
+use Rattle.milestones.specs.InnerStep.{Milestoned, Steppable}
 use Rattle.table.proofs.MarkerInfo as MarkerInfo-T
 use Rattle.definition.proofs.OpenStart as OpenStart-T
 use Rattle.state.proofs.State as State-T

@@ -4,7 +4,7 @@ use Rattle.reference_laws.proofs.Call.{Terms, stated-as, val, shr, mut, of-numb
 use mathlib.Core.Path.{_≡_}
 use Prim.Native.Nat.{_<_}
 use lib.ListN.{length}
-use Rattle.state.specs.Running.{Opens}
+use Rattle.state.specs.Inner.{Opens}
 use Rattle.milestones.specs.Inner.{Placed, takenBy, opensBy, pairedBy}
 use Rattle.definition.proofs.OpenStart as OpenStart-T
 use Rattle.milestones.proofs.Paired as Paired-T

@@ -14,7 +14,6 @@ use borrow.Author.Tests.{eq-eqb, ne-eqb}
 use Rattle.text.specs.Pick.{cut}
 use Rattle.text.proofs.Rows.{place}
 use Rattle.tape.specs.Nodes.{nodeAt, span, startAt, lenAt}
-use Rattle.table.specs.Bytes.{equal}
 use Rattle.table.specs.Entries.{categoryOf, entryOfInfo}
 use Rattle.table.specs.declared.MarkerInfo.{MarkerInfo}
 use Rattle.table.specs.declared.Category.{Category}
@@ -25,6 +24,7 @@ use Rattle.cursor.specs.Names.{namePart, nameOf}
 use Rattle.numbers.proofs.Labels.{part-from}
 use Rattle.definition.specs.Milestones.{endsIn, baseOf}
 use Rattle.milestones.specs.Inner.{baseIn, isMilestoneNamed, Measured}
+use Rattle.text.specs.Bytes.{equal}
 
 pub too-short : (name : List ℕ) (letter : ℕ) → length name < 2 → false ≡ endsIn letter name
 too-short name letter h = sym (equal-apart (drop (length name - 2) name) (0x2D ∷ letter ∷ []) (λ e. omega (arith, e, length-drop (length name - 2) name)))

@@ -11,7 +11,7 @@ use lib.Seq.{getD-set-same, getD-set-other}
 use Rattle.tape.specs.Nodes.{Node, nodeAt}
 use Rattle.definition.specs.Outcome.{noStart}
 use Rattle.definition.specs.declared.OpenStart.{OpenStart}
-use Rattle.state.specs.Running.{openNodes, Opens}
+use Rattle.state.specs.Inner.{openNodes, Opens}
 use Rattle.milestones.specs.Inner.{Measured}
 use Rattle.milestones.proofs.Search.{Gone, entry}
 

@@ -6,17 +6,16 @@ use mathlib.Core.Path.{_≡_, refl, sym, ap, _∙_}
 use mathlib.Core.Bool.{true, false}
 use mathlib.Core.List.{List}
 use lib.ListN.{length, getD, set}
-use Rattle.table.specs.Bytes.{equal}
 use Rattle.table.specs.Entries.{Entry}
 use Rattle.tape.specs.Nodes.{nodeAt}
 use Rattle.cursor.specs.Inner.{Spanned}
 use Rattle.definition.specs.Milestones.{baseOf}
 use Rattle.definition.specs.Outcome.{noStart}
 use Rattle.definition.specs.declared.OpenStart.{OpenStart}
-use Rattle.state.specs.Running.{Opens}
+use Rattle.state.specs.Inner.{Opens}
 use Rattle.state.specs.declared.State.{State}
 use Rattle.milestones.specs.Inner.{Measured, Read, Placed, baseAt, nearestIn, removed, takenBy, opensBy, pairedBy, Counted, Countable}
-use Rattle.milestones.specs.Steps.{Milestoned, Steppable}
+use Rattle.milestones.specs.InnerStep.{Milestoned, Steppable}
 use Rattle.milestones.specs.declared.Step.{Step}
 use Rattle.milestones.specs.declared.Step.the-variants as step
 use Rattle.milestones.specs.declared.Paired.{Paired}
@@ -24,6 +23,7 @@ use Rattle.milestones.specs.declared.Paired.the-variants as paired
 use Rattle.milestones.specs.declared.Found.{Found}
 use Rattle.milestones.specs.declared.Found.the-variants as found
 use Rattle.milestones.proofs.Search.{nowhere, hit, miss, entry, found-inside}
+use Rattle.text.specs.Bytes.{equal}
 
 pub first-of : (at k : ℕ) → at < k → 1 ≤ k
 first-of at k h = omega arith

@@ -8,14 +8,14 @@ use mathlib.Core.List.{List, [], _∷_}
 use lib.ListN.{getD}
 use Rattle.text.specs.Pick.{pick}
 use Rattle.tape.specs.Nodes.{Node, nodeAt}
-use Rattle.table.specs.Bytes.{equal}
 use Rattle.definition.specs.Milestones.{baseOf, sameBase, waits, without}
-use Rattle.state.specs.Running.{openNodes, Opens}
+use Rattle.state.specs.Inner.{openNodes, Opens}
 use Rattle.definition.specs.Outcome.{noStart}
 use Rattle.definition.specs.declared.OpenStart.{OpenStart}
 use Rattle.milestones.specs.Inner.{Measured, nearestIn}
 use Rattle.milestones.specs.declared.Found.{Found}
 use Rattle.milestones.specs.declared.Found.the-variants.{At, Nothing}
+use Rattle.text.specs.Bytes.{equal}
 
 -- a turn of the search
 module _ (s t : List ℕ) (opens : List OpenStart) (j : ℕ) (base : List ℕ) where

@@ -12,14 +12,14 @@ use Rattle.table.specs.Entries.{Entry}
 use Rattle.cursor.specs.Inner.{Spanned}
 use Rattle.findings.specs.Finding.{Finding}
 use Rattle.findings.specs.declared.Counts.{Counts}
-use Rattle.findings.specs.Written.{counted, overlay, only, Wrote, Room}
+use Rattle.findings.specs.Written.{overlay, only}
 use Rattle.definition.specs.Checks.{given, when, error}
 use Rattle.definition.specs.Milestones.{isStart, isMilestone, baseOf, waits, milestoneChecks, startsAfter, without, withOpen, afterMilestone}
 use Rattle.definition.specs.declared.OpenStart.{OpenStart}
-use Rattle.state.specs.Running.{openNodes, stateOf, countsOf, withCounts, Opens}
+use Rattle.state.specs.Inner.{openNodes, stateOf, countsOf, withCounts, Opens}
 use Rattle.state.specs.declared.State.{State}
 use Rattle.milestones.specs.Inner.{Measured, Read, nearestIn, removed, takenBy, opensBy, pairedBy, withOpens, WroteEndAlone, Counted, Countable}
-use Rattle.milestones.specs.Steps.{MilestoneStep, Milestoned}
+use Rattle.milestones.specs.InnerStep.{MilestoneStep, Milestoned}
 use Rattle.milestones.specs.declared.Step.{Step}
 use Rattle.milestones.specs.declared.Step.the-variants as step
 use Rattle.milestones.specs.declared.Paired.{Paired}
@@ -30,6 +30,7 @@ use Rattle.milestones.proofs.Search.{Gone, isFound, found-inside, waits
 use Rattle.milestones.proofs.Moves.{gone}
 use Rattle.milestones.proofs.Kept.{starts-pushed, opens-pushed, opens-gone}
 use Rattle.findings.specs.Codes.{milestoneMismatch, endAlone}
+use Rattle.findings.specs.Inner.{counted, Wrote, Room}
 
 -- one check: its finding under its test
 module _ (b b′ : Bool) (f f′ : Finding) (b-is : b′ ≡ b) (f-is : f′ ≡ f) where

@@ -7,15 +7,13 @@ use lib.Dec.{eqb}
 use lib.ListN.{length, getD, set, take, drop}
 use Rattle.text.specs.Pick.{pick}
 use Rattle.tape.specs.Nodes.{nodeAt}
-use Rattle.table.specs.Bytes.{equal}
 use Rattle.table.specs.Entries.{Entry, milestoneCategory}
 use Rattle.cursor.specs.Inner.{Spanned}
-use Rattle.findings.specs.Written.{Wrote, Room}
 use Rattle.definition.specs.Checks.{error}
 use Rattle.definition.specs.Milestones.{endsIn, isStart, isMilestone, baseOf}
 use Rattle.definition.specs.Outcome.{noStart}
 use Rattle.definition.specs.declared.OpenStart.{OpenStart}
-use Rattle.state.specs.Running.{countsOf, withCounts}
+use Rattle.state.specs.Inner.{countsOf, withCounts}
 use Rattle.state.specs.declared.State.{State}
 use Rattle.milestones.specs.declared.Step.{Step}
 use Rattle.milestones.specs.declared.Step.the-variants as step
@@ -24,6 +22,8 @@ use Rattle.milestones.specs.declared.Paired.the-variants as paired
 use Rattle.milestones.specs.declared.Found.{Found}
 use Rattle.milestones.specs.declared.Found.the-variants.{At, Nothing}
 use Rattle.findings.specs.Codes.{milestoneMismatch, endAlone}
+use Rattle.text.specs.Bytes.{equal}
+use Rattle.findings.specs.Inner.{Wrote, Room}
 
 -- a name without its last two bytes
 abbrev pub baseIn : List ℕ → List ℕ

@@ -8,16 +8,16 @@ ghost use mathlib.Core.List.{[], _∷_};
 ghost use Prim.Native.Nat.{_+_, _<_, _≤_};
 ghost use lib.ListN.{length, set};
 ghost use Rattle.tape.specs.Nodes.{nodeAt, count};
-ghost use Rattle.table.specs.Bytes.{equal};
 ghost use Rattle.table.specs.Entries.{Entry, entryOfInfo, milestoneCategory};
 ghost use Rattle.cursor.specs.Inner.{Spanned};
-ghost use Rattle.findings.specs.Written.{Room};
 ghost use Rattle.definition.specs.Checks.{given, error};
 ghost use Rattle.definition.specs.Milestones.{endsIn, baseOf, milestoneChecks};
-ghost use Rattle.state.specs.Running.{stateOf, countsOf, Opens};
+ghost use Rattle.state.specs.Inner.{stateOf, countsOf, Opens};
 ghost use Rattle.milestones.specs.Inner.{baseIn, Measured, Read, Placed, baseAt, nearestIn, removed, takenBy, opensBy, pairedBy, withOpens, WroteEndAlone, Counted, Countable};
-ghost use Rattle.milestones.specs.Steps.{Milestoned, Steppable};
+ghost use Rattle.milestones.specs.InnerStep.{Milestoned, Steppable};
 ghost use Rattle.findings.specs.Codes.{milestoneMismatch, endAlone};
+ghost use Rattle.text.specs.Bytes.{equal};
+ghost use Rattle.findings.specs.Inner.{Room};
 
 // An entry among the open starts, if there is one.
 pub enum Found {

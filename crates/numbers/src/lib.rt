@@ -11,12 +11,13 @@ ghost use Rattle.text.specs.Words.{firstWord};
 ghost use Rattle.tape.specs.Nodes.{count};
 ghost use Rattle.refusals.specs.Refusal.{firstBad, splitLabel};
 ghost use Rattle.tape.specs.Forest.{Accepted};
-ghost use Rattle.table.specs.Entries.{Indexed, infoOf};
+ghost use Rattle.table.specs.Entries.{infoOf};
 ghost use Rattle.cursor.specs.Names.{nameOf};
 ghost use Rattle.cursor.specs.Inner.{Spanned, Named, Reached};
 ghost use Rattle.numbers.specs.Label.{baseLen, isGlued, labelOf, splits, numbered, badLabel, labelRefusal, labelCheckRefusal};
 ghost use Rattle.numbers.specs.Inner.{splitAt, Labelled, LabelledBy, Usual, numbersIn, firstAmong};
 ghost use Rattle.numbers.specs.Verse.{versePart, verseEnd, next, inSequence, letterOf, noEarlier, otherNumber, suffixOf, positionOf, readOf, Readable};
+ghost use Rattle.table.specs.Inner.{Indexed};
 
 // The letter of a verse position, `9a`, or none.
 pub enum Suffix {

@@ -20,13 +20,14 @@ use Rattle.cursor.proofs.Around.{spanned}
 use Rattle.cursor.proofs.Runs.{run-top, run-inside}
 use Rattle.findings.specs.declared.Counts.{Counts}
 use Rattle.findings.specs.Finding.{Finding}
-use Rattle.findings.specs.Written.{Wrote, Room, total, countLimit}
+use Rattle.findings.specs.Written.{total}
 use Rattle.findings.proofs.Overlay.{counted-total}
 use Rattle.rows.specs.Row.{rowFindings}
 use Rattle.rows.proofs.Few.{row-few}
 use Rattle.attributes.specs.Attributes.{attributesFindings}
 use Rattle.attributes.proofs.Few.{attributes-few}
 use Rattle.oracle_exports.specs.Inner.{Child, Holds}
+use Rattle.findings.specs.Inner.{Wrote, Room, countLimit}
 
 none-is : (x : Option Refusal) → isNone x ≡ true → x ≡ none
 none-is none e = refl

@@ -5,7 +5,7 @@ use mathlib.Core.Option.{Option, some, none}
 use lib.Dec.{leb, ltb}
 use Rattle.text.specs.Pick.{pick}
 use Rattle.numbers.specs.Verse.{Position, next}
-use Rattle.rows.specs.Cells.{Columns}
+use Rattle.rows.specs.Cells.{ColumnRange}
 
 -- the number, or another that stands for none
 abbrev pub numberOr : ℕ → Option ℕ → ℕ
@@ -35,10 +35,10 @@ abbrev pub nextFrom : ℕ → ℕ → Position
 nextFrom n b = pick (leb n 4294967295 && ltb b 255) (next (positionFrom n b)) (positionFrom n b)
 
 -- the first and the last column of a cell
-abbrev pub startWord : Option Columns → ℕ
+abbrev pub startWord : Option ColumnRange → ℕ
 startWord (some r) = r .start
 startWord none = 4294967296
 
-abbrev pub endWord : Option Columns → ℕ
+abbrev pub endWord : Option ColumnRange → ℕ
 endWord (some r) = r .end
 endWord none = 4294967296

@@ -25,7 +25,6 @@ ghost use mathlib.Core.Bool.{true, not, _&&_};
 ghost use Prim.Native.Nat.{_+_, _*_, _%_, _<_, _≤_};
 ghost use lib.Dec.{eqb};
 ghost use lib.ListN.{length, take, drop};
-ghost use Rattle.table.specs.Bytes.{oneOf};
 ghost use Rattle.table.specs.Names.{frontMatter, noteOnly, strippedLength};
 ghost use Rattle.oracle_exports.specs.Words.{numberOr, numberWord, letterWord, positionFrom, nextFrom, low, startWord, endWord};
 ghost use Rattle.oracle_exports.specs.Inner.{Child, Holds, SiblingsAfter};
@@ -40,8 +39,10 @@ ghost use Rattle.text.specs.Number.{digit, parsed};
 ghost use Rattle.refusals.specs.Refusal.{isNone};
 ghost use Rattle.tape.specs.Reading.{tapeRefusal};
 ghost use Rattle.cursor.specs.Inner.{Spanned, Run};
-ghost use Rattle.findings.specs.Written.{total, countLimit};
+ghost use Rattle.findings.specs.Written.{total};
 ghost use Rattle.attachment.specs.Attached.{startsOf};
+ghost use Rattle.text.specs.Bytes.{oneOf};
+ghost use Rattle.findings.specs.Inner.{countLimit};
 
 // The place of the first ill-formed sequence, or the length.
 #[no_mangle]

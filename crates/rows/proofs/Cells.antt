@@ -19,17 +19,18 @@ use Rattle.cursor.specs.Steps.{pastNode}
 use Rattle.cursor.proofs.Runs.{run-next, forest-at-leaf, forest-at-open}
 use Rattle.findings.specs.Finding.{Finding}
 use Rattle.findings.specs.declared.Counts.{Counts}
-use Rattle.findings.specs.Written.{only, Wrote, Room}
+use Rattle.findings.specs.Written.{only}
 use Rattle.findings.proofs.Overlay.{Left, left-start, left-wrote, left-end, left-room, room-first}
-use Rattle.rows.specs.Cells.{Columns, cellColumns}
+use Rattle.rows.specs.Cells.{ColumnRange, cellColumns}
 use Rattle.rows.specs.Row.{cellIn, outOfOrder, byColumns, rowFrom, rowFindings}
+use Rattle.findings.specs.Inner.{Wrote, Room}
 
 -- the columns of a node by the tests that the code takes
 module _ (s t : List ℕ) (i k : ℕ) (is-kind : k ≡ kindAt t i) where
   pub no-open : (k ≡ 1 → ⊥) → none ≡ cellIn (nodeAt s t i)
   no-open h = rw (← is-kind, ne-eqb k 1 h)
 
-  pub opened : (name : List ℕ) (r : Option Columns) → k ≡ 1 → name ≡ nameOf (cut (span t i) s) → r ≡ cellColumns name → r ≡ cellIn (nodeAt s t i)
+  pub opened : (name : List ℕ) (r : Option ColumnRange) → k ≡ 1 → name ≡ nameOf (cut (span t i) s) → r ≡ cellColumns name → r ≡ cellIn (nodeAt s t i)
   opened name r h e q = rw (← is-kind, eq-eqb k 1 h, ← e) q
 
 -- the row at a node of it
@@ -57,11 +58,11 @@ module _ {s t : List ℕ} {b : ℕ} {fs₀ : List Finding} {l₀ : List ℕ} {c�
     at = rw (row-at s t i b e (g .run) more) at (g .left)
 
     -- past a node without columns
-    pub skipped : (n : ℕ) (r : Option Columns) → n ≡ pastNode t i → r ≡ cellIn (nodeAt s t i) → r ≡ none → Going s t b fs₀ l₀ c₀ l c e n
+    pub skipped : (n : ℕ) (r : Option ColumnRange) → n ≡ pastNode t i → r ≡ cellIn (nodeAt s t i) → r ≡ none → Going s t b fs₀ l₀ c₀ l c e n
     skipped n r p q z =
         rw p (record { run = run-next s t i b (g .run) more; left = rw (sym q ∙ z) at at; room = g .room })
 
-    module _ (r : Columns) (is : cellIn (nodeAt s t i) ≡ some r) (f : Finding) (f-is : f ≡ outOfOrder (nodeAt s t i) e (r .start)) where
+    module _ (r : ColumnRange) (is : cellIn (nodeAt s t i) ≡ some r) (f : Finding) (f-is : f ≡ outOfOrder (nodeAt s t i) e (r .start)) where
       left-now : Left fs₀ l₀ c₀ (only (not (eqb (r .start) e)) f ++ rowFrom (r .end + 1) (forest s t (pastNode t i) b)) l c
       left-now = rw f-is (rw is at at)
 

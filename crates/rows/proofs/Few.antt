@@ -13,14 +13,14 @@ use Rattle.tape.specs.Forest.{Forest, end, leaf, node}
 use Rattle.tape.proofs.Sizes.{amount, breadth}
 use Rattle.findings.specs.Finding.{Finding}
 use Rattle.findings.specs.Written.{only}
-use Rattle.rows.specs.Cells.{Columns}
+use Rattle.rows.specs.Cells.{ColumnRange}
 use Rattle.rows.specs.Row.{outOfOrder, cellIn, byColumns, rowFrom}
 
 pub only-few : (there : Bool) (f : Finding) → length (only there f) ≤ 1
 only-few true f = omega arith
 only-few false f = omega arith
 
-few : (r : Option Columns) (x : Node) (e b : ℕ) (after : ℕ → List Finding) → ((k : ℕ) → length (after k) ≤ b) → length (byColumns r x e after) ≤ amount x + b
+few : (r : Option ColumnRange) (x : Node) (e b : ℕ) (after : ℕ → List Finding) → ((k : ℕ) → length (after k) ≤ b) → length (byColumns r x e after) ≤ amount x + b
 few none x e b after h = let l = h e in omega arith
 few (some r) x e b after h =
     let l = h (r .end + 1) in

@@ -13,10 +13,10 @@ use Rattle.text.specs.Number.{parsed, numberOf}
 use Rattle.text.specs.declared.Parsed.{Parsed}
 use Rattle.text.specs.declared.Parsed.the-variants.{Value}
 use Rattle.text.proofs.Cuts.{rest-all}
-use Rattle.table.specs.Bytes.{starting}
 use Rattle.table.proofs.Words.{starts-long}
-use Rattle.rows.specs.Cells.{Columns, isCell, isAligned, afterLetters, pair, hyphen, columnsIn, cellColumns}
+use Rattle.rows.specs.Cells.{ColumnRange, isCell, isAligned, afterLetters, pair, hyphen, columnsIn, cellColumns}
 use Rattle.text.specs.Literal.{ascii}
+use Rattle.text.specs.Bytes.{starting}
 
 pub short-plain : (s : List ℕ) → length s ≤ 2 → false ≡ isAligned s
 short-plain [] h = refl
@@ -46,11 +46,11 @@ pub both-numbers : (a b : Parsed) (m n : ℕ) → a ≡ Value m → b ≡ Value 
 both-numbers a b m n p q = rw p (rw q refl)
 
 module _ (s : List ℕ) (at : ℕ) (is : at ≡ hyphen s) where
-  pub two-columns : (a b : Parsed) (x : Option Columns) → at < length s → numberOf a ≡ parsed (take at s) → numberOf b ≡ parsed (take (length s - (at + 1)) (drop (at + 1) s)) → x ≡ pair (numberOf a) (numberOf b) → x ≡ columnsIn s
+  pub two-columns : (a b : Parsed) (x : Option ColumnRange) → at < length s → numberOf a ≡ parsed (take at s) → numberOf b ≡ parsed (take (length s - (at + 1)) (drop (at + 1) s)) → x ≡ pair (numberOf a) (numberOf b) → x ≡ columnsIn s
   unfolding columnsIn
   two-columns a b x l p q h = rw (← is) (rw (lt-ltb at (length s) l) (h ∙ ap₂ pair p (q ∙ ap parsed (rest-all s (at + 1)))))
 
-  pub one-column : (a b : Parsed) (x : Option Columns) → length s ≤ at → numberOf a ≡ parsed s → numberOf b ≡ parsed s → x ≡ pair (numberOf a) (numberOf b) → x ≡ columnsIn s
+  pub one-column : (a b : Parsed) (x : Option ColumnRange) → length s ≤ at → numberOf a ≡ parsed s → numberOf b ≡ parsed s → x ≡ pair (numberOf a) (numberOf b) → x ≡ columnsIn s
   unfolding columnsIn
   one-column a b x l p q h = rw (← is) (rw (le-ltb at (length s) l) (h ∙ ap₂ pair p q))
 
@@ -62,6 +62,6 @@ module _ (s : List ℕ) (x : Bool) (is : x ≡ isCell s) where
   pub is-cell : not x ≡ false → isCell s ≡ true
   is-cell h = sym is ∙ not-false x h
 
-  pub cell-by : (t : List ℕ) (y : Option Columns) → not x ≡ false → t ≡ afterLetters s → y ≡ columnsIn t → y ≡ cellColumns s
+  pub cell-by : (t : List ℕ) (y : Option ColumnRange) → not x ≡ false → t ≡ afterLetters s → y ≡ columnsIn t → y ≡ cellColumns s
   unfolding cellColumns
   cell-by t y h e g = rw (is-cell h) (g ∙ ap columnsIn e)

@@ -8,14 +8,14 @@ use lib.ListN.{length, getD, take, drop}
 use Rattle.text.specs.Pick.{pick}
 use Rattle.text.specs.Characters.{findByte}
 use Rattle.text.specs.Number.{parsed}
-use Rattle.table.specs.Bytes.{starting}
 use Rattle.rows.specs.declared.Columns.{Columns}
 use Rattle.rows.specs.declared.Cell.{Cell}
 use Rattle.rows.specs.declared.Cell.the-variants as cell
 use Rattle.text.specs.Literal.{ascii}
+use Rattle.text.specs.Bytes.{starting}
 
 -- the columns of a cell, first and last
-pub record Columns : Type 0 where
+pub record ColumnRange : Type 0 where
   pub start : ℕ
   pub end : ℕ
 
@@ -31,7 +31,7 @@ isAligned name = eqb (getD name 2 0) 0x72 || eqb (getD name 2 0) 0x63
 abbrev pub afterLetters : List ℕ → List ℕ
 afterLetters name = drop (pick (isAligned name) 3 2) name
 
-abbrev pub pair : Option ℕ → Option ℕ → Option Columns
+abbrev pub pair : Option ℕ → Option ℕ → Option ColumnRange
 pair none b = none
 pair (some a) none = none
 pair (some a) (some b) = some (record { start = a; end = b })
@@ -41,17 +41,17 @@ abbrev pub hyphen : List ℕ → ℕ
 hyphen s = findByte (eqb 0x2D) s
 
 -- "`tc1`→(1,1), `tcr1-2`→(1,2)"
-unfoldable pub columnsIn : List ℕ → Option Columns
+unfoldable pub columnsIn : List ℕ → Option ColumnRange
 columnsIn s = pick (ltb (hyphen s) (length s)) (pair (parsed (take (hyphen s) s)) (parsed (drop (hyphen s + 1) s))) (pair (parsed s) (parsed s))
 
 -- "`None` if it isn't a numbered table cell"
-unfoldable pub cellColumns : List ℕ → Option Columns
+unfoldable pub cellColumns : List ℕ → Option ColumnRange
 cellColumns name = pick (isCell name) (columnsIn (afterLetters name)) none
 
 -- what the answer says
-abbrev pub rangeOf : Columns → Columns
+abbrev pub rangeOf : Columns → ColumnRange
 rangeOf c = record { start = c .start; end = c .end }
 
-abbrev pub cellOf : Cell → Option Columns
+abbrev pub cellOf : Cell → Option ColumnRange
 cellOf (cell.At c) = some (rangeOf c)
 cellOf cell.NoColumns = none

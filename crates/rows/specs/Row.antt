@@ -9,7 +9,7 @@ use Rattle.tape.specs.Forest.{Forest, end, leaf, node}
 use Rattle.cursor.specs.Names.{nameOf}
 use Rattle.findings.specs.Finding.{Finding, errorSeverity}
 use Rattle.findings.specs.Written.{only}
-use Rattle.rows.specs.Cells.{Columns, cellColumns}
+use Rattle.rows.specs.Cells.{ColumnRange, cellColumns}
 use Rattle.text.specs.Pick.{pick}
 use Rattle.findings.specs.Codes.{invalidTableColumnSequence}
 
@@ -28,11 +28,11 @@ outOfOrder x expected found =
     }
 
 -- the columns of a node: of a marker, by its name as written
-abbrev pub cellIn : Node → Option Columns
+abbrev pub cellIn : Node → Option ColumnRange
 cellIn x = pick (isOpen (x .kind)) (cellColumns (nameOf (x .text))) none
 
 -- what is found of a cell, and of the cells after it, by the column that is expected there
-abbrev pub byColumns : Option Columns → Node → ℕ → (ℕ → List Finding) → List Finding
+abbrev pub byColumns : Option ColumnRange → Node → ℕ → (ℕ → List Finding) → List Finding
 byColumns none x expected after = after expected
 byColumns (some r) x expected after = only (not (eqb (r .start) expected)) (outOfOrder x expected (r .start)) ++ after (r .end + 1)
 

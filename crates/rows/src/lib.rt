@@ -12,9 +12,9 @@ ghost use Rattle.tape.specs.Nodes.{nodeAt, count};
 ghost use Rattle.tape.specs.Forest.{forest};
 ghost use Rattle.cursor.specs.Inner.{Run, Spanned};
 ghost use Rattle.findings.specs.Finding.{findingOf};
-ghost use Rattle.findings.specs.Written.{Wrote, Room};
 ghost use Rattle.rows.specs.Row.{cellIn, outOfOrder, rowFindings};
 ghost use Rattle.rows.specs.Cells.{isCell, isAligned, afterLetters, pair, columnsIn, cellColumns, cellOf};
+ghost use Rattle.findings.specs.Inner.{Wrote, Room};
 
 // The first and the last column of a cell.
 pub struct Columns {

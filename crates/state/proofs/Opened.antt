@@ -5,7 +5,7 @@ use mathlib.Core.Path.{_≡_, refl, ap}
 use mathlib.Core.List.{List}
 use lib.ListN.{length}
 use Rattle.definition.specs.declared.OpenStart.{OpenStart}
-use Rattle.state.specs.Running.{openNodes}
+use Rattle.state.specs.Inner.{openNodes}
 
 pub starts-length : (s t : List ℕ) (opens : List OpenStart) (k : ℕ) → length (openNodes s t opens k) ≡ k
 unfolding openNodes

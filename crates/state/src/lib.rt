@@ -15,7 +15,7 @@ ghost use Rattle.table.specs.Entries.{entryOfInfo};
 ghost use Rattle.definition.specs.Checks;
 ghost use Rattle.definition.specs.Checks.{isBody};
 ghost use Rattle.definition.specs.Walk;
-ghost use Rattle.state.specs.Running.{countsOf, withCounts, withAnchor, contextOf};
+ghost use Rattle.state.specs.Inner.{countsOf, withCounts, withAnchor, contextOf};
 
 // The running record: flags, what is expected next, how long the two working lists are, the verses visited, the node of the latest anchor or 0, and the counts of findings.
 pub struct State {

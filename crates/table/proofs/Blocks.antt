@@ -13,12 +13,12 @@ use lib.ListN.{length, getD, take, drop, length-drop}
 use lib.Seq.{take-length, length-take-le, drop-drop}
 use borrow.Author.Tests.{eq-eqb, ne-eqb, ltb-true, ltb-false, eqb-true, eqb-false}
 use Rattle.text.specs.Pick.{pick}
-use Rattle.text.specs.Scans.{fourBytes, eightBytes}
+use Rattle.text.specs.Inner.{fourBytes, eightBytes}
 use Rattle.text.proofs.Rows.{place}
-use Rattle.table.specs.Bytes.{equal, all, starting}
 use Rattle.table.specs.Inner.{headOf}
 use Rattle.table.proofs.Words.{starts-short, equal-ends}
 use Rattle.text.proofs.Bool.{and-left, and-right}
+use Rattle.text.specs.Bytes.{equal, all, starting}
 
 -- the digits of a number are unique
 digits : (a b x y : ℕ) → a < 256 → b < 256 → eqb (a + 256 * x) (b + 256 * y) ≡ (eqb a b && eqb x y)

@@ -13,10 +13,9 @@ use lib.Seq.{length-take-le}
 use borrow.Author.Tests.{lt-ltb, le-leb, lt-leb, eq-eqb, ne-eqb, eqb-true, eqb-false, not-true}
 use Rattle.text.specs.Pick.{within, pick}
 use Rattle.text.specs.Characters.{findByte}
-use Rattle.text.specs.Scans.{eightBytes}
+use Rattle.text.specs.Inner.{eightBytes}
 use Rattle.text.proofs.Chars.{byte-le}
 use Rattle.table.specs.declared.Step.the-variants as step
-use Rattle.table.specs.Bytes.{equal, all, starting}
 use Rattle.table.specs.Lines.{nameByte}
 use Rattle.table.specs.Books.{codeFrom}
 use Rattle.table.specs.Inner.{nameLength, keyed, stepBy, stepWith, behindKey}
@@ -24,6 +23,7 @@ use Rattle.table.proofs.Parts.{width}
 use Rattle.table.proofs.Words.{equal-true, every}
 use Rattle.table.proofs.Blocks.{parts, eight, HeadIs}
 use Rattle.text.proofs.Bool.{and-left, and-right}
+use Rattle.text.specs.Bytes.{equal, all, starting}
 
 step-none : (t : Bool) (next : ℕ) → stepBy t none next ≡ step.Bad
 step-none true next = refl

@@ -14,12 +14,12 @@ use borrow.Author.Tests.{lt-ltb, eq-eqb, ne-eqb, eqb-true, eqb-false}
 use Rattle.text.specs.Characters.{findByte}
 use Rattle.text.proofs.Chars.{found-le}
 use Rattle.text.proofs.Cuts.{rest-all}
-use Rattle.table.specs.Bytes.{equal}
 use Rattle.table.specs.Lines.{Line, lines, onFirst, lineBy}
 use Rattle.table.specs.Books.{codeFrom}
 use Rattle.table.specs.Inner.{onWord, linesOf}
 use Rattle.table.proofs.Words.{code-hit, code-miss, code-none}
 use Rattle.text.specs.Pick.{pick}
+use Rattle.text.specs.Bytes.{equal}
 
 flip : (a b : ℕ) → eqb a b ≡ eqb b a
 flip a b = go (eqb b a) refl

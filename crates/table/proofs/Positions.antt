@@ -11,11 +11,11 @@ use Rattle.table.specs.declared.TextRole.the-variants.{Boundary}
 use Rattle.table.specs.declared.DefaultAttribute.the-variants.{Lemma, Gloss, Href, Loc, LinkHref, Id, Who, NoDefault}
 use Rattle.table.specs.Entries.{categoryOf, roleOf}
 use Rattle.text.specs.Pick.{pick}
-use Rattle.table.specs.Bytes.{equal, oneOf, starting}
 use Rattle.table.specs.Names.{lemmaNames, rb, xt, ref, jmp, periph, qt, defaultOf}
 use Rattle.table.specs.Books.{codeFrom}
 use Rattle.table.specs.Inner.{attributeAt, attributeBy, categoryAt, roleAt}
 use Rattle.text.specs.Literal.{ascii}
+use Rattle.text.specs.Bytes.{equal, oneOf, starting}
 
 pub category-rest : (n : ℕ) → (n ≡ 0 → ⊥) → (n ≡ 1 → ⊥) → (n ≡ 2 → ⊥) → (n ≡ 3 → ⊥) → (n ≡ 4 → ⊥) → (n ≡ 5 → ⊥) → (n ≡ 6 → ⊥) → Other ≡ categoryAt n
 category-rest zero a b c d e f g = absurd (a refl)

@@ -11,7 +11,6 @@ use lib.ListN.{length}
 use borrow.Author.Tests.{leb-true}
 use Rattle.text.specs.Pick.{within, pick}
 use Rattle.text.proofs.Rows.{within-lo, within-hi}
-use Rattle.table.specs.Bytes.{all, starting, beyond}
 use Rattle.table.specs.Lines.{nameKey, nameByte, goodBody, categoryKey, categories, roleKey, roles}
 use Rattle.table.specs.Entries.{position}
 use Rattle.table.specs.Books.{codeFrom}
@@ -20,6 +19,7 @@ use Rattle.text.specs.Pick.{known}
 use Rattle.table.proofs.Words.{starts-long, one-of, every, one-passes, found}
 use Rattle.text.proofs.Bool.{and-left}
 use Rattle.text.specs.Literal.{ascii}
+use Rattle.text.specs.Bytes.{all, starting, beyond}
 
 -- a line is good exactly if it says something
 known-pick : (t : Bool) (n : ℕ) → t ≡ known (pick t (some n) none)

@@ -13,7 +13,6 @@ use lib.Seq.{drop-drop}
 use borrow.Author.Tests.{eq-eqb, ne-eqb, eqb-true}
 use Rattle.text.specs.Pick.{pick}
 use Rattle.text.proofs.Rows.{place}
-use Rattle.table.specs.Bytes.{equal, oneOf, starting, beyond}
 use Rattle.table.specs.Entries.{position}
 use Rattle.table.specs.Names.{noteOnly}
 use Rattle.table.specs.Books.{codeFrom}
@@ -21,6 +20,7 @@ use Rattle.table.specs.Inner.{triples}
 use Rattle.text.specs.Pick.{known}
 use Rattle.text.proofs.Bool.{and-left, and-right}
 use Rattle.text.specs.Literal.{ascii}
+use Rattle.text.specs.Bytes.{equal, oneOf, starting, beyond}
 
 pub equal-true : (a b : List ℕ) → equal a b ≡ true → a ≡ b
 unfolding equal

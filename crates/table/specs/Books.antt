@@ -2,11 +2,11 @@
 use Prim.Native.Nat.{ℕ, suc}
 use mathlib.Core.List.{List, [], _∷_}
 use mathlib.Core.Option.{Option, some, none}
-use Rattle.table.specs.Bytes.{equal}
 use Rattle.table.specs.declared.Book.{Book}
 use Rattle.table.specs.declared.Book.the-variants as book
 use Rattle.text.specs.Pick.{pick}
 use Rattle.text.specs.Literal.{ascii}
+use Rattle.text.specs.Bytes.{equal}
 
 -- GEN EXO LEV NUM DEU JOS JDG RUT 1SA 2SA 1KI 2KI 1CH
 -- 2CH EZR NEH EST JOB PSA PRO ECC SNG ISA JER LAM EZK

@@ -1,12 +1,9 @@
 -- The entries of a table: "marker k is the k-th from 0".
-use Prim.Native.Nat.{ℕ, zero, suc, _+_, _-_, _*_, _<_, _≤_}
-use mathlib.Core.Path.{_≡_}
-use mathlib.Core.Bool.{Bool, true, false}
+use Prim.Native.Nat.{ℕ, zero, suc, _+_, _-_}
 use mathlib.Core.List.{List, [], _∷_}
 use mathlib.Core.Option.{Option, some, none}
-use lib.ListN.{length, getD}
+use lib.ListN.{length}
 use Rattle.text.specs.Pick.{Part, pick}
-use Rattle.table.specs.Bytes.{equal, beyond}
 use Rattle.table.specs.Lines.{Line, lines, categories, roles, categoryKey, roleKey}
 use Rattle.table.specs.declared.Category.{Category}
 use Rattle.table.specs.declared.Category.the-variants.{Identification, Chapter, Verse, Paragraph, Character, Note, Milestone, Other}
@@ -17,6 +14,7 @@ use Rattle.table.specs.declared.Info.the-variants as info
 use Rattle.table.specs.declared.MarkerInfo.{MarkerInfo}
 use Rattle.table.specs.declared.Layout.{Layout}
 use Rattle.table.specs.declared.Layout.the-variants as layout
+use Rattle.text.specs.Bytes.{equal, beyond}
 
 -- how many words stand before the first that equals the list
 unfoldable pub position : List (List ℕ) → List ℕ → ℕ
@@ -111,33 +109,7 @@ abbrev pub infoOf : Info → Option Entry
 infoOf (info.Known m) = some (entryOfInfo m)
 infoOf info.Missing = none
 
--- one word holds an entry
-abbrev pub pack : Entry → ℕ
-pack e = e .name .start + 65536 * (e .name .len + 32 * (e .category + 8 * e .role))
-
--- the bounds of an entry of a table that has no bad line
-pub record Sound (t : List ℕ) (e : Entry) : Type 0 where
-  pub inside : e .name .start + e .name .len ≤ length t
-  pub start-low : e .name .start < 65536
-  pub named : 1 ≤ e .name .len
-  pub short : e .name .len ≤ 16
-  pub category-low : e .category < 8
-  pub role-low : e .role < 3
-
--- the first n words of the index are the table's entries, in order, and there are no others
-pub record Indexed (t ix : List ℕ) (n : ℕ) : Type 0 where
-  pub count : n ≡ length (entries t)
-  pub few : n ≤ 512
-  pub room : n ≤ length ix
-  pub each : (k : ℕ) (e : Entry) → nth (entries t) k ≡ some e → getD ix k 0 ≡ pack e
-  pub sound : (k : ℕ) (e : Entry) → nth (entries t) k ≡ some e → Sound t e
-
 -- what the check of the layout says: number 1's place, or none
 abbrev pub layoutPlace : Layout → Option ℕ
 layoutPlace (layout.Good n) = none
 layoutPlace (layout.Bad at) = some at
-
--- what it leaves in the index where there is none
-abbrev pub leaves : List ℕ → List ℕ → Layout → Type 0
-leaves t ix (layout.Good n) = Indexed t ix n
-leaves t ix (layout.Bad at) = Unit {0}

@@ -1,17 +1,16 @@
 -- What the functions inside the crate promise.
-use Prim.Native.Nat.{ℕ, zero, suc, _+_, _*_, _<_, _≤_}
+use Prim.Native.Nat.{ℕ, zero, suc, _+_, _*_, _<_, _≤_, _-_}
 use mathlib.Core.Path.{_≡_}
 use mathlib.Core.Bool.{Bool, true, false, _&&_}
 use mathlib.Core.List.{List, [], _∷_}
 use mathlib.Core.Option.{Option, some, none}
 use lib.Dec.{eqb, ltb}
-use lib.ListN.{length, take, drop}
+use lib.ListN.{length, take, drop, getD}
 use Rattle.text.specs.Pick.{within, pick}
-use Rattle.text.specs.Scans.{eightBytes}
+use Rattle.text.specs.Inner.{eightBytes}
 use Rattle.text.specs.Characters.{findByte}
-use Rattle.table.specs.Bytes.{all, starting, beyond}
 use Rattle.table.specs.Lines.{lines, nameKey, categoryKey, roleKey, categories, roles, nameByte, badFrom}
-use Rattle.table.specs.Entries.{Entry, entriesOf, pack, Sound}
+use Rattle.table.specs.Entries.{Entry, entriesOf, entries, nth}
 use Rattle.table.specs.declared.Value.{Value}
 use Rattle.table.specs.declared.Value.the-variants as value
 use Rattle.table.specs.declared.Step.{Step}
@@ -26,6 +25,9 @@ use Rattle.table.specs.declared.TextRole.{TextRole}
 use Rattle.table.specs.declared.TextRole.the-variants.{Content, Excluded, Boundary}
 use Rattle.table.specs.Names.{strippedLength, gluedDigit, entryNamed}
 use Rattle.table.specs.Books.{codeFrom}
+use Rattle.table.specs.declared.Layout.{Layout}
+use Rattle.table.specs.declared.Layout.the-variants as layout
+use Rattle.text.specs.Bytes.{all, starting, beyond}
 
 -- the words of a list in which byte 10 ends each
 abbrev pub onWord : Bool → ℕ → List (List ℕ) → List (List ℕ)
@@ -148,3 +150,29 @@ stripped t s = pick (ltb (strippedLength s) (length s)) (entryNamed t (take (str
 
 abbrev pub unglued : List ℕ → List ℕ → Option ℕ
 unglued t s = pick (gluedDigit s) (entryNamed t (take 1 s)) none
+
+-- one word holds an entry
+abbrev pub pack : Entry → ℕ
+pack e = e .name .start + 65536 * (e .name .len + 32 * (e .category + 8 * e .role))
+
+-- the bounds of an entry of a table that has no bad line
+pub record Sound (t : List ℕ) (e : Entry) : Type 0 where
+  pub inside : e .name .start + e .name .len ≤ length t
+  pub start-low : e .name .start < 65536
+  pub named : 1 ≤ e .name .len
+  pub short : e .name .len ≤ 16
+  pub category-low : e .category < 8
+  pub role-low : e .role < 3
+
+-- the first n words of the index are the table's entries, in order, and there are no others
+pub record Indexed (t ix : List ℕ) (n : ℕ) : Type 0 where
+  pub count : n ≡ length (entries t)
+  pub few : n ≤ 512
+  pub room : n ≤ length ix
+  pub each : (k : ℕ) (e : Entry) → nth (entries t) k ≡ some e → getD ix k 0 ≡ pack e
+  pub sound : (k : ℕ) (e : Entry) → nth (entries t) k ≡ some e → Sound t e
+
+-- what it leaves in the index where there is none
+abbrev pub leaves : List ℕ → List ℕ → Layout → Type 0
+leaves t ix (layout.Good n) = Indexed t ix n
+leaves t ix (layout.Bad at) = Unit {0}

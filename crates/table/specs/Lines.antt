@@ -7,8 +7,8 @@ use mathlib.Core.Option.{Option, some, none}
 use lib.Dec.{eqb, ltb}
 use lib.ListN.{length}
 use Rattle.text.specs.Pick.{within, pick}
-use Rattle.table.specs.Bytes.{all, oneOf, starting, beyond}
 use Rattle.text.specs.Literal.{ascii}
+use Rattle.text.specs.Bytes.{all, oneOf, starting, beyond}
 
 -- a line: the place of its first byte, what stands in it, and whether a byte 10 ends it
 pub record Line : Type 0 where

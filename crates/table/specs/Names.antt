@@ -8,13 +8,13 @@ use lib.Dec.{eqb, ltb}
 use lib.ListN.{length, getD, take}
 use Rattle.text.specs.Pick.{cut, pick}
 use Rattle.text.specs.Number.{digit}
-use Rattle.table.specs.Bytes.{equal, oneOf, starting}
 use Rattle.table.specs.Entries.{Entry, entries}
 use Rattle.table.specs.declared.Lookup.{Lookup}
 use Rattle.table.specs.declared.Lookup.the-variants as lookup
 use Rattle.table.specs.declared.DefaultAttribute.{DefaultAttribute}
 use Rattle.table.specs.declared.DefaultAttribute.the-variants.{Lemma, Gloss, Href, Loc, LinkHref, Id, Who, NoDefault}
 use Rattle.text.specs.Literal.{ascii}
+use Rattle.text.specs.Bytes.{equal, oneOf, starting}
 
 -- the number of the first entry that has the name, counted from k
 unfoldable pub namedFrom : List ℕ → ℕ → List Entry → List ℕ → Option ℕ

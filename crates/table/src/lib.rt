@@ -6,14 +6,15 @@ ghost use mathlib.Core.Option.{some};
 ghost use lib.ListN.{length, drop, take};
 ghost use Rattle.text.specs.Pick.{within, cut};
 ghost use Rattle.text.specs.Characters.{findByte};
-ghost use Rattle.table.specs.Bytes.{equal, oneOf, starting};
 ghost use Rattle.table.specs.Lines.{nameByte, categories, roles, badTable};
 ghost use Rattle.table.specs.Entries;
-ghost use Rattle.table.specs.Entries.{nth, infoOf, entryOfInfo, Indexed, layoutPlace, leaves, categoryOf, roleOf};
+ghost use Rattle.table.specs.Entries.{nth, infoOf, entryOfInfo, layoutPlace, categoryOf, roleOf};
 ghost use Rattle.table.specs.Names.{undigited, strippedLength, tailOff, entryNamed, lookedUp, foundOf, defaultOf, frontMatter, noteOnly, gluedDigit};
 ghost use Rattle.table.specs.Books.{codeFrom, bookOf, idOf};
 ghost use Rattle.table.specs.Inner.{linesOf, triples, nameLength, valueOf, stepBy, stepWith, behindKey, stepOf, headOf, further, pastOf, LinesRead, attributeAt, categoryAt, roleAt, stripped, unglued};
 ghost use Rattle.text.specs.Pick.{known};
+ghost use Rattle.text.specs.Bytes.{equal, oneOf, starting};
+ghost use Rattle.table.specs.Inner.{Indexed, leaves};
 
 // A place in the marker table.
 pub struct MarkerId(pub u16);

@@ -11,7 +11,7 @@ use lib.Bits.{bitAnd, bitOr, or-add-and, and-le-l, and-le-r, and-block, and-high
 use lib.Count.{trailingZeros, under, trailing-le}
 use lib.ListN.{getD}
 use lib.Pow.{pow-add, pow-pos}
-use Rattle.text.specs.Scans.{Ascii, eightBytes, High}
+use Rattle.text.specs.Inner.{Ascii, eightBytes, High}
 
 pub or-zero : (a b : ℕ) → bitOr a b ≡ 0 → (a ≡ 0) × (b ≡ 0)
 or-zero a b h = (omega (arith, h, or-add-and a b, and-le-r a b), omega (arith, h, or-add-and a b, and-le-l a b))

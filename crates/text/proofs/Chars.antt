@@ -12,7 +12,7 @@ use Rattle.text.specs.Pick.{same, pick}
 use Rattle.text.specs.declared.Decoded.{Decoded}
 use Rattle.text.specs.Utf8.{decode}
 use Rattle.text.specs.Blank.{blank}
-use Rattle.text.specs.Scans.{blankIs}
+use Rattle.text.specs.Inner.{blankIs}
 use Rattle.text.specs.Characters.{charsPast, chars, bytesBefore, find, findByte}
 use Rattle.text.proofs.Rows.{place}
 use Rattle.text.proofs.Decode.{decode-width}

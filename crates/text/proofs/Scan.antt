@@ -11,7 +11,7 @@ use lib.ListN.{length, getD, drop, length-drop}
 use lib.Seq.{drop-drop}
 use Rattle.text.specs.Pick.{range}
 use Rattle.text.specs.Utf8.{table3-7, begins, widthOf, afterWidth, scan}
-use Rattle.text.specs.Scans.{Ascii, Passed}
+use Rattle.text.specs.Inner.{Ascii, Passed}
 use Rattle.text.proofs.Rows.{row-at, width-le}
 
 -- the bytes of a sequence that has begun are skipped

@@ -9,7 +9,7 @@ use lib.ListN.{length, getD, drop}
 use borrow.Author.Tests.{eq-eqb, ne-eqb}
 use Rattle.text.specs.Pick.{Range, range, pick}
 use Rattle.text.specs.Utf8.{begins, table3-7, widthOf}
-use Rattle.text.specs.Scans.{secondLow, secondHigh}
+use Rattle.text.specs.Inner.{secondLow, secondHigh}
 use Rattle.text.proofs.Rows.{row-at}
 
 abbrev rest3 : ℕ → ℕ → List Range

@@ -4,5 +4,6 @@ pub mod Blank
 pub mod Characters
 pub mod Words
 pub mod Number
-pub mod Scans
+pub mod Inner
 pub mod Literal
+pub mod Bytes

@@ -11,7 +11,7 @@ ghost use Rattle.text.specs.Blank.{blank};
 ghost use Rattle.text.specs.Characters.{chars, bytesBefore, find, findByte, isBoundary};
 ghost use Rattle.text.specs.Words.{blankText, trimStart, trim, kept, firstWord, secondWord};
 ghost use Rattle.text.specs.Number.{digit, digits, parsed, numberOf};
-ghost use Rattle.text.specs.Scans.{Ascii, eightBytes, fourBytes, High, Ended, Led, Passed, secondLow, secondHigh, blankIs};
+ghost use Rattle.text.specs.Inner.{Ascii, eightBytes, fourBytes, High, Ended, Led, Passed, secondLow, secondHigh, blankIs};
 
 // Whether a text is well formed, or where its first ill-formed sequence starts.
 pub enum Utf8 {

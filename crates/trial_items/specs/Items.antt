@@ -5,7 +5,7 @@ use mathlib.Core.List.{List, [], _∷_}
 use mathlib.Core.Option.{Option, some, none}
 use Rattle.text.specs.Literal.{ascii}
 use Rattle.numbers.specs.Verse.{Position, versePart, verseEnd, next, inSequence}
-use Rattle.rows.specs.Cells.{Columns, cellColumns}
+use Rattle.rows.specs.Cells.{ColumnRange, cellColumns}
 use Rattle.findings.specs.Finding.{Kind}
 use Rattle.attributes.specs.Attributes.{kind, attributeKinds}
 
@@ -47,7 +47,7 @@ followingBy (some p) (some e) = positionOutcome (next e)
 abbrev pub following : List ℕ → Outcome
 following label = followingBy (versePart label) (verseEnd label)
 
-abbrev pub columnsBy : Option Columns → Outcome
+abbrev pub columnsBy : Option ColumnRange → Outcome
 columnsBy none = noColumns
 columnsBy (some r) = columns (r .start) (r .end)
 

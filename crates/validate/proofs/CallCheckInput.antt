@@ -4,9 +4,9 @@ use Rattle.reference_laws.proofs.Call.{Terms, stated-as, val, shr, mut, of-numb
 use mathlib.Core.Path.{_≡_}
 use Prim.Native.Nat.{_≤_}
 use lib.ListN.{length}
-use Rattle.validate.specs.Entry.{checkRefusal, fromTable, AcceptedIndex}
 use Rattle.validate.proofs.InputCheck as InputCheck-T
 use Rattle.validate.proofs.check_input as check-input-F
+use Rattle.validate.specs.Inner.{checkRefusal, fromTable, AcceptedIndex}
 
 abbrev pub terms : Terms
 terms = stated-as check-input-F.Symbol.name (of-enum InputCheck-T.the-type InputCheck-T.Laws.the-laws InputCheck-T.Laws.the-plain tt)

@@ -4,12 +4,13 @@ use Rattle.reference_laws.proofs.Call.{Terms, stated-as, val, shr, mut, of-numb
 use mathlib.Core.Path.{_≡_}
 use mathlib.Core.Option.{none}
 use lib.ListN.{length}
-use Rattle.table.specs.Entries.{Indexed}
 use Rattle.definition.specs.Outcome.{answer, listAfter, seenAfter, openAfter}
-use Rattle.validate.specs.Entry.{answerOf, fromTable, lent}
+use Rattle.validate.specs.Entry.{answerOf}
 use Rattle.validate.proofs.Answer as Answer-T
 use Rattle.definition.proofs.OpenStart as OpenStart-T
 use Rattle.validate.proofs.passed as passed-F
+use Rattle.table.specs.Inner.{Indexed}
+use Rattle.validate.specs.Inner.{fromTable, lent}
 
 abbrev pub terms : Terms
 terms = stated-as passed-F.Symbol.name (of-enum Answer-T.the-type Answer-T.Laws.the-laws Answer-T.Laws.the-plain tt)

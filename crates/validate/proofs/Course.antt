@@ -9,20 +9,22 @@ use Rattle.tape.specs.Nodes.{count, linkAt}
 use Rattle.tape.specs.Forest.{forest, top}
 use Rattle.cursor.specs.Inner.{Run}
 use Rattle.findings.specs.declared.Counts.{Counts}
-use Rattle.findings.specs.Written.{Wrote, Room, room}
+use Rattle.findings.specs.Written.{room}
 use Rattle.definition.specs.State.{outside}
 use Rattle.definition.specs.State as state
 use Rattle.definition.specs.Document.{textBefore, unclosed}
 use Rattle.definition.specs.Outcome.{checked, checkedOf, cleared, noStart}
 use Rattle.definition.proofs.Few.{text-few}
 use Rattle.definition.specs.declared.OpenStart.{OpenStart}
-use Rattle.state.specs.Running.{openNodes, countsOf, withCounts}
+use Rattle.state.specs.Inner.{openNodes, countsOf, withCounts}
 use Rattle.state.specs.declared.State.{State}
-use Rattle.closing.specs.Ends.{Left}
-use Rattle.walk.specs.Walking.{walkAt, Ready, RunWalked}
-use Rattle.validate.specs.Entry.{none-yet, fresh, Begun, Endable, MissingWritten, Ran, Fit, Finished, answerOf, reported, lent}
+use Rattle.closing.specs.Inner.{Left}
+use Rattle.walk.specs.Inner.{walkAt, Ready, RunWalked}
+use Rattle.validate.specs.Entry.{answerOf}
 use Rattle.validate.specs.declared.Answer.{Answer}
 use Rattle.validate.proofs.Ending.{whole-run, walk-ready, walk-room, unclosed-room, missing-room, ran, finished, cleared-whole}
+use Rattle.findings.specs.Inner.{Wrote, Room}
+use Rattle.validate.specs.Inner.{none-yet, fresh, Begun, Endable, MissingWritten, Ran, Fit, Finished, reported, lent}
 
 -- before the walk
 pub begun-room : (s t : List ℕ) (to : ℕ) (r : State) → r ≡ fresh → Room (countsOf r) (textBefore (forest s t 1 to))

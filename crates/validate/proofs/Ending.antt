@@ -12,12 +12,11 @@ use lib.ListN.{length, drop, drop-of-length-le}
 use Rattle.tape.specs.Nodes.{Node, count, linkAt}
 use Rattle.tape.specs.Forest.{Forest, forest, Nested, Accepted, top}
 use Rattle.tape.proofs.Sizes.{breadth, weight, weight-le}
-use Rattle.table.specs.Entries.{Indexed}
 use Rattle.cursor.specs.Inner.{Run}
 use Rattle.cursor.proofs.Runs.{run-top}
 use Rattle.findings.specs.Finding.{Finding}
 use Rattle.findings.specs.declared.Counts.{Counts}
-use Rattle.findings.specs.Written.{Wrote, Room, room, total, countLimit, bySeverity, counted, overlay}
+use Rattle.findings.specs.Written.{room, total, overlay}
 use Rattle.findings.proofs.Overlay.{counted-total, wrote-append}
 use Rattle.definition.specs.State.{WalkState, outside, initial}
 use Rattle.definition.specs.State as state
@@ -29,13 +28,15 @@ use Rattle.definition.specs.Outcome.{Lent, addIf, ofSeverity, smaller, checked,
 use Rattle.definition.proofs.Few.{text-few, walk-few, given-few, unclosed-length}
 use Rattle.definition.proofs.Counted.{Graded, graded}
 use Rattle.definition.specs.declared.OpenStart.{OpenStart}
-use Rattle.state.specs.Running.{latest, openNodes, stateOf, countsOf, withCounts, Opens}
+use Rattle.state.specs.Inner.{latest, openNodes, stateOf, countsOf, withCounts, Opens}
 use Rattle.state.specs.declared.State.{State}
 use Rattle.state.proofs.Opened.{starts-length}
-use Rattle.closing.specs.Ends.{missingChecks}
-use Rattle.walk.specs.Walking.{nowhere, walkAt, Ready, RunWalked}
-use Rattle.validate.specs.Entry.{none-yet, fresh, Ran, Fit, reported, lent}
+use Rattle.closing.specs.Inner.{missingChecks}
+use Rattle.walk.specs.Inner.{nowhere, walkAt, Ready, RunWalked}
 use Rattle.walk.proofs.Visiting.{count-low}
+use Rattle.table.specs.Inner.{Indexed}
+use Rattle.findings.specs.Inner.{Wrote, Room, countLimit, bySeverity, counted}
+use Rattle.validate.specs.Inner.{none-yet, fresh, Ran, Fit, reported, lent}
 
 module _ {table index : List ℕ} {entries : ℕ} {s t seen : List ℕ} {opens : List OpenStart} (fit : Fit table index entries s t seen opens) where
   abbrev to : ℕ

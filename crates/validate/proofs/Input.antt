@@ -16,21 +16,22 @@ use Rattle.tape.specs.Forest.{Accepted}
 use Rattle.tape.proofs.OneNumber.{accepted}
 use Rattle.findings.specs.Written.{total}
 use Rattle.definition.specs.Outcome.{smaller, atPlace, checked}
-use Rattle.state.specs.Running.{countsOf}
+use Rattle.state.specs.Inner.{countsOf}
 use Rattle.state.specs.declared.State.{State}
 use Rattle.validate.specs.declared.Report.{Report}
 use Rattle.validate.specs.declared.Answer.the-variants as answer
 use Rattle.validate.specs.declared.InputCheck.{InputCheck}
 use Rattle.validate.specs.declared.InputCheck.the-variants as input
-use Rattle.validate.specs.Entry.{answerOf, checkRefusal, sourceRefusal, listsRefusal, AcceptedEntries, AcceptedIndex, reported}
+use Rattle.validate.specs.Entry.{answerOf}
 use Rattle.text.specs.Utf8.{firstIllFormed, utf8Place}
 use Rattle.text.specs.declared.Utf8.{Utf8}
 use Rattle.text.specs.declared.Utf8.the-variants.{WellFormed, IllFormed}
 use Rattle.table.specs.Lines.{badTable}
-use Rattle.table.specs.Entries.{Indexed, leaves}
 use Rattle.table.specs.Entries.{layoutPlace as layoutPlace}
 use Rattle.table.specs.declared.Layout.{Layout}
 use Rattle.table.specs.declared.Layout.the-variants as layout
+use Rattle.validate.specs.Inner.{checkRefusal, sourceRefusal, listsRefusal, AcceptedEntries, AcceptedIndex, reported}
+use Rattle.table.specs.Inner.{Indexed, leaves}
 
 -- number 10
 module _ (n seen opens : ℕ) where

@@ -6,14 +6,15 @@ use mathlib.Core.List.{List, _++_}
 use mathlib.Core.Option.{none}
 use lib.ListN.{length, take, drop}
 use Rattle.tape.specs.Nodes.{count}
-use Rattle.table.specs.Entries.{Indexed}
 use Rattle.definition.specs.Outcome.{Lent, refused, answer, listAfter, seenAfter, openAfter}
 use Rattle.definition.specs.declared.OpenStart.{OpenStart}
-use Rattle.validate.specs.Entry.{answerOf, checkRefusal, AcceptedIndex, fromTable, Fit, Finished, lent}
+use Rattle.validate.specs.Entry.{answerOf}
 use Rattle.validate.specs.declared.Answer.{Answer}
 use Rattle.validate.specs.declared.InputCheck.{InputCheck}
 use Rattle.validate.specs.declared.InputCheck.the-variants as input
 use Rattle.validate.proofs.Whole.{turned-back, seen-long, opens-long, fits, went-through}
+use Rattle.table.specs.Inner.{Indexed}
+use Rattle.validate.specs.Inner.{checkRefusal, AcceptedIndex, fromTable, Fit, Finished, lent}
 
 module _ (table s t seen : List ℕ) (opens : List OpenStart) (l : List ℕ) where
   abbrev it : Lent

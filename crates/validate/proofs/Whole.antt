@@ -15,7 +15,6 @@ use Rattle.tape.specs.Forest.{Accepted, top}
 use Rattle.refusals.specs.Refusal.{Refusal, refuse, onlyIf, orElse}
 use Rattle.refusals.proofs.First.{neither, only-not}
 use Rattle.tape.proofs.OneNumber.{accepted}
-use Rattle.table.specs.Entries.{Indexed}
 use Rattle.findings.specs.Written.{overlay}
 use Rattle.definition.specs.Document.{findings}
 use Rattle.definition.specs.Outcome.{Lent, of1, of2, of3, ofTape, of9, of10, refusal, checkedOf, refused, checked, answer, listAfter, seenAfter, openAfter, cleared, shortList}
@@ -23,8 +22,10 @@ use Rattle.definition.specs.declared.OpenStart.{OpenStart}
 use Rattle.validate.specs.declared.Answer.{Answer}
 use Rattle.validate.specs.declared.InputCheck.{InputCheck}
 use Rattle.validate.specs.declared.InputCheck.the-variants as input
-use Rattle.validate.specs.Entry.{answerOf, checkRefusal, AcceptedIndex, fromTable, fromTape, Fit, Finished, lent}
+use Rattle.validate.specs.Entry.{answerOf}
 use Rattle.text.proofs.Bool.{or-parts}
+use Rattle.table.specs.Inner.{Indexed}
+use Rattle.validate.specs.Inner.{checkRefusal, AcceptedIndex, fromTable, fromTape, Fit, Finished, lent}
 
 pub or-assoc : (a b c : Option Refusal) → orElse (orElse a b) c ≡ orElse a (orElse b c)
 or-assoc none b c = refl

@@ -18,11 +18,13 @@ ghost use Rattle.tape.specs.Nodes.{count};
 ghost use Rattle.tape.specs.Forest.{Accepted};
 ghost use Rattle.cursor.specs.Inner.{Run};
 ghost use Rattle.tape.specs.Reading.{tapeRefusal};
-ghost use Rattle.table.specs.Entries.{Indexed};
-ghost use Rattle.findings.specs.Written.{total, countLimit};
+ghost use Rattle.findings.specs.Written.{total};
 ghost use Rattle.definition.specs.Outcome.{answer, listAfter, seenAfter, openAfter};
-ghost use Rattle.state.specs.Running.{countsOf};
-ghost use Rattle.validate.specs.Entry.{answerOf, checkRefusal, sourceRefusal, listsRefusal, fromLabels, fromTape, fromSource, fromTable, AcceptedEntries, AcceptedIndex, fresh, Begun, Endable, MissingWritten, Ran, Fit, reported, Finished, lent};
+ghost use Rattle.state.specs.Inner.{countsOf};
+ghost use Rattle.validate.specs.Entry.{answerOf};
+ghost use Rattle.table.specs.Inner.{Indexed};
+ghost use Rattle.findings.specs.Inner.{countLimit};
+ghost use Rattle.validate.specs.Inner.{checkRefusal, sourceRefusal, listsRefusal, fromLabels, fromTape, fromSource, fromTable, AcceptedEntries, AcceptedIndex, fresh, Begun, Endable, MissingWritten, Ran, Fit, reported, Finished, lent};
 
 fn initial() -> State
     ensures { λ r. ⌜ r ≡ fresh ⌝ }

@@ -6,8 +6,8 @@ use Prim.Native.Nat.{_≤_}
 use Rattle.tape.specs.Nodes.{count as nodes}
 use Rattle.tape.specs.Forest.{forest, Nested, Accepted}
 use Rattle.attachment.specs.Attached.{startsOf}
-use Rattle.state.specs.Running.{anchorOf, startsFor}
-use Rattle.walk.specs.Walking.{Anchored}
+use Rattle.state.specs.Inner.{anchorOf, startsFor}
+use Rattle.walk.specs.Inner.{Anchored}
 use Rattle.attachment.proofs.Attached as Attached-T
 use Rattle.walk.proofs.anchored as anchored-F
 

@@ -4,7 +4,7 @@ use Rattle.reference_laws.proofs.Call.{Terms, stated-as, val, shr, of-number, o
 use mathlib.Core.Path.{_≡_}
 use Rattle.tape.specs.Forest.{forest}
 use Rattle.cursor.specs.Inner.{Run}
-use Rattle.walk.specs.Walking.{canSkipChildren}
+use Rattle.walk.specs.Inner.{canSkipChildren}
 use Rattle.walk.proofs.can_skip_children as can-skip-children-F
 
 abbrev pub terms : Terms

@@ -7,8 +7,8 @@ use lib.ListN.{length}
 use Rattle.tape.specs.Nodes.{count, linkAt}
 use Rattle.table.specs.Entries.{entryOfInfo}
 use Rattle.cursor.specs.Inner.{Run}
-use Rattle.state.specs.Running.{contextOf}
-use Rattle.marker_checks.specs.Skip.{canSkipMarkerAt}
+use Rattle.state.specs.Inner.{contextOf}
+use Rattle.marker_checks.specs.InnerSkip.{canSkipMarkerAt}
 use Rattle.state.proofs.Context as Context-T
 use Rattle.table.proofs.MarkerInfo as MarkerInfo-T
 use Rattle.marker_checks.proofs.can_skip_marker as can-skip-marker-F

@@ -3,7 +3,7 @@
 use Rattle.reference_laws.proofs.Call.{Terms, stated-as, val, of-struct, [], _∷_, Known, bound-at, rule-of, cited}
 use mathlib.Core.Path.{_≡_}
 use Rattle.table.specs.Entries.{entryOfInfo}
-use Rattle.state.specs.Running.{contextOf}
+use Rattle.state.specs.Inner.{contextOf}
 use Rattle.definition.specs.Walk as Walk
 use Rattle.state.proofs.Context as Context-T
 use Rattle.table.proofs.MarkerInfo as MarkerInfo-T

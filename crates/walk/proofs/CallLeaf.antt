@@ -4,15 +4,15 @@ use Rattle.reference_laws.proofs.Call.{Terms, stated-as, val, shr, mut, of-numb
 use Prim.Native.Nat.{_<_}
 use lib.ListN.{length}
 use Rattle.tape.specs.Nodes.{nodeAt}
-use Rattle.table.specs.Entries.{Indexed}
 use Rattle.cursor.specs.Inner.{Spanned}
-use Rattle.findings.specs.Written.{Room}
 use Rattle.definition.specs.Checks.{leafChecked}
-use Rattle.state.specs.Running.{stateOf, contextOf, countsOf, VerseBounded}
-use Rattle.walk.specs.Walking.{LeafPassed}
+use Rattle.state.specs.Inner.{stateOf, contextOf, countsOf, VerseBounded}
+use Rattle.walk.specs.Inner.{LeafPassed}
 use Rattle.state.proofs.Context as Context-T
 use Rattle.state.proofs.State as State-T
 use Rattle.walk.proofs.leaf as leaf-F
+use Rattle.table.specs.Inner.{Indexed}
+use Rattle.findings.specs.Inner.{Room}
 
 abbrev pub terms : Terms
 terms = stated-as leaf-F.Symbol.name (of-struct State-T.the-type State-T.Laws.the-laws State-T.Laws.the-plain)

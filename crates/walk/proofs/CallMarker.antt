@@ -4,11 +4,12 @@ use Rattle.reference_laws.proofs.Call.{Terms, stated-as, val, shr, of-number, o
 use mathlib.Core.Path.{_≡_}
 use Prim.Native.Nat.{_<_}
 use Rattle.tape.specs.Nodes.{kindAt, isOpen, count as nodes}
-use Rattle.table.specs.Entries.{Indexed, infoOf}
+use Rattle.table.specs.Entries.{infoOf}
 use Rattle.cursor.specs.Info.{infoAt}
-use Rattle.walk.specs.Walking.{onlyOpen}
+use Rattle.walk.specs.Inner.{onlyOpen}
 use Rattle.table.proofs.Info as Info-T
 use Rattle.walk.proofs.marker as marker-F
+use Rattle.table.specs.Inner.{Indexed}
 
 abbrev pub terms : Terms
 terms = stated-as marker-F.Symbol.name (of-enum Info-T.the-type Info-T.Laws.the-laws Info-T.Laws.the-plain tt)

@@ -6,7 +6,7 @@ use Prim.Native.Nat.{_<_}
 use Rattle.tape.specs.Nodes.{count as nodes}
 use Rattle.cursor.specs.Inner.{Run}
 use Rattle.attachment.specs.Attached.{startsOf}
-use Rattle.walk.specs.Walking.{numbersAfter}
+use Rattle.walk.specs.Inner.{numbersAfter}
 use Rattle.attachment.proofs.Attached as Attached-T
 use Rattle.walk.proofs.numbers_after as numbers-after-F
 

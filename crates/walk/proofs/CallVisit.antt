@@ -4,15 +4,15 @@ use Rattle.reference_laws.proofs.Call.{Terms, stated-as, val, shr, mut, ref′,
 use Prim.Native.Nat.{_+_, _≤_}
 use lib.ListN.{length}
 use Rattle.table.specs.Entries.{entryOfInfo}
-use Rattle.findings.specs.Written.{Room}
-use Rattle.state.specs.Running.{contextOf, countsOf}
-use Rattle.walk.specs.Walking.{Ready, Visited, Visitable, visitFindings}
+use Rattle.state.specs.Inner.{contextOf, countsOf}
+use Rattle.walk.specs.Inner.{Ready, Visited, Visitable, visitFindings}
 use Rattle.attachment.proofs.Attached as Attached-T
 use Rattle.state.proofs.Context as Context-T
 use Rattle.table.proofs.MarkerInfo as MarkerInfo-T
 use Rattle.definition.proofs.OpenStart as OpenStart-T
 use Rattle.state.proofs.State as State-T
 use Rattle.walk.proofs.visit as visit-F
+use Rattle.findings.specs.Inner.{Room}
 
 abbrev pub terms : Terms
 terms = stated-as visit-F.Symbol.name of-nothing

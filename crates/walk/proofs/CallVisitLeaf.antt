@@ -1,8 +1,8 @@
 -- Written by proof_writer/write from proof_writer/descriptions/walk.py, from the code and its contracts.
 -- The contract of `walk::visit_leaf`, for its own walk and for the walks that call it: its symbol and its result; what is passed; what is asked of that; what is said of it, of the result r and of the last values z. `known` shows that it is the contract.
 use Rattle.reference_laws.proofs.Call.{Terms, stated-as, val, shr, mut, ref′, of-number, of-struct, w64, u8, u32, u64, [], _∷_, Known, bound-at, rule-of, cited}
-use Rattle.state.specs.Running.{contextOf}
-use Rattle.walk.specs.Walking.{Passable, PassedBy}
+use Rattle.state.specs.Inner.{contextOf}
+use Rattle.walk.specs.Inner.{Passable, PassedBy}
 use Rattle.attachment.proofs.Attached as Attached-T
 use Rattle.state.proofs.Context as Context-T
 use Rattle.state.proofs.State as State-T

@@ -1,13 +1,13 @@
 -- Written by proof_writer/write from proof_writer/descriptions/walk.py, from the code and its contracts.
 -- The contract of `walk::walk`, for its own walk and for the walks that call it: its symbol and its result; what is passed; what is asked of that; what is said of it, of the result r and of the last values z. `known` shows that it is the contract.
 use Rattle.reference_laws.proofs.Call.{Terms, stated-as, val, shr, mut, ref′, of-number, of-nothing, of-struct, w64, u8, u32, u64, [], _∷_, Known, bound-at, rule-of, cited}
-use Rattle.findings.specs.Written.{Room}
-use Rattle.state.specs.Running.{contextOf, countsOf}
-use Rattle.walk.specs.Walking.{Ready, RunWalked, walkAt}
+use Rattle.state.specs.Inner.{contextOf, countsOf}
+use Rattle.walk.specs.Inner.{Ready, RunWalked, walkAt}
 use Rattle.state.proofs.Context as Context-T
 use Rattle.definition.proofs.OpenStart as OpenStart-T
 use Rattle.state.proofs.State as State-T
 use Rattle.walk.proofs.walk as walk-F
+use Rattle.findings.specs.Inner.{Room}
 
 abbrev pub terms : Terms
 terms = stated-as walk-F.Symbol.name of-nothing

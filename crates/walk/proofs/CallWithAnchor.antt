@@ -2,7 +2,7 @@
 -- The contract of `state::with_anchor`, for its own walk and for the walks that call it: its symbol and its result; what is passed; what is asked of that; what is said of it, of the result r and of the last values z. `known` shows that it is the contract.
 use Rattle.reference_laws.proofs.Call.{Terms, stated-as, val, of-number, of-struct, w64, [], _∷_, Known, bound-at, rule-of, cited}
 use mathlib.Core.Path.{_≡_}
-use Rattle.state.specs.Running.{withAnchor}
+use Rattle.state.specs.Inner.{withAnchor}
 use Rattle.state.proofs.State as State-T
 use Rattle.state.proofs.with_anchor as with-anchor-F
 

@@ -8,12 +8,13 @@ use mathlib.Core.Option.{Option, some, none, Option·none-ne-some}
 use lib.ListN.{length}
 use borrow.Author.Tests.{ne-eqb}
 use Rattle.tape.specs.Nodes.{nodeAt, kindAt, markerAt, isOpen, markerOpenKind}
-use Rattle.table.specs.Entries.{Entry, Indexed, entries, nth, infoOf, entryOfInfo}
+use Rattle.table.specs.Entries.{Entry, entries, nth, infoOf, entryOfInfo}
 use Rattle.table.specs.declared.Info.{Info}
 use Rattle.table.specs.declared.MarkerInfo.{MarkerInfo}
 use Rattle.cursor.specs.Info.{hasMarker, onlyFor, infoAt}
 use Rattle.definition.specs.Checks.{entryOf}
-use Rattle.walk.specs.Walking.{onlyOpen}
+use Rattle.walk.specs.Inner.{onlyOpen}
+use Rattle.table.specs.Inner.{Indexed}
 
 -- what is read of a marker and of a leaf
 module _ (table t : List ℕ) (i k : ℕ) (is : k ≡ kindAt t i) where

@@ -12,7 +12,7 @@ use borrow.Author.Tests.{ne-eqb, eqb-true}
 use Rattle.tape.specs.Nodes.{Node, count, nodeAt, kindAt, linkAt, isOpen, markerOpenKind, chapterKind, verseKind}
 use Rattle.tape.specs.Forest.{Forest, end, forest, Nested, Accepted}
 use Rattle.tape.proofs.Nest.{nested-le, forest-done}
-use Rattle.table.specs.Entries.{Entry, Indexed, infoOf, entryOfInfo}
+use Rattle.table.specs.Entries.{Entry, infoOf, entryOfInfo}
 use Rattle.table.specs.declared.MarkerInfo.{MarkerInfo}
 use Rattle.table.specs.declared.Info.{Info}
 use Rattle.table.specs.declared.Info.the-variants as info
@@ -23,7 +23,6 @@ use Rattle.cursor.proofs.Around.{spanned}
 use Rattle.cursor.proofs.Runs.{rest-nested}
 use Rattle.findings.specs.Finding.{Finding}
 use Rattle.findings.specs.declared.Counts.{Counts}
-use Rattle.findings.specs.Written.{Wrote, Room}
 use Rattle.findings.proofs.Overlay.{wrote-none, Left, left-start, left-wrote, left-end, left-room, room-first}
 use Rattle.attachment.specs.Attached.{startsOf}
 use Rattle.attachment.specs.declared.Attached.{Attached}
@@ -34,12 +33,14 @@ use Rattle.definition.specs.Checks.{entryOf, leafChecked, given}
 use Rattle.definition.specs.Walk.{walk, withFindings}
 use Rattle.definition.specs.Walk as def
 use Rattle.definition.specs.declared.OpenStart.{OpenStart}
-use Rattle.state.specs.Running.{stateOf, countsOf, anchorOf, startsFor, VerseBounded, Opens}
+use Rattle.state.specs.Inner.{stateOf, countsOf, anchorOf, startsFor, VerseBounded, Opens}
 use Rattle.state.specs.declared.State.{State}
-use Rattle.walk.specs.Walking.{onlyOpen, Leafy, Unchanged, Passable, PassedBy, Anchored, walkAt, Ready, Went, RunWalked, openCheckedAt, below, visitFindings, visitState, Visited, Visitable, anchorAfter, LeafPassed, numbersAfter}
+use Rattle.walk.specs.Inner.{onlyOpen, Leafy, Unchanged, Passable, PassedBy, Anchored, walkAt, Ready, Went, RunWalked, openCheckedAt, below, visitFindings, visitState, Visited, Visitable, anchorAfter, LeafPassed, numbersAfter}
 use Rattle.walk.proofs.Entries.{entry-read, entry-inside}
 use Rattle.walk.proofs.Steps.{next-later, anchored-past, starts-past, leaf-anchored, leaf-starts, walk-leaf, walk-skip, walk-open}
 use Rattle.text.proofs.Bool.{or-parts}
+use Rattle.table.specs.Inner.{Indexed}
+use Rattle.findings.specs.Inner.{Wrote, Room}
 
 -- the run from i on, of the run that began at `from` with the definition's walk w₀, the list l₀ and the record r₀
 pub record Going (table index : List ℕ) (entries : ℕ) (s t : List ℕ) (depth : ℕ) (o : state.WalkContext) (from to : ℕ) (w₀ : def.Walked) (l₀ : List ℕ) (r₀ : State) (seen : List ℕ) (opens : List OpenStart) (l : List ℕ) (r : State) (numbers : Attached) (i : ℕ) : Type 0 where

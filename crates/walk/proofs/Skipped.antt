@@ -21,10 +21,10 @@ use Rattle.definition.specs.Checks.{given, leafChecked}
 use Rattle.definition.specs.Walk.{walk}
 use Rattle.definition.specs.Walk as Walk
 use Rattle.definition.specs.declared.OpenStart.{OpenStart}
-use Rattle.state.specs.Running.{stateOf, countsOf}
+use Rattle.state.specs.Inner.{stateOf, countsOf}
 use Rattle.state.specs.declared.State.{State}
-use Rattle.marker_checks.specs.Skip.{onlyTexts}
-use Rattle.walk.specs.Walking.{nowhere, walkAt, Ready, RunWalked, canSkipChildren}
+use Rattle.marker_checks.specs.InnerSkip.{onlyTexts}
+use Rattle.walk.specs.Inner.{nowhere, walkAt, Ready, RunWalked, canSkipChildren}
 use Rattle.text.specs.Pick.{pick}
 use Rattle.text.proofs.Bool.{and-left, and-right, or-parts}
 

@@ -13,14 +13,13 @@ use Rattle.text.specs.Pick.{pick}
 use Rattle.tape.specs.Nodes.{Node, count, nodeAt, kindAt, linkAt, isOpen}
 use Rattle.tape.specs.Forest.{Forest, end, leaf, node, followed, forest, Nested, done, Accepted}
 use Rattle.tape.proofs.Nest.{nested-join, nested-le, forest-join, forest-done}
-use Rattle.table.specs.Entries.{Entry, Indexed}
+use Rattle.table.specs.Entries.{Entry}
 use Rattle.cursor.specs.Inner.{Run, Spanned}
 use Rattle.cursor.specs.Info.{infoAt}
 use Rattle.cursor.specs.Steps.{pastNode, holdsNodes}
 use Rattle.cursor.proofs.Runs.{one-nested, rest-nested, one-leaf, one-open, forest-at-leaf, forest-at-open, past-later, past-inside}
 use Rattle.numbers.specs.Label.{numbered}
 use Rattle.findings.specs.Finding.{Finding}
-use Rattle.findings.specs.Written.{Room}
 use Rattle.attachment.specs.Attached.{startOffsets, attachedNumbers}
 use Rattle.attachment.specs.declared.Attached.{Attached}
 use Rattle.definition.specs.State.{WalkState, Anchor, past, NodeChecked}
@@ -28,10 +27,12 @@ use Rattle.definition.specs.State as state
 use Rattle.definition.specs.Checks.{entryOf, leafChecked}
 use Rattle.definition.specs.Walk.{leafAnchor, openChecked, inside, withFindings, afterNode, thenWalk, byEntry, walk}
 use Rattle.definition.specs.Walk as def
-use Rattle.state.specs.Running.{stateOf, countsOf, anchorOf, startsFor, withAnchor, VerseBounded}
+use Rattle.state.specs.Inner.{stateOf, countsOf, anchorOf, startsFor, withAnchor, VerseBounded}
 use Rattle.state.specs.declared.State.{State}
-use Rattle.walk.specs.Walking.{Anchored, nowhere, behind, anchorAfter, numbersAfter, LeafPassed, Leafy, Leaved, Unchanged, PassedBy}
-use Rattle.chapter_verse.specs.Leaves.{LeafVisited}
+use Rattle.walk.specs.Inner.{Anchored, nowhere, behind, anchorAfter, numbersAfter, LeafPassed, Leafy, Leaved, Unchanged, PassedBy}
+use Rattle.chapter_verse.specs.InnerVisit.{LeafVisited}
+use Rattle.table.specs.Inner.{Indexed}
+use Rattle.findings.specs.Inner.{Room}
 
 -- a marker with its entry, its children and what follows it
 open-walk : (table : List ℕ) (o : state.WalkContext) (a : Option Anchor) (x : Node) (c r : Forest) (st : WalkState) (e : Entry) → entryOf table x ≡ some e → walk table o a (node x c r) st ≡ withFindings (openChecked table o a st e x c (node x c r) .findings ++ walk table (inside o e) none c (openChecked table o a st e x c (node x c r) .state) .findings) (walk table o (past a (node x c end)) r (walk table (inside o e) none c (openChecked table o a st e x c (node x c r) .state) .state))

@@ -13,13 +13,12 @@ use Rattle.text.specs.Pick.{cut}
 use Rattle.tape.specs.Nodes.{Node, count, nodeAt, kindAt, linkAt, isOpen}
 use Rattle.tape.specs.Forest.{Forest, end, forest, Nested, Accepted}
 use Rattle.tape.proofs.Nest.{nested-le, nested-open}
-use Rattle.table.specs.Entries.{Entry, Indexed, milestoneCategory}
+use Rattle.table.specs.Entries.{Entry, milestoneCategory}
 use Rattle.cursor.specs.Inner.{Run, Spanned}
 use Rattle.cursor.specs.Steps.{pastNode}
 use Rattle.cursor.proofs.Around.{spanned}
 use Rattle.cursor.proofs.Runs.{past-open, open-later, run-children}
 use Rattle.findings.specs.Finding.{Finding}
-use Rattle.findings.specs.Written.{Wrote, Room}
 use Rattle.findings.proofs.Overlay.{Left, left-start, left-wrote, left-room, room-first, wrote-append}
 use Rattle.attachment.specs.Attached.{startsOf}
 use Rattle.attachment.specs.declared.Attached.{Attached}
@@ -30,16 +29,18 @@ use Rattle.definition.specs.Milestones.{milestoneChecks, afterMilestone}
 use Rattle.definition.specs.Walk.{walk, openChecked, inside}
 use Rattle.definition.specs.Walk as def
 use Rattle.definition.specs.declared.OpenStart.{OpenStart}
-use Rattle.state.specs.Running.{stateOf, countsOf, anchorOf, withCounts, withAnchor, VerseBounded, Opens}
+use Rattle.state.specs.Inner.{stateOf, countsOf, anchorOf, withCounts, withAnchor, VerseBounded, Opens}
 use Rattle.state.specs.declared.State.{State}
-use Rattle.marker_checks.specs.Own.{isId, childrenAt, ownAt, MarkerVisited}
-use Rattle.milestones.specs.Steps.{MilestoneStep, Milestoned, Steppable}
-use Rattle.walk.specs.Walking.{Anchored, nowhere, walkAt, Ready, Went, RunWalked, openCheckedAt, below, visitFindings, visitState, Visited, Visitable, canSkipChildren}
-use Rattle.marker_checks.specs.Skip.{canSkipMarkerAt}
+use Rattle.marker_checks.specs.InnerVisit.{isId, childrenAt, ownAt, MarkerVisited}
+use Rattle.milestones.specs.InnerStep.{MilestoneStep, Milestoned, Steppable}
+use Rattle.walk.specs.Inner.{Anchored, nowhere, walkAt, Ready, Went, RunWalked, openCheckedAt, below, visitFindings, visitState, Visited, Visitable, canSkipChildren}
+use Rattle.marker_checks.specs.InnerSkip.{canSkipMarkerAt}
 use Rattle.marker_checks.proofs.Skip.{skipped-texts, skipped-category, skipped-marked}
 use Rattle.milestones.proofs.Whole.{other as no-milestone}
 use Rattle.walk.proofs.Skipped.{texts-skipped, skipped-walked}
 use Rattle.text.proofs.Bool.{or-parts}
+use Rattle.table.specs.Inner.{Indexed}
+use Rattle.findings.specs.Inner.{Wrote, Room}
 
 -- an accepted tape has at most 65,535 nodes
 pub count-low : (s t : List ℕ) → Accepted s t → count t ≤ 65535

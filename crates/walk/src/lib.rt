@@ -12,15 +12,16 @@ ghost use lib.ListN.{length};
 ghost use Rattle.tape.specs.Nodes.{nodeAt, kindAt, isOpen};
 ghost use Rattle.tape.specs.Nodes.{count};
 ghost use Rattle.tape.specs.Forest.{forest, Nested, Accepted};
-ghost use Rattle.table.specs.Entries.{Indexed, infoOf, entryOfInfo};
+ghost use Rattle.table.specs.Entries.{infoOf, entryOfInfo};
 ghost use Rattle.cursor.specs.Info.{infoAt};
 ghost use Rattle.numbers.specs.Label.{numbered};
 ghost use Rattle.cursor.specs.Inner.{Run, Spanned};
-ghost use Rattle.findings.specs.Written.{Room};
 ghost use Rattle.attachment.specs.Attached.{startsOf};
 ghost use Rattle.definition.specs.Checks.{leafChecked};
-ghost use Rattle.state.specs.Running.{stateOf, contextOf, anchorOf, startsFor, countsOf, VerseBounded};
-ghost use Rattle.walk.specs.Walking.{Ready, RunWalked, Visited, Visitable, Anchored, walkAt, visitFindings, LeafPassed, numbersAfter, onlyOpen, Passable, PassedBy, canSkipChildren};
+ghost use Rattle.state.specs.Inner.{stateOf, contextOf, anchorOf, startsFor, countsOf, VerseBounded};
+ghost use Rattle.walk.specs.Inner.{Ready, RunWalked, Visited, Visitable, Anchored, walkAt, visitFindings, LeafPassed, numbersAfter, onlyOpen, Passable, PassedBy, canSkipChildren};
+ghost use Rattle.table.specs.Inner.{Indexed};
+ghost use Rattle.findings.specs.Inner.{Room};
 
 // The numbers attached to an anchor, among the siblings up to `to`; none without an anchor.
 fn anchored(

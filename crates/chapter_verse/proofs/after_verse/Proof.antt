@@ -2,7 +2,7 @@
 -- Assumes nothing.
 use denote.Ref.{now}
 use Rattle.table.specs.Entries.{infoOf}
-use Rattle.state.specs.Running.{contextOf}
+use Rattle.state.specs.Inner.{contextOf}
 use Rattle.chapter_verse.proofs.Passing.{verse-passed}
 use borrow.Author.Needs.{needs}
 use Rattle.chapter_verse.proofs.after_verse.Statement.{statement}

@@ -12,7 +12,7 @@ use Rattle.table.specs.Entries.{Entry, infoOf}
 use Rattle.findings.specs.declared.Counts.{Counts}
 use Rattle.definition.specs.State.{WalkState}
 use Rattle.definition.specs.Checks.{Check, given, about, isEmpty, numberForm, chapterChecks}
-use Rattle.state.specs.Running.{stateOf, countsOf}
+use Rattle.state.specs.Inner.{stateOf, countsOf}
 use Rattle.chapter_verse.proofs.Givens.{Due, due-start, due-room, due-wrote, due-rest, due-all}
 use Rattle.chapter_verse.proofs.Checked.{bareChapter, twice, leaps, is-bare, is-twice, says-twice, is-leap, says-leap}
 use borrow.Author.Needs.{needs}

@@ -6,7 +6,7 @@ use mathlib.Core.Path.{_≡_, refl, sym, _∙_}
 use denote.Ref.{now}
 use lib.ListN.{length}
 use Rattle.attachment.specs.Attached.{among}
-use Rattle.state.specs.Running.{latest}
+use Rattle.state.specs.Inner.{latest}
 use Rattle.chapter_verse.proofs.Seen.{seen-here, seen-past, seen-none}
 use borrow.Author.Needs.{needs}
 use Rattle.chapter_verse.proofs.is_among_few.Statement.{statement}

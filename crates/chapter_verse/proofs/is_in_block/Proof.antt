@@ -7,7 +7,7 @@ use native.Mathlib.Omega.{arith}
 use native.Mathlib.Nat.{add-zero}
 use mathlib.Core.Path.{_≡_, refl, ap, _∙_}
 use Rattle.attachment.specs.Attached.{among}
-use Rattle.state.specs.Running.{latest}
+use Rattle.state.specs.Inner.{latest}
 use Rattle.chapter_verse.proofs.Seen.{block-more}
 use borrow.Author.Needs.{needs}
 use Rattle.chapter_verse.proofs.is_in_block.Statement.{statement}

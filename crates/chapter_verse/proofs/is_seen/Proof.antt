@@ -7,7 +7,7 @@ use mathlib.Core.Bool.{Bool, true, false, _||_}
 use denote.Ref.{now}
 use lib.ListN.{length}
 use Rattle.attachment.specs.Attached.{among}
-use Rattle.state.specs.Running.{latest}
+use Rattle.state.specs.Inner.{latest}
 use borrow.Author.Needs.{needs}
 use Rattle.chapter_verse.proofs.is_seen.Statement.{statement}
 use Rattle.chapter_verse.proofs.is_seen.Tie as tie

@@ -13,7 +13,7 @@ use Rattle.findings.specs.declared.Counts.{Counts}
 use Rattle.definition.specs.State.{WalkState, WalkContext}
 use Rattle.numbers.specs.Verse.{Position}
 use Rattle.definition.specs.Checks.{Check, given, about, isEmpty, breaks, numberForm, verseChecks}
-use Rattle.state.specs.Running.{stateOf, countsOf, contextOf}
+use Rattle.state.specs.Inner.{stateOf, countsOf, contextOf}
 use Rattle.chapter_verse.proofs.Givens.{Due, due-start, due-room, due-wrote, due-rest, due-all}
 use Rattle.chapter_verse.proofs.Positions.{low-read}
 use Rattle.chapter_verse.proofs.Checked.{stray, crossing, bareVerse, amiss, is-bare, is-amiss, says-amiss}

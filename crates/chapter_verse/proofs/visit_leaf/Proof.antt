@@ -13,7 +13,7 @@ use Rattle.tape.specs.Nodes.{Node, nodeAt}
 use Rattle.table.specs.Entries.{Entry, infoOf}
 use Rattle.numbers.specs.Label.{numbered}
 use Rattle.definition.specs.State.{WalkState}
-use Rattle.state.specs.Running.{stateOf, contextOf, countsOf}
+use Rattle.state.specs.Inner.{stateOf, contextOf, countsOf}
 use Rattle.chapter_verse.specs.Inner.{LabelRead}
 use Rattle.chapter_verse.proofs.Checked.{label-read}
 use Rattle.chapter_verse.proofs.Passing.{room-chapter, visited-chapter, room-verse, visited-verse, visited-other}

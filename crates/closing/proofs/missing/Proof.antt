@@ -8,7 +8,7 @@ use Rattle.findings.specs.declared.Counts.{Counts}
 use Rattle.findings.specs.Finding.{findingOf}
 use Rattle.definition.specs.Checks.{Check, given}
 use Rattle.chapter_verse.proofs.Givens.{Due, due-start, due-room, due-wrote, due-end}
-use Rattle.closing.specs.Ends.{missingChecks}
+use Rattle.closing.specs.Inner.{missingChecks}
 use Rattle.closing.proofs.Lacking.{noId, noChapter, is-no-id, is-no-chapter}
 use borrow.Author.Needs.{needs}
 use Rattle.closing.proofs.missing.Statement.{statement}

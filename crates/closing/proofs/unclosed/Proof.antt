@@ -2,8 +2,8 @@
 -- The walk of `closing::unclosed`.
 use Rattle.reference_laws.proofs.Walk.{_≡_, refl, sym, _∙_, full, empty, InvImage·wf, ℕ, _<_, _^_, _+_, _-_, _*_, [], _∷_, List, length, getD, Nat·lt-wfRel, lit<, ltb→lt, nltb→le, URA, fullShare, w64, tyPtr, vint, vptr, fat, Heap, Env, Tables, Atoms, givenOf, tables, Given, Item, ‵, _$_, !, move, keep, rewrite, look, look-raw, store, init, forget, stop, hop, from, load, lit, of-opd, bin, and-then, no-more, assigns, assigns-last, again, Is, u8, u64, place-is, heard, if-then, skip-then, exit-then, loop-then, fatVal, HasMut, HasShr, of-struct, Rule, rule-of, Knows, calls-any, Facing, WalkFor, proves, ends, say, span, env-of, Stands, cell, cell-field, sets, relands-at, reslices, opens-elem, back-elem, calls-into}
 use Rattle.definition.specs.Outcome.{noStart}
-use Rattle.state.specs.Running.{countsOf}
-use Rattle.closing.specs.Ends.{UnclosedReady}
+use Rattle.state.specs.Inner.{countsOf}
+use Rattle.closing.specs.Inner.{UnclosedReady}
 use Rattle.closing.proofs.Starts.{Told, unclosed-none, unclosed-all, unclosed-inside, unclosed-ready, unclosed-more}
 use Rattle.reference_laws.proofs.Sizes.{scaled, more-fits, nearer}
 use prog.Wp.{afterTurn}

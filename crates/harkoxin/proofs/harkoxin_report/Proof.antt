@@ -1,9 +1,8 @@
 -- Written by proof_writer/write from proof_writer/descriptions/harkoxin.py, from the code and its contracts.
 -- The walk of `harkoxin::harkoxin_report`.
 use Rattle.reference_laws.proofs.Walk.{_≡_, refl, _∙_, _⊎_, inl, inr, ℕ, _≤_, _*_, [], _∷_, List, length, lit<, URA, PosShare·left, PosShare·right, w64, vint, Heap, Tables, Atoms, givenOf, tables, Lfts, Shares, toks, Given, _$_, !, move, keep, stop, from, lit, unit-lit, addr, of-opd, and-then, no-more, uint-lawful, uint-makes, agg, u8, u32, u64, SizeOf, At, of-enum, Inputs, Rule, rule-of, Knows, WalkIn, proves-by, halves, whole-again, refs, inputs, ends, span, as-long, array, fills-array, cell, cell-field, cell-variant, cell-tag, sets, reslices, arm-of, calls-into, lends-array, backs-array, lends-array-shr, backs-array-shr, frees-array}
-use Rattle.validate.specs.Entry.{answerOf, fromTable}
+use Rattle.validate.specs.Entry.{answerOf}
 use Rattle.tape.specs.Forest.{Accepted}
-use Rattle.table.specs.Entries.{Indexed}
 use Rattle.harkoxin.specs.Report.{heldOf}
 use mathlib.Core.Option.{none}
 use Rattle.harkoxin.proofs.Reporting.{turned-words, turned-text, turned-ends, held-requires, held-words, held-text, held-ends}
@@ -29,6 +28,8 @@ use Rattle.validate.proofs.check_input as check-input-F
 use Rattle.harkoxin.proofs.write_turned_back as write-turned-back-F
 use Rattle.validate.proofs.passed as passed-F
 use Rattle.harkoxin.proofs.write_held as write-held-F
+use Rattle.validate.specs.Inner.{fromTable}
+use Rattle.table.specs.Inner.{Indexed}
 
 cases-InputCheck : (r : InputCheck) → (((a0 : ℕ) × (r ≡ InputCheck-V.Accepted a0)) ⊎ ((a0 : ℕ) × (a1 : ℕ) × (r ≡ InputCheck-V.Refused a0 a1)))
 cases-InputCheck (InputCheck-V.Accepted a0) = inl (a0, refl)

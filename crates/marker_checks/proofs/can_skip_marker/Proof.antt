@@ -6,8 +6,8 @@ use denote.Ref.{now}
 use mathlib.Core.Path.{_≡_, ap, _∙_}
 use mathlib.Core.Bool.{Bool, not}
 use Rattle.tape.specs.Forest.{forest}
-use Rattle.marker_checks.specs.Own.{childrenAt}
-use Rattle.marker_checks.specs.Skip.{onlyTexts, hasOwnCheck}
+use Rattle.marker_checks.specs.InnerVisit.{childrenAt}
+use Rattle.marker_checks.specs.InnerSkip.{onlyTexts, hasOwnCheck}
 use Rattle.marker_checks.proofs.Flags.{both-holds, both-fails}
 use Rattle.marker_checks.proofs.can_skip_marker.Statement.{statement}
 use Rattle.marker_checks.proofs.can_skip_marker.Tie as tie

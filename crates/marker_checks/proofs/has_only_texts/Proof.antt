@@ -5,7 +5,7 @@ use denote.Ref.{now}
 use mathlib.Core.Path.{refl, sym, _∙_}
 use native.Mathlib.Omega.{arith}
 use Rattle.cursor.proofs.Runs.{run-below, past-later}
-use Rattle.marker_checks.specs.Skip.{onlyTexts}
+use Rattle.marker_checks.specs.InnerSkip.{onlyTexts}
 use Rattle.marker_checks.proofs.Children.{Along, along-next, along-end}
 use Rattle.marker_checks.proofs.Skip.{texts-other, texts-past, texts-none}
 use Rattle.marker_checks.proofs.has_only_texts.Statement.{statement}

@@ -14,12 +14,13 @@ use Rattle.tape.specs.Forest.{forest}
 use Rattle.findings.specs.declared.Counts.{Counts}
 use Rattle.findings.proofs.Overlay.{Left, left-start}
 use Rattle.definition.proofs.Givens.{given-room, given-wrote, given-end}
-use Rattle.definition.specs.Checks.{Check, given, bookCode, isBook, upper, warning}
-use Rattle.state.specs.Running.{stateOf}
+use Rattle.definition.specs.Checks.{Check, given, bookCode, isBook, warning}
+use Rattle.state.specs.Inner.{stateOf}
 use Rattle.marker_checks.proofs.Whole.{idPart}
 use Rattle.marker_checks.proofs.Flags.{both-holds, id-none}
 use Rattle.marker_checks.proofs.id_findings.Statement.{statement}
 use Rattle.marker_checks.proofs.id_findings.Tie as tie
+use Rattle.text.specs.Bytes.{upper}
 use borrow.Author.Tests.{not-true, not-false}
 
 abbrev checks : tie.Start → List Check

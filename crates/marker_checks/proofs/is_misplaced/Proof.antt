@@ -3,12 +3,12 @@
 use borrow.Author.Needs.{needs}
 use mathlib.Core.Path.{ap, _∙_}
 use mathlib.Core.Bool.{not}
-use Rattle.table.specs.Bytes.{oneOf}
 use Rattle.attachment.specs.Attached.{startsOf, among}
 use Rattle.definition.specs.Checks.{numberMarkers}
 use Rattle.marker_checks.proofs.Flags.{both-holds, both-fails}
 use Rattle.marker_checks.proofs.is_misplaced.Statement.{statement}
 use Rattle.marker_checks.proofs.is_misplaced.Tie as tie
+use Rattle.text.specs.Bytes.{oneOf}
 use borrow.Author.Tests.{not-true, not-false}
 
 is-number-marker-requires : tie.Need-is-number-marker-requires

@@ -12,19 +12,19 @@ use Rattle.tape.specs.Forest.{forest}
 use Rattle.findings.specs.declared.Counts.{Counts}
 use Rattle.findings.proofs.Overlay.{Left, left-start}
 use Rattle.definition.proofs.Givens.{given-room, given-wrote, given-end}
-use Rattle.table.specs.Bytes.{equal, oneOf}
 use Rattle.table.specs.Entries.{entryOfInfo}
 use Rattle.cursor.specs.Names.{nameOf}
 use Rattle.cursor.proofs.Runs.{run-below, run-spanned}
 use Rattle.attachment.specs.Attached.{among}
 use Rattle.definition.specs.Checks.{Check, given, bName, inlineContent, numberMarkers, attachedTo}
-use Rattle.state.specs.Running.{contextOf, anchorOf}
-use Rattle.marker_checks.specs.Own.{childrenAt}
+use Rattle.state.specs.Inner.{contextOf, anchorOf}
+use Rattle.marker_checks.specs.InnerVisit.{childrenAt}
 use Rattle.marker_checks.proofs.Children.{children}
 use Rattle.marker_checks.proofs.Whole.{placePart}
 use Rattle.marker_checks.proofs.Flags.{attached-is}
 use Rattle.marker_checks.proofs.place_findings.Statement.{statement}
 use Rattle.marker_checks.proofs.place_findings.Tie as tie
+use Rattle.text.specs.Bytes.{equal, oneOf}
 
 abbrev checks : tie.Start → List Check
 checks c = let a = c .args in placePart (now (a .source)) (now (a .tape)) (a .i) (a .to) (contextOf (a .context)) (entryOfInfo (a .m)) (now (a .name)) (a .rec)

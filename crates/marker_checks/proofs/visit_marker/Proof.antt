@@ -9,15 +9,15 @@ use Rattle.tape.specs.Forest.{forest}
 use Rattle.table.specs.Entries.{entryOfInfo}
 use Rattle.cursor.proofs.Runs.{run-below, run-spanned}
 use Rattle.findings.specs.Finding.{Finding}
-use Rattle.findings.specs.Written.{Room}
 use Rattle.definition.specs.Checks.{Check, given}
-use Rattle.state.specs.Running.{contextOf, anchorOf, startsFor}
+use Rattle.state.specs.Inner.{contextOf, anchorOf, startsFor}
 use Rattle.state.specs.declared.State.{State}
 use Rattle.marker_checks.proofs.Children.{children}
 use Rattle.marker_checks.proofs.Whole.{idPart, placePart, contentPart, rowPart, attributePart, room-id, room-place, room-content, room-row, room-attributes, wrote-all, own-room, marked}
 use Rattle.marker_checks.proofs.visit_marker.Statement.{statement}
 use Rattle.marker_checks.proofs.visit_marker.Tie as tie
 use Rattle.text.specs.Literal.{ascii}
+use Rattle.findings.specs.Inner.{Room}
 
 abbrev ids : tie.After-counts → List Check
 ids c = let a = c .before .before .before .before .before .before .before .before .before .before .args in idPart (now (a .source)) (now (a .tape)) (a .i) (a .rec) (c .before .before .before .before .link-at .result) (c .before .before .same .result)

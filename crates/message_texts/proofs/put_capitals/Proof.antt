@@ -7,11 +7,11 @@ use mathlib.Core.Logic.{⊎-elim}
 use borrow.Author.Tests.{ltb-true, ltb-false}
 use denote.Ref.{now}
 use lib.ListN.{length}
-use Rattle.definition.specs.Checks.{upper}
 use Rattle.buffer.proofs.Writing.{Writing, writing-start, writing-full, writing-end}
 use Rattle.message_texts.proofs.Capitals.{length-upper, capitals-on}
 use Rattle.message_texts.proofs.put_capitals.Statement.{statement}
 use Rattle.message_texts.proofs.put_capitals.Tie as tie
+use Rattle.text.specs.Bytes.{upper}
 
 abbrev Inv-loop : tie.InvT-loop
 Inv-loop out₀ at s i₀ out i = Writing (upper s) out₀ at out i

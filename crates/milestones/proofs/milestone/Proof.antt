@@ -4,7 +4,7 @@ use Rattle.reference_laws.proofs.Walk.{refl, _<_, [], _∷_, length, URA, Heap,
 use Rattle.tape.specs.Nodes.{count}
 use Rattle.table.specs.Entries.{entryOfInfo}
 use Rattle.cursor.specs.Inner.{Spanned}
-use Rattle.state.specs.Running.{Opens}
+use Rattle.state.specs.Inner.{Opens}
 use Rattle.milestones.specs.Inner.{Placed, Countable}
 use Rattle.milestones.proofs.Whole.{countable, milestoned}
 use Rattle.milestones.proofs.Pairing.{read-placed}

@@ -1,7 +1,7 @@
 -- Written by proof_writer/write from proof_writer/descriptions/milestones.py, from the code and its contracts.
 -- The walk of `milestones::pair`.
 use Rattle.reference_laws.proofs.Walk.{_≡_, refl, _∙_, _⊎_, inl, inr, ℕ, _<_, _≤_, _^_, _+_, _-_, [], _∷_, length, URA, Heap, Tables, Atoms, givenOf, tables, Given, _$_, !, move, keep, lit, of-opd, bin, and-then, no-more, agg, Is, of-enum, Rule, rule-of, Knows, Facing, WalkFor, proves, ends, span, cell, cell-variant, cell-tag, sets, reslices, arm-of, calls-into}
-use Rattle.state.specs.Running.{Opens}
+use Rattle.state.specs.Inner.{Opens}
 use Rattle.milestones.proofs.Pairing.{first-of, pair-neither, pair-start, placed, pair-end, pair-alone, end-inside, known-room}
 use Rattle.reference_laws.proofs.Sizes.{less-fits, more-fits}
 use prog.Wp.{afterTurn}

@@ -8,13 +8,13 @@ use Rattle.tape.specs.Nodes.{count}
 use Rattle.refusals.specs.Refusal.{firstBad, splitLabel}
 use Rattle.tape.specs.Forest.{Accepted}
 use Rattle.refusals.proofs.First.{first-end}
-use Rattle.table.specs.Entries.{Indexed}
 use Rattle.numbers.specs.Label.{badLabel, labelRefusal, labelCheckRefusal}
 use Rattle.numbers.proofs.Gathered.{first-there, first-later}
 use Rattle.numbers.proofs.Labels.{all-labels}
 use borrow.Author.Needs.{needs}
 use Rattle.numbers.proofs.label_check.Statement.{statement}
 use Rattle.numbers.proofs.label_check.Tie as tie
+use Rattle.table.specs.Inner.{Indexed}
 
 abbrev Inv-loop : tie.InvT-loop
 Inv-loop table index entries source tape n i₀ i = (Indexed table index entries) × (Accepted source tape) × (n ≡ count tape) × (1 ≤ i) × (firstBad splitLabel (badLabel table source tape) i (n - i) ≡ labelRefusal table source tape)

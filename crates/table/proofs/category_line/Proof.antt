@@ -4,7 +4,6 @@ use borrow.Author.Needs.{needs}
 use denote.Ref.{now}
 use mathlib.Core.Path.{refl, _∙_}
 use native.Mathlib.Omega.{arith}
-use Rattle.table.specs.Bytes.{all}
 use Rattle.table.specs.Lines.{categoryKey, categories}
 use Rattle.table.specs.Books.{codeFrom}
 use Rattle.table.specs.Inner.{stepOf}
@@ -13,6 +12,7 @@ use Rattle.table.proofs.Steps.{Read, line-read}
 use Rattle.table.proofs.category_line.Statement.{statement}
 use Rattle.table.proofs.category_line.Tie as tie
 use Rattle.text.specs.Literal.{ascii}
+use Rattle.text.specs.Bytes.{all}
 
 sub-behind : tie.Need-sub-behind
 sub-behind c = search needs

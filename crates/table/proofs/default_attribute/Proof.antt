@@ -7,7 +7,6 @@ use denote.Ref.{now}
 use mathlib.Core.Path.{_≡_, sym, ap, _∙_}
 use mathlib.Core.Option.{Option, some, none}
 use Rattle.table.specs.Books.{codeFrom}
-use Rattle.table.specs.Bytes.{starting}
 use Rattle.table.specs.Names.{qt, defaultOf}
 use Rattle.table.specs.Inner.{valueOf, linesOf, attributeBy}
 use Rattle.table.proofs.Positions.{owners, default-is}
@@ -15,6 +14,7 @@ use Rattle.table.proofs.default_attribute.Statement.{statement}
 use Rattle.table.proofs.default_attribute.Tie as tie
 use Rattle.text.specs.Pick.{pick}
 use Rattle.text.specs.Literal.{ascii}
+use Rattle.text.specs.Bytes.{starting}
 
 slice-aggregate-word-in : tie.Need-slice-aggregate-word-in
 slice-aggregate-word-in c = search needs

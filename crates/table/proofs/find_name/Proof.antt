@@ -4,11 +4,12 @@ use Prim.Native.Nat.{_≤_, _-_}
 use lib.ListN.{drop}
 use mathlib.Core.Path.{_≡_, refl, sym, _∙_}
 use native.Mathlib.Omega.{arith}
-use Rattle.table.specs.Entries.{entries, Indexed}
+use Rattle.table.specs.Entries.{entries}
 use Rattle.table.specs.Names.{namedFrom, entryNamed}
 use Rattle.table.proofs.Unpack.{inside, name-hit, name-miss, name-none}
 use Rattle.table.proofs.find_name.Statement.{statement}
 use Rattle.table.proofs.find_name.Tie as tie
+use Rattle.table.specs.Inner.{Indexed}
 
 abbrev Inv-loop : tie.InvT-loop
 Inv-loop table index n name k₀ k = (k ≤ n) × (Indexed table index n) × (entryNamed table name ≡ namedFrom table k (drop k (entries table)) name)

@@ -7,7 +7,6 @@ use mathlib.Core.Bool.{false≢true}
 use mathlib.Core.List.{[]}
 use mathlib.Core.Path.{refl, sym, _∙_}
 use native.Mathlib.Omega.{arith}
-use Rattle.table.specs.Bytes.{equal, all}
 use Rattle.table.specs.Lines.{roles}
 use Rattle.table.specs.Books.{codeFrom}
 use Rattle.table.proofs.Words.{every}
@@ -16,6 +15,7 @@ use Rattle.table.proofs.Heads.{front, front-there, words-absent}
 use Rattle.table.proofs.role_step.Statement.{statement}
 use Rattle.table.proofs.role_step.Tie as tie
 use Rattle.text.specs.Literal.{ascii}
+use Rattle.text.specs.Bytes.{equal, all}
 
 head-requires : tie.Need-head-requires
 head-requires c κs = search needs

@@ -5,10 +5,10 @@ use Prim.Native.Nat.{_-_}
 use lib.ListN.{length, drop}
 use mathlib.Core.Path.{_≡_, refl, sym, _∙_}
 use native.Mathlib.Omega.{arith}
-use Rattle.table.specs.Bytes.{equal}
 use Rattle.table.proofs.Words.{equal-past, equal-stops, equal-ends}
 use Rattle.table.proofs.same_from.Statement.{statement}
 use Rattle.table.proofs.same_from.Tie as tie
+use Rattle.text.specs.Bytes.{equal}
 
 abbrev Inv-loop : tie.InvT-loop
 Inv-loop a b from i₀ i = (length a ≡ length b) × (equal (drop from a) (drop from b) ≡ equal (drop i a) (drop i b))

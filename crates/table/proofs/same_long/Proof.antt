@@ -9,10 +9,10 @@ use lib.ListN.{length, drop}
 use mathlib.Core.Bool.{Bool, true, false, _&&_}
 use mathlib.Core.Path.{_≡_, refl, sym, _∙_}
 use native.Mathlib.Omega.{arith}
-use Rattle.table.specs.Bytes.{equal}
 use Rattle.table.proofs.Blocks.{block, ending, ends-apart, ends-same}
 use Rattle.table.proofs.same_long.Statement.{statement}
 use Rattle.table.proofs.same_long.Tie as tie
+use Rattle.text.specs.Bytes.{equal}
 
 abbrev Inv-loop : tie.InvT-loop
 Inv-loop a b last i₀ i =

@@ -4,7 +4,7 @@ use mathlib.Core.Path.{_≡_, refl}
 use Prim.Native.Nat.{_≤_, _+_, _-_}
 use native.Mathlib.Omega.{arith}
 use lib.ListN.{length}
-use Rattle.text.specs.Scans.{Ascii}
+use Rattle.text.specs.Inner.{Ascii}
 use Rattle.text.proofs.Ascii.{none, one, joined}
 use Rattle.text.proofs.ascii_end.Statement.{statement}
 use Rattle.text.proofs.ascii_end.Tie as tie

@@ -8,7 +8,7 @@ use native.Mathlib.Omega.{arith}
 use Rattle.text.proofs.Chars.{past, stops, ends, in-text}
 use Rattle.text.proofs.Chars.{tested}
 use Rattle.text.specs.Characters.{find}
-use Rattle.text.specs.Scans.{blankIs}
+use Rattle.text.specs.Inner.{blankIs}
 use Rattle.text.specs.declared.Decoded.{Decoded}
 use Rattle.text.proofs.find_from.Statement.{statement}
 use Rattle.text.proofs.find_from.Tie as tie

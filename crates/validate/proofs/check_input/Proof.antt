@@ -1,12 +1,12 @@
 -- `validate::check_input` meets its contract.
 -- Assumes nothing.
 use mathlib.Core.Option.{none}
-use Rattle.validate.specs.Entry.{fromSource}
 use denote.Ref.{now}
 use Rattle.validate.proofs.Input.{then-none, table-bad, table-good, table-index, accepted-index}
 use borrow.Author.Needs.{needs}
 use Rattle.validate.proofs.check_input.Statement.{statement}
 use Rattle.validate.proofs.check_input.Tie as tie
+use Rattle.validate.specs.Inner.{fromSource}
 
 index-requires : tie.Need-index-requires
 index-requires c κs = search needs

@@ -1,9 +1,8 @@
 -- Written by proof_writer/write from proof_writer/descriptions/validate.py, from the code and its contracts.
 -- The walk of `validate::checked`.
 use Rattle.reference_laws.proofs.Walk.{refl, sym, ap, _∙_, ℕ, _≤_, _/_, [], _∷_, length, URA, Heap, Tables, Atoms, givenOf, tables, Given, _$_, !, move, keep, of-opd, and-then, no-more, Rule, rule-of, Knows, calls-any, Facing, WalkFor, proves, ends, span, cell, cell-field, sets, relands-at, reslices, calls-into}
-use Rattle.findings.specs.Written.{total, countLimit}
-use Rattle.state.specs.Running.{countsOf}
-use Rattle.validate.specs.Entry.{Fit}
+use Rattle.findings.specs.Written.{total}
+use Rattle.state.specs.Inner.{countsOf}
 use Rattle.validate.proofs.Course.{seen-inside, opens-inside, finished-whole}
 use prog.Wp.{afterTurn}
 use contract.Running.{tablesOf}
@@ -21,6 +20,8 @@ use Rattle.validate.proofs.node_count as node-count-F
 use Rattle.closing.proofs.clear_seen as clear-seen-F
 use Rattle.closing.proofs.clear_opens as clear-opens-F
 use Rattle.validate.proofs.reported as reported-F
+use Rattle.findings.specs.Inner.{countLimit}
+use Rattle.validate.specs.Inner.{Fit}
 
 module _ {M : Type 1} (𝓤 : URA M) (H : Heap 𝓤) (A : Atoms 𝓤) (W : Given 𝓤 H A) (𝓣 : Tables 𝓤 H) (known-run : Knows 𝓤 H A (𝓣 .C) run-C.terms) (known-node-count : Knows 𝓤 H A (𝓣 .C) node-count-C.terms) (known-clear-seen : Knows 𝓤 H A (𝓣 .C) clear-seen-C.terms) (known-clear-opens : Knows 𝓤 H A (𝓣 .C) clear-opens-C.terms) (known-reported : Knows 𝓤 H A (𝓣 .C) reported-C.terms) where
   pub walk : Facing (checked-C.terms .sorts) (WalkFor 𝓤 H A W (𝓣 .C) (𝓣 .Λ) code.function checked-C.terms)

@@ -1,7 +1,6 @@
 -- Written by proof_writer/write from proof_writer/descriptions/validate.py, from the code and its contracts.
 -- The walk of `validate::passed`.
 use Rattle.reference_laws.proofs.Walk.{refl, subst, _≤_, [], _∷_, _++_, length, take, skip, URA, Heap, Tables, Atoms, givenOf, tables, Given, _$_, !, move, keep, stop, hop, fld, from, addr, and-then, no-more, agg, whole, sub, look-in, u32, SizeOf, part, part-length, Rule, rule-of, Knows, Facing, WalkFor, proves, ends, span, cell, sets, reslices, calls-into, lends-part, backs-part}
-use Rattle.validate.specs.Entry.{Fit}
 use Rattle.validate.proofs.Through.{part-seen, part-opens, part-fit, through}
 use prog.Wp.{afterTurn}
 use contract.Running.{tablesOf}
@@ -14,6 +13,7 @@ use Rattle.validate.proofs.passed.Statement as stated
 use Rattle.validate.proofs.passed.Key as key
 use Rattle.validate.proofs.node_count as node-count-F
 use Rattle.validate.proofs.checked as checked-F
+use Rattle.validate.specs.Inner.{Fit}
 
 module _ {M : Type 1} (𝓤 : URA M) (H : Heap 𝓤) (A : Atoms 𝓤) (W : Given 𝓤 H A) (𝓣 : Tables 𝓤 H) (known-node-count : Knows 𝓤 H A (𝓣 .C) node-count-C.terms) (known-checked : Knows 𝓤 H A (𝓣 .C) checked-C.terms) where
   pub walk : Facing (passed-C.terms .sorts) (WalkFor 𝓤 H A W (𝓣 .C) (𝓣 .Λ) code.function passed-C.terms)

@@ -3,11 +3,9 @@
 use Rattle.reference_laws.proofs.Walk.{_≡_, refl, _∙_, false, _<_, _^_, [], _∷_, lit<, URA, Heap, Tables, Atoms, givenOf, tables, Given, _$_, !, move, keep, stop, from, lit, false-lit, addr, of-opd, un, and-then, no-more, agg, Is, local, of-struct, Rule, rule-of, Knows, Facing, WalkFor, proves, ends, span, cell, sets, resets, reslices, calls-into, lends-local, backs-local}
 use Rattle.tape.specs.Nodes.{linkAt, count}
 use Rattle.cursor.specs.Inner.{Run}
-use Rattle.state.specs.Running.{countsOf, contextOf}
-use Rattle.validate.specs.Entry.{Endable}
-use Rattle.findings.specs.Written.{Room}
-use Rattle.walk.specs.Walking.{Ready, walkAt}
-use Rattle.closing.specs.Ends.{Left}
+use Rattle.state.specs.Inner.{countsOf, contextOf}
+use Rattle.walk.specs.Inner.{Ready, walkAt}
+use Rattle.closing.specs.Inner.{Left}
 use Rattle.validate.proofs.Course.{first-run, walk-asks, left-asks, end-asks, ran-whole}
 use Rattle.reference_laws.proofs.Sizes.{wide}
 use Rattle.tape.proofs.OneNumber.{some-nodes}
@@ -33,6 +31,8 @@ use Rattle.validate.proofs.begun as begun-F
 use Rattle.walk.proofs.walk as walk-F
 use Rattle.closing.proofs.unclosed as unclosed-F
 use Rattle.validate.proofs.ended as ended-F
+use Rattle.validate.specs.Inner.{Endable}
+use Rattle.findings.specs.Inner.{Room}
 
 module _ {M : Type 1} (𝓤 : URA M) (H : Heap 𝓤) (A : Atoms 𝓤) (W : Given 𝓤 H A) (𝓣 : Tables 𝓤 H) (known-link-at : Knows 𝓤 H A (𝓣 .C) link-at-C.terms) (known-begun : Knows 𝓤 H A (𝓣 .C) begun-C.terms) (known-walk : Knows 𝓤 H A (𝓣 .C) walk-C.terms) (known-unclosed : Knows 𝓤 H A (𝓣 .C) unclosed-C.terms) (known-ended : Knows 𝓤 H A (𝓣 .C) ended-C.terms) where
   pub walk : Facing (run-C.terms .sorts) (WalkFor 𝓤 H A W (𝓣 .C) (𝓣 .Λ) code.function run-C.terms)

@@ -3,7 +3,7 @@
 mod OfVisit
 mod OfWalk
 use Rattle.reference_laws.proofs.Walk.{refl, subst, ℕ, _<_, _+_, _*_, Nat·lt-wfRel, T, URA, SProp, Memory, Routine, Heap, WpFn, Tables, Atoms, Fun, givenOf, tables, tripleOf, measured, at-on, mutual-elim, rule-of, bound-at, walks-under}
-use Rattle.walk.specs.Walking.{below}
+use Rattle.walk.specs.Inner.{below}
 use contract.Running.{tablesOf}
 use Rattle.walk.proofs.+visit+walk as cycle
 use Rattle.walk.proofs.+visit+walk.Code as code

@@ -6,7 +6,7 @@ use mathlib.Core.Path.{refl, sym, _∙_}
 use native.Mathlib.Omega.{arith}
 use Rattle.cursor.proofs.Runs.{run-below, past-later}
 use Rattle.marker_checks.proofs.Children.{Along, along-next, along-end}
-use Rattle.walk.specs.Walking.{canSkipChildren}
+use Rattle.walk.specs.Inner.{canSkipChildren}
 use Rattle.walk.proofs.Skipped.{skipped-marker, skipped-chapter, skipped-verse, skipped-past, skipped-end}
 use Rattle.walk.proofs.can_skip_children.Statement.{statement}
 use Rattle.walk.proofs.can_skip_children.Tie as tie

@@ -2,11 +2,9 @@
 -- The walk of `walk::visit_leaf`.
 use Rattle.reference_laws.proofs.Walk.{refl, sym, _∙_, _<_, [], _∷_, length, URA, Heap, Tables, Atoms, givenOf, tables, Given, _$_, !, move, keep, look, look-raw, store-raw, init, stop, hop, from, load, of-opd, and-then, no-more, assigns, first, if-then, skip-then, is-true, is-false, of-struct, Rule, rule-of, Knows, Facing, WalkFor, proves, ends, span, cell, sets, reslices, opens-ref, shuts-ref, calls-into}
 use Rattle.tape.specs.Nodes.{nodeAt, count as nodes}
-use Rattle.table.specs.Entries.{Indexed}
 use Rattle.cursor.specs.Inner.{Run, Spanned}
-use Rattle.findings.specs.Written.{Room}
 use Rattle.definition.specs.Checks.{leafChecked}
-use Rattle.state.specs.Running.{stateOf, contextOf, countsOf, VerseBounded}
+use Rattle.state.specs.Inner.{stateOf, contextOf, countsOf, VerseBounded}
 use Rattle.walk.proofs.Steps.{leafy-asks, was-number, was-other}
 use prog.Wp.{afterTurn}
 use contract.Running.{tablesOf}
@@ -25,6 +23,8 @@ use Rattle.walk.proofs.visit_leaf.Key as key
 use Rattle.walk.proofs.is_number as is-number-F
 use Rattle.walk.proofs.leaf as leaf-F
 use Rattle.walk.proofs.numbers_after as numbers-after-F
+use Rattle.table.specs.Inner.{Indexed}
+use Rattle.findings.specs.Inner.{Room}
 
 module _ {M : Type 1} (𝓤 : URA M) (H : Heap 𝓤) (A : Atoms 𝓤) (W : Given 𝓤 H A) (𝓣 : Tables 𝓤 H) (known-is-number : Knows 𝓤 H A (𝓣 .C) is-number-C.terms) (known-leaf : Knows 𝓤 H A (𝓣 .C) leaf-C.terms) (known-numbers-after : Knows 𝓤 H A (𝓣 .C) numbers-after-C.terms) where
   pub walk : Facing (visit-leaf-C.terms .sorts) (WalkFor 𝓤 H A W (𝓣 .C) (𝓣 .Λ) code.function visit-leaf-C.terms)

@@ -5,12 +5,11 @@ use Rattle.tape.specs.Nodes.{kindAt, isOpen, count, linkAt}
 use Rattle.tape.specs.Forest.{forest}
 use Rattle.table.specs.Entries.{entryOfInfo}
 use Rattle.cursor.specs.Inner.{Run}
-use Rattle.findings.specs.Written.{Room}
 use Rattle.attachment.specs.Attached.{startsOf}
-use Rattle.state.specs.Running.{contextOf, anchorOf, startsFor, countsOf}
-use Rattle.walk.specs.Walking.{Ready, Visitable, walkAt, visitFindings, below}
-use Rattle.marker_checks.specs.Own.{ownAt}
-use Rattle.milestones.specs.Steps.{Steppable}
+use Rattle.state.specs.Inner.{contextOf, anchorOf, startsFor, countsOf}
+use Rattle.walk.specs.Inner.{Ready, Visitable, walkAt, visitFindings, below}
+use Rattle.marker_checks.specs.InnerVisit.{ownAt}
+use Rattle.milestones.specs.InnerStep.{Steppable}
 use Rattle.walk.proofs.Visiting.{visit-run, visit-children, visit-below, own-room, visit-deep, visit-with, Entered, Inner, steppable, visited-skipped, enters, inner-run, visited-still, inner-asks, inner-less, visited-whole, next-fits}
 use Rattle.reference_laws.proofs.Sizes.{less-fits, wide}
 use prog.Wp.{afterTurn}
@@ -40,6 +39,7 @@ use Rattle.walk.proofs.CallInside as inside-C
 use Rattle.walk.proofs.CallWalk as walk-C
 use Rattle.walk.proofs.+visit+walk.Code as code
 use Rattle.walk.proofs.+visit+walk.Code.visit as mir-of
+use Rattle.findings.specs.Inner.{Room}
 
 -- what is known of the cycle below what is passed
 abbrev pub Self : {M : Type 1} (𝓤 : URA M) (H : Heap 𝓤) (A : Atoms 𝓤) (C : Calls 𝓤 H) → Inputs (visit-C.terms .sorts) → Type 1

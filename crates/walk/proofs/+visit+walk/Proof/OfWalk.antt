@@ -3,11 +3,10 @@
 use Rattle.reference_laws.proofs.Walk.{_≡_, refl, _∙_, full, empty, _⊎_, inl, inr, InvImage·wf, ℕ, _<_, _≤_, _^_, _+_, _-_, _*_, [], _∷_, List, length, Nat·lt-wfRel, ltb→lt, nltb→le, URA, w64, vint, Heap, Env, Calls, Tables, Atoms, Given, Item, ‵, atRet, runs, _$_, !, move, keep, Sq, look, init, forget, stop, hop, fld, from, load, unit-lit, addr, of-opd, bin, and-then, no-more, assigns, land-last, again, whole, sub, look-in, Is, u8, u32, u64, SizeOf, heard, if-then, skip-then, exit-then, loop-then, At, ptrVal, fatVal, HasRef, HasMut, HasShr, of-struct, of-enum, Inputs, Rule, rule-of, Met, Knows, calls-any, calls-met-last, WalkIn, Leaves, ends, say, span, env-of, Stands, cell, cell-variant, cell-tag, sets, relands-at, reslices, arm-of, opens-ref, shuts-ref, calls-into}
 use Rattle.tape.specs.Nodes.{count as nodes, count}
 use Rattle.tape.specs.Forest.{forest, Nested, Accepted}
-use Rattle.table.specs.Entries.{Indexed, entryOfInfo}
-use Rattle.findings.specs.Written.{Room}
+use Rattle.table.specs.Entries.{entryOfInfo}
 use Rattle.attachment.specs.Attached.{startsOf}
-use Rattle.state.specs.Running.{contextOf, anchorOf, startsFor, countsOf}
-use Rattle.walk.specs.Walking.{Ready, Visitable, Anchored, walkAt, visitFindings, Passable, below}
+use Rattle.state.specs.Inner.{contextOf, anchorOf, startsFor, countsOf}
+use Rattle.walk.specs.Inner.{Ready, Visitable, Anchored, walkAt, visitFindings, Passable, below}
 use Rattle.walk.proofs.Going.{Going, going-start, going-end, going-below, passable, going-nearer, going-past, visit-asks, going-visited}
 use Rattle.walk.proofs.Visiting.{same-depth}
 use prog.Wp.{afterTurn}
@@ -39,6 +38,8 @@ use Rattle.walk.proofs.CallMarker as marker-C
 use Rattle.walk.proofs.CallVisit as visit-C
 use Rattle.walk.proofs.+visit+walk.Code as code
 use Rattle.walk.proofs.+visit+walk.Code.walk as mir-of
+use Rattle.table.specs.Inner.{Indexed}
+use Rattle.findings.specs.Inner.{Room}
 
 cases-Info : (r : Info) → (((a0 : MarkerInfo) × (r ≡ Info-V.Known a0)) ⊎ (r ≡ Info-V.Missing))
 cases-Info (Info-V.Known a0) = inl (a0, refl)

@@ -7,11 +7,10 @@ use mathlib.Core.Option.{Option, some, none}
 use lib.ListN.{length}
 use Rattle.tape.specs.Nodes.{count, nodeAt, kindAt, linkAt, isOpen}
 use Rattle.tape.specs.Forest.{Forest, end, leaf, node, forest, Nested, Accepted}
-use Rattle.table.specs.Entries.{Entry, Indexed}
+use Rattle.table.specs.Entries.{Entry}
 use Rattle.cursor.specs.Steps.{pastNode}
 use Rattle.cursor.specs.Inner.{Run, Spanned}
 use Rattle.findings.specs.Finding.{Finding}
-use Rattle.findings.specs.Written.{Wrote, Room}
 use Rattle.numbers.specs.Label.{numbered}
 use Rattle.definition.specs.Checks.{leafChecked}
 use Rattle.attachment.specs.Attached.{startsOf, startOffsets, attachedNumbers}
@@ -21,9 +20,11 @@ use Rattle.definition.specs.State as state
 use Rattle.definition.specs.Walk.{openChecked, inside, walk}
 use Rattle.definition.specs.Walk as def
 use Rattle.definition.specs.declared.OpenStart.{OpenStart}
-use Rattle.state.specs.Running.{stateOf, countsOf, anchorOf, startsFor, VerseBounded, Opens}
+use Rattle.state.specs.Inner.{stateOf, countsOf, anchorOf, startsFor, VerseBounded, Opens}
 use Rattle.state.specs.declared.State.{State}
 use Rattle.text.specs.Pick.{pick}
+use Rattle.table.specs.Inner.{Indexed}
+use Rattle.findings.specs.Inner.{Wrote, Room}
 
 -- the anchor of a run stands before it among its siblings, which nest at most d deep, or there is none
 pub data Anchored (t : List ℕ) (d : ℕ) : ℕ → ℕ → Type 0 where

@@ -5,13 +5,13 @@ use mathlib.Core.List.{List, [], _∷_}
 use Rattle.tape.specs.Nodes.{count, nodeAt}
 use Rattle.findings.specs.Finding.{Finding}
 use Rattle.findings.specs.declared.Counts.{Counts}
-use Rattle.findings.specs.Written.{Room}
 use Rattle.definition.specs.Checks.{Check, when, error}
 use Rattle.definition.specs.declared.OpenStart.{OpenStart}
 use Rattle.definition.specs.Document.{ofDocument, unclosed}
-use Rattle.state.specs.Running.{openNodes, countsOf, Opens}
+use Rattle.state.specs.Inner.{openNodes, countsOf, Opens}
 use Rattle.state.specs.declared.State.{State}
 use Rattle.findings.specs.Codes.{milestoneMismatch, unclosedStart, missingIdMarker, missingChapterMarker}
+use Rattle.findings.specs.Inner.{Room}
 
 -- MissingIdMarker, MissingChapterMarker: the conditions of `closing`, of the code's record
 abbrev pub missingChecks : State → List Check

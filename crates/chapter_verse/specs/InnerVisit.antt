@@ -3,13 +3,13 @@ use Prim.Native.Nat.{ℕ, _+_, _<_, _≤_}
 use mathlib.Core.Path.{_≡_}
 use mathlib.Core.List.{List, []}
 use Rattle.tape.specs.Nodes.{nodeAt}
-use Rattle.findings.specs.Written.{Wrote}
 use Rattle.definition.specs.State.{WalkState}
 use Rattle.definition.specs.State as state
 use Rattle.definition.specs.Checks.{leafChecked}
 use Rattle.definition.specs.declared.OpenStart.{OpenStart}
-use Rattle.state.specs.Running.{stateOf, countsOf, VerseBounded}
+use Rattle.state.specs.Inner.{stateOf, countsOf, VerseBounded}
 use Rattle.state.specs.declared.State.{State}
+use Rattle.findings.specs.Inner.{Wrote}
 
 -- the findings of node i are written and counted, and the record is the one after it; the open starts may be any
 pub record LeafVisited (table s t : List ℕ) (o : state.WalkContext) (i : ℕ) (seen l : List ℕ) (r : State) (seen′ l′ : List ℕ) (q : State) : Type 0 where

@@ -1,9 +1,10 @@
--- Lists of bytes: equality, tests of every byte, and membership.
-use Prim.Native.Nat.{ℕ}
+-- Lists of bytes: equality, tests of every byte, membership, and capitals.
+use Prim.Native.Nat.{ℕ, _-_}
 use mathlib.Core.Bool.{Bool, true, false, _&&_, _||_}
 use mathlib.Core.List.{List, [], _∷_}
 use lib.Dec.{eqb}
 use lib.ListN.{length, take, drop}
+use Rattle.text.specs.Pick.{within, pick}
 
 unfoldable pub equal : List ℕ → List ℕ → Bool
 equal [] [] = true
@@ -28,3 +29,8 @@ starting w s = equal w (take (length w) s)
 -- what follows the word that the list begins with
 abbrev pub beyond : List ℕ → List ℕ → List ℕ
 beyond w s = drop (length w) s
+
+-- capitals for the small letters of ASCII
+unfoldable pub upper : List ℕ → List ℕ
+upper [] = []
+upper (b ∷ s) = pick (within 0x61 0x7A b) (b - 32) b ∷ upper s

@@ -5,12 +5,12 @@ use mathlib.Core.List.{List}
 use lib.Dec.{eqb}
 use Rattle.text.specs.Pick.{cut, pick}
 use Rattle.tape.specs.Forest.{Forest, end, leaf, node}
-use Rattle.table.specs.Bytes.{equal, oneOf}
 use Rattle.table.specs.Entries.{Entry, paragraphCategory, characterCategory}
 use Rattle.definition.specs.State as state
 use Rattle.definition.specs.Checks.{numberMarkers, bName, figName, idName, rbName, trName, wName}
-use Rattle.marker_checks.specs.Own.{childrenAt}
+use Rattle.marker_checks.specs.InnerVisit.{childrenAt}
 use Rattle.tape.specs.Nodes.{textKind}
+use Rattle.text.specs.Bytes.{equal, oneOf}
 
 -- a run of Texts
 unfoldable pub onlyTexts : Forest → Bool

@@ -7,19 +7,19 @@ use mathlib.Core.List.{List, [], _++_}
 use Rattle.text.specs.Pick.{cut, pick}
 use Rattle.tape.specs.Nodes.{Node, nodeAt, linkAt}
 use Rattle.tape.specs.Forest.{Forest, forest}
-use Rattle.table.specs.Bytes.{equal}
 use Rattle.table.specs.Entries.{Entry}
 use Rattle.cursor.specs.Names.{nameOf}
 use Rattle.findings.specs.Finding.{Finding}
-use Rattle.findings.specs.Written.{Wrote}
 use Rattle.attributes.specs.Attributes.{attributesFindings}
 use Rattle.rows.specs.Row.{rowFindings}
 use Rattle.definition.specs.State.{WalkState, Anchor}
 use Rattle.definition.specs.State as state
 use Rattle.definition.specs.Checks.{given, idName, trName, bookCode, idChecks, afterId, placeChecks, contentChecks}
 use Rattle.definition.specs.declared.OpenStart.{OpenStart}
-use Rattle.state.specs.Running.{stateOf, countsOf, SameLists}
+use Rattle.state.specs.Inner.{stateOf, countsOf, SameLists}
 use Rattle.state.specs.declared.State.{State}
+use Rattle.text.specs.Bytes.{equal}
+use Rattle.findings.specs.Inner.{Wrote}
 
 -- the findings before the milestone's, of a marker with its table name and the record after `id`
 abbrev pub ownFindings : List ℕ → WalkState → state.WalkContext → Option Anchor → WalkState → Entry → Node → Forest → Forest → List Finding

@@ -5,13 +5,13 @@ use mathlib.Core.List.{List, []}
 use lib.ListN.{length}
 use Rattle.tape.specs.Nodes.{nodeAt}
 use Rattle.table.specs.Entries.{Entry}
-use Rattle.findings.specs.Written.{Wrote, Room}
 use Rattle.cursor.specs.Inner.{Spanned}
 use Rattle.definition.specs.Checks.{given}
 use Rattle.definition.specs.Milestones.{milestoneChecks, afterMilestone}
 use Rattle.definition.specs.declared.OpenStart.{OpenStart}
-use Rattle.state.specs.Running.{stateOf, countsOf, withCounts, Opens}
+use Rattle.state.specs.Inner.{stateOf, countsOf, withCounts, Opens}
 use Rattle.state.specs.declared.State.{State}
+use Rattle.findings.specs.Inner.{Wrote, Room}
 
 -- the record and the open starts are those after node i with its table entry; the chapters seen may be any
 pub record MilestoneStep (e : Entry) (s t : List ℕ) (i : ℕ) (opens : List OpenStart) (r : State) (opens′ : List OpenStart) (q : State) : Type 0 where
