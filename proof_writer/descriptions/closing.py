@@ -1,6 +1,6 @@
 """closing: the findings of open openNodes that are left, and the working list of open openNodes cleared."""
 
-LAWS = ['proofs/Starts', 'proofs/Zeroed', 'reference_laws::proofs/Sizes', 'definition::specs/Outcome', 'state::specs/Running']
+LAWS = ['proofs/Starts', 'proofs/Zeroed', 'reference_laws::proofs/Sizes', 'definition::specs/Outcome', 'state::specs/Inner']
 DEFAULTS = {'OpenStart': 'noStart'}
 
 COUNTED = 'source₀ tape₀ opens₀ (rec₀ .«open_len») list₀ (countsOf rec₀)'

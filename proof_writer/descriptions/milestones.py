@@ -1,6 +1,6 @@
 """milestones: the open starts, a lent list of records."""
 
-LAWS = ['specs/Inner', 'specs/Steps', 'proofs/Search', 'proofs/Moves', 'proofs/Whole', 'proofs/Pairing', 'reference_laws::proofs/Sizes', 'definition::specs/Outcome']
+LAWS = ['specs/Inner', 'specs/InnerStep', 'proofs/Search', 'proofs/Moves', 'proofs/Whole', 'proofs/Pairing', 'reference_laws::proofs/Sizes', 'definition::specs/Outcome']
 DEFAULTS = {'OpenStart': 'noStart'}
 
 BASE = '(baseAt source₀ at₀ len₀)'

@@ -1,6 +1,6 @@
 """validate: the entry `check`, and what it makes of a document that no number turns back."""
 
-LAWS = ['specs/Entry', 'proofs/Course', 'proofs/Through', 'reference_laws::proofs/Sizes', 'tape::proofs/OneNumber', 'state::specs/Running']
+LAWS = ['specs/Entry', 'proofs/Course', 'proofs/Through', 'reference_laws::proofs/Sizes', 'tape::proofs/OneNumber', 'state::specs/Inner']
 
 BEGUN = 'req (z-link-at .0) says-link-at (contextOf (record { «in_body_para» = false; «in_note» = false; «in_char» = false })) refl list₀ (z-begun .1 .0)'
 WALKED = f'{BEGUN} (z-begun .0) says-begun _ _ _ _ says-walk'

@@ -1,6 +1,6 @@
 """walk: the walk of a run of siblings and the visit of a node, which call each other, and the visit of a leaf."""
 
-LAWS = ['specs/Walking', 'proofs/Going', 'proofs/Visiting', 'proofs/Steps', 'reference_laws::proofs/Sizes', 'state::specs/Running', 'tape::specs/Nodes']
+LAWS = ['specs/Inner', 'proofs/Going', 'proofs/Visiting', 'proofs/Steps', 'reference_laws::proofs/Sizes', 'state::specs/Inner', 'tape::specs/Nodes']
 
 WITH = '(visit-with (contextOf context₀) (entryOfInfo m₀) list₀ (req .0) (req .1) (req .3))'
 VISIT = 'table₀ index₀ entries₀ source₀ tape₀ depth₀ (contextOf context₀) i₀ to₀ (entryOfInfo m₀) numbers₀ seen₀ opens₀ list₀ rec₀'

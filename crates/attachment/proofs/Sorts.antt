@@ -11,7 +11,7 @@ use borrow.Author.Tests.{eq-eqb, ne-eqb}
 use Rattle.text.specs.Pick.{cut}
 use Rattle.text.specs.Words.{blankText}
 use Rattle.tape.specs.Nodes.{nodeAt, kindAt, span, chapterKind}
-use Rattle.table.proofs.Words.{equal-apart}
+use Rattle.text.proofs.Blocks.{equal-apart}
 use Rattle.cursor.specs.Names.{nameOf}
 use Rattle.attachment.specs.Attached.{numberLetter, isAlternate, isPublished, claims, isBlank, among, startsOf}
 use Rattle.attachment.specs.Inner.{claimsAt, takenAlternate, takenPublished}

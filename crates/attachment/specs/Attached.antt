@@ -43,7 +43,7 @@ abbrev pub nodesIf : Bool → List Node → List Node
 nodesIf true xs = xs
 nodesIf false xs = []
 
--- the numbers of an anchor of the kind among the siblings, where its alternate or published number is given already: "the run of them directly after it, separated only by whitespace"; a number with markup belongs to it and ends it
+-- the numbers of an anchor of the kind among the siblings, where its alternate or its published number has been found: "the run of them directly after it, separated only by whitespace"; a number with markup belongs to it and ends it
 unfoldable pub runOf : ℕ → Bool → Bool → Forest → List Node
 runOf kind alt pubn end = []
 runOf kind alt pubn (leaf x r) = nodesIf (isBlank x) (runOf kind alt pubn r)

@@ -18,7 +18,7 @@ use Rattle.tape.proofs.Sizes.{breadth}
 use Rattle.table.specs.Names.{defaultOf}
 use Rattle.cursor.specs.Names.{pastOne}
 use Rattle.findings.specs.Finding.{Finding, Kind}
-use Rattle.attributes.specs.Attributes.{emptyList, noDefault, Mode, between, key, value, opened, quoted, escaping, unquoted, ScanStep, go, tell, stop, scanStep, endOfText, scanOn, attributeScan, afterBar, body, hasDefault, holdsEquals, attributeKinds, findingsAt, attributeFindings, attributesFindings}
+use Rattle.attributes.specs.Attributes.{emptyList, noDefault, Mode, between, key, value, opened, quoted, escaping, unquoted, ScanStep, go, report, stop, scanStep, endOfText, scanOn, attributeScan, afterBar, body, hasDefault, holdsEquals, attributeKinds, findingsAt, attributeFindings, attributesFindings}
 use Rattle.tape.specs.Nodes.{attributeKind}
 
 chars-few : (k : ℕ) (s : List ℕ) → length (charsPast k s) ≤ length s
@@ -38,7 +38,7 @@ ended-few unquoted = omega arith
 
 resume-few : (n : ℕ) (s : ScanStep) (rest : Mode → List Kind) → ((m : Mode) → length (rest m) ≤ n) → length (scanOn s rest) ≤ suc n
 resume-few n (go m) rest h = let k = h m in omega arith
-resume-few n (tell x m) rest h = let k = h m in omega arith
+resume-few n (report x m) rest h = let k = h m in omega arith
 resume-few n (stop x) rest h = omega arith
 
 scan-few : (m : Mode) (cs : List Decoded) → length (attributeScan m cs) ≤ suc (length cs)

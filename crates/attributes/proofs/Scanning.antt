@@ -23,7 +23,7 @@ use Rattle.text.proofs.Decode.{decode-width}
 use Rattle.text.proofs.Chars.{chars-nil, chars-cons}
 use Rattle.text.proofs.Find.{low-decode, high-decode}
 use Rattle.text.proofs.Hits.{find-hits}
-use Rattle.attributes.specs.Attributes.{Mode, between, key, value, unquoted, ScanStep, go, tell, stop, scanStep, endOfText, scanOn, attributeScan, keyAlone, unquotedValue}
+use Rattle.attributes.specs.Attributes.{Mode, between, key, value, unquoted, ScanStep, go, report, stop, scanStep, endOfText, scanOn, attributeScan, keyAlone, unquotedValue}
 use Rattle.attributes.specs.Inner.{leads, endsKey}
 
 -- the byte at a place
@@ -156,7 +156,7 @@ unfolding scanStep
 unquoted-starts [] h = scan-end value ∙ ap (unquotedValue ∷_) (sym (scan-end unquoted))
 unquoted-starts (b ∷ s) h = scan-char value b s ∙ rw (same-code 0x22 b s (omega arith), h, scan-char unquoted b s) (test (blank (decode (b ∷ s) .cp)))
   where
-    test : (t : Bool) → scanOn (pick t (tell unquotedValue between) (tell unquotedValue unquoted)) (λ n. attributeScan n (chars (drop (decode (b ∷ s) .width) (b ∷ s)))) ≡ unquotedValue ∷ scanOn (pick t (go between) (go unquoted)) (λ n. attributeScan n (chars (drop (decode (b ∷ s) .width) (b ∷ s))))
+    test : (t : Bool) → scanOn (pick t (report unquotedValue between) (report unquotedValue unquoted)) (λ n. attributeScan n (chars (drop (decode (b ∷ s) .width) (b ∷ s)))) ≡ unquotedValue ∷ scanOn (pick t (go between) (go unquoted)) (λ n. attributeScan n (chars (drop (decode (b ∷ s) .width) (b ∷ s))))
     test true = refl
     test false = refl
 

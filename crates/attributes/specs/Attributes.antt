@@ -41,7 +41,7 @@ unquotedValue = kind errorSeverity unquotedAttributeValue 0
 abbrev pub noDefault : Kind
 noDefault = kind errorSeverity defaultAttributeNotDefined 0
 
--- where the scan stands: before a key; in one; after its `=`; after the opening quote; in a quoted value; there, after a backslash; in a value without quotes
+-- the mode of the scan: before a key; in one; after its `=`; after the opening quote; in a quoted value; there, after a backslash; in a value without quotes
 pub data Mode : Type 0 where
   between : Mode
   key : Mode
@@ -54,7 +54,7 @@ pub data Mode : Type 0 where
 -- what a character does: the scan goes on, goes on with a finding, or ends with one
 pub data ScanStep : Type 0 where
   go : Mode → ScanStep
-  tell : Kind → Mode → ScanStep
+  report : Kind → Mode → ScanStep
   stop : Kind → ScanStep
 
 -- 0x3D is `=`, 0x22 is `"`, 0x5C is `\`. A quote after a backslash is part of the value
@@ -64,8 +64,8 @@ inQuotes c = pick (eqb c 0x5C) (go escaping) (go quoted)
 unfoldable pub scanStep : Mode → ℕ → ScanStep
 scanStep between c = pick (blank c) (go between) (pick (eqb c 0x3D) (go value) (go key))
 scanStep key c = pick (eqb c 0x3D) (go value) (pick (blank c) (stop keyAlone) (go key))
-scanStep value c = pick (eqb c 0x22) (go opened) (pick (blank c) (tell unquotedValue between) (tell unquotedValue unquoted))
-scanStep opened c = pick (eqb c 0x22) (tell emptyValue between) (inQuotes c)
+scanStep value c = pick (eqb c 0x22) (go opened) (pick (blank c) (report unquotedValue between) (report unquotedValue unquoted))
+scanStep opened c = pick (eqb c 0x22) (report emptyValue between) (inQuotes c)
 scanStep quoted c = pick (eqb c 0x22) (go between) (inQuotes c)
 scanStep escaping c = inQuotes c
 scanStep unquoted c = pick (blank c) (go between) (go unquoted)
@@ -82,7 +82,7 @@ endOfText unquoted = []
 
 abbrev pub scanOn : ScanStep → (Mode → List Kind) → List Kind
 scanOn (go m) rest = rest m
-scanOn (tell k m) rest = k ∷ rest m
+scanOn (report k m) rest = k ∷ rest m
 scanOn (stop k) rest = k ∷ []
 
 -- the findings of a list of attributes, character by character

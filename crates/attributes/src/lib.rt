@@ -22,7 +22,7 @@ ghost use Rattle.attributes.specs.Inner.{leads, endsKey, escapes, closin
 ghost use Rattle.text.specs.Pick.{pick};
 ghost use Rattle.findings.specs.Inner.{Wrote, Room};
 
-// The Attribute node that is looked at, and the node that owns it.
+// The Attribute node that is checked, and the node that owns it.
 pub struct Where {
     pub start: u64,
     pub len: u64,
@@ -84,7 +84,7 @@ fn key_end(s: &[u8], from: usize) -> usize
     i
 }
 
-// How many bytes the search for the closing quote passes at a place: a backslash takes the quote after it along.
+// How many bytes the search for the closing quote skips at a place: two for a backslash with a quote after it, else one.
 fn passed(s: &[u8], k: usize) -> usize
     requires { ⌜ k < length (now s) ⌝ }
     ensures { λ r. ⌜ r ≡ pick (escapes (drop k (now (s .entry)))) 2 1 ⌝ }
@@ -179,7 +179,7 @@ fn scan_list(body: &[u8], w: Where, list: &mut [u64], counts: Counts) -> Counts
     c
 }
 
-// The findings of one Attribute's text. `marker` is the text of its owner, whose name only a bare value asks for.
+// The findings of one Attribute's text. `marker` is the text of its owner, whose name is read for a bare value alone.
 pub fn validate_attribute(
     text: &[u8],
     marker: &[u8],

@@ -23,6 +23,8 @@ use Rattle.definition.specs.State.{WalkState, firstVerse}
 use Rattle.definition.specs.State as state
 use Rattle.definition.specs.Checks.{given, chapterChecks, verseChecks, afterChapter, afterVerse, expectedAfter, leafChecked}
 use Rattle.state.specs.Inner.{stateOf, countsOf, withCounts, VerseBounded}
+use Rattle.state.specs.InnerSetters.{putHasChapter, putExpectedChapter, putExpectedVerse, putSeenLen, putHasVerse, putVerseOutsideWarned, putVerses}
+use Rattle.definition.specs.Setters.{setHasChapter, setExpectedChapter, setExpectedVerse, setSeen, setHasVerse, setVerseOutsideWarned, setVerses}
 use Rattle.state.specs.declared.State.{State}
 use Rattle.chapter_verse.specs.Inner.{PassedChapter, PassedVerse}
 use Rattle.chapter_verse.specs.InnerVisit.{LeafVisited}
@@ -32,39 +34,11 @@ use Rattle.findings.specs.Inner.{Wrote, Room}
 
 -- the record as the code makes it of the chapter's number
 abbrev pub chapterRecord : ℕ → State → State
-chapterRecord n r =
-    record {
-      «has_id» = r .«has_id»;
-      «has_chapter» = true;
-      «has_verse» = r .«has_verse»;
-      «front_matter» = r .«front_matter»;
-      «verse_outside_warned» = r .«verse_outside_warned»;
-      «expected_chapter» = n + 1;
-      «expected_verse» = record { num = 1; suffix = suffix.None };
-      «seen_len» = r .«seen_len» + 1;
-      «open_len» = r .«open_len»;
-      verses = r .verses;
-      anchor = r .anchor;
-      errors = r .errors;
-      warnings = r .warnings;
-      infos = r .infos;
-    }
+chapterRecord n r = putHasChapter true (putExpectedChapter (n + 1) (putExpectedVerse (record { num = 1; suffix = suffix.None }) (putSeenLen (r .«seen_len» + 1) r)))
 
 -- the definition's record after a chapter, by its number and the chapters seen
 abbrev chapterState : WalkState → ℕ → List ℕ → WalkState
-chapterState st n seen =
-    record {
-      hasId = st .hasId;
-      hasChapter = true;
-      hasVerse = st .hasVerse;
-      frontMatter = st .frontMatter;
-      verseOutsideWarned = st .verseOutsideWarned;
-      expectedChapter = n + 1;
-      expectedVerse = firstVerse;
-      seen = seen;
-      openStarts = st .openStarts;
-      verses = st .verses;
-    }
+chapterState st n seen = setHasChapter true (setExpectedChapter (n + 1) (setExpectedVerse firstVerse (setSeen seen st)))
 
 pub chapter-passed : (t seen : List ℕ) (i n : ℕ) (r : State) → n ≡ linkAt t i → r .«seen_len» < length seen → PassedChapter t i seen r (set seen (r .«seen_len») n) (chapterRecord n r)
 unfolding afterChapter
@@ -82,38 +56,10 @@ chapter-passed t seen i n r e h =
 
 -- the record as the code makes it of the next position and the flag
 abbrev pub verseRecord : VersePart → Bool → State → State
-verseRecord v warned r =
-    record {
-      «has_id» = r .«has_id»;
-      «has_chapter» = r .«has_chapter»;
-      «has_verse» = true;
-      «front_matter» = r .«front_matter»;
-      «verse_outside_warned» = warned;
-      «expected_chapter» = r .«expected_chapter»;
-      «expected_verse» = v;
-      «seen_len» = r .«seen_len»;
-      «open_len» = r .«open_len»;
-      verses = r .verses + 1;
-      anchor = r .anchor;
-      errors = r .errors;
-      warnings = r .warnings;
-      infos = r .infos;
-    }
+verseRecord v warned r = putHasVerse true (putVerseOutsideWarned warned (putExpectedVerse v (putVerses (r .verses + 1) r)))
 
 abbrev verseState : WalkState → Bool → Position → WalkState
-verseState st warned v =
-    record {
-      hasId = st .hasId;
-      hasChapter = st .hasChapter;
-      hasVerse = true;
-      frontMatter = st .frontMatter;
-      verseOutsideWarned = warned;
-      expectedChapter = st .expectedChapter;
-      expectedVerse = v;
-      seen = st .seen;
-      openStarts = st .openStarts;
-      verses = st .verses + 1;
-    }
+verseState st warned v = setHasVerse true (setVerseOutsideWarned warned (setExpectedVerse v (setVerses (st .verses + 1) st)))
 
 module _ (e : Option Entry) (s t : List ℕ) (o : state.WalkContext) (i : ℕ) (r : State) where
   pub verse-passed : (label : List ℕ) (v : VersePart) (warned : Bool) → label ≡ labelOf e (cut (span t i) s) → (positionOf v ≡ expectedAfter (versePart label) label (positionOf (r .«expected_verse»))) × (v .num ≤ 4294967296) → warned ≡ (r .«verse_outside_warned» || not (o .inBodyPara)) → PassedVerse e s t o i r (verseRecord v warned r)

@@ -259,7 +259,7 @@ fn verse_findings(
     )
 }
 
-// The record after a Chapter, which is among those seen from now on.
+// The record after a Chapter, whose number is added to the chapters seen.
 fn after_chapter(tape: &[u8], i: usize, rec: State, seen: &mut [u32]) -> State
     requires { ⌜ (i < count (now tape)) × (rec .«seen_len» < length (now seen)) ⌝ }
     ensures { λ r. ⌜ PassedChapter (now (tape .entry)) i (now (seen .entry)) rec (now (seen .exit)) r ⌝ }
@@ -290,7 +290,7 @@ fn end_read(label: &[u8], start: PartRead) -> PartRead
     start
 }
 
-// The position expected after a label, by what is read of its start. One that isn't read leaves it.
+// The position expected after a label, by what is read of its start. A label that isn't read doesn't change it.
 fn verse_after(label: &[u8], read: PartRead, v: VersePart) -> VersePart
     requires { ⌜ (v .num ≤ 4294967296) × (readOf read ≡ versePart (now label)) ⌝ }
     ensures { λ r. ⌜ (positionOf r ≡ expectedAfter (versePart (now (label .entry))) (now (label .entry)) (positionOf v)) × (r .num ≤ 4294967296) ⌝ }
@@ -329,7 +329,7 @@ fn after_verse(
     after
 }
 
-// A Chapter or a Verse is checked, and any other leaf passed.
+// Checks a Chapter or a Verse, and skips any other leaf.
 pub fn visit_leaf(
     table: &[u8],
     index: &[u64],

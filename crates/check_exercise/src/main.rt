@@ -18,7 +18,7 @@ fn room() -> [u8; 65537]
 }
 
 // A line or a column for each place of a source, its end among them.
-fn marks() -> [u32; 65537]
+fn places() -> [u32; 65537]
     ensures { λ r. ⌜ 65537 ≡ length r ⌝ }
 {
     [0; 65537]
@@ -88,7 +88,7 @@ fn at(list: &[u32], i: usize) -> u64 {
     if i < list.len() { list[i] as u64 } else { 0 }
 }
 
-// The text that was written; one that doesn't fit is shown as empty.
+// The written text; empty if it doesn't fit.
 fn shown(answer: MessageAnswer, text: &[u8]) -> &[u8]
     ensures { λ r. ⌜ length (now r) ≤ length (now (text .entry)) ⌝ }
 {
@@ -138,7 +138,7 @@ fn write_finding<'a>(
     write(out, end);
 }
 
-// How many of the findings stand in the list.
+// How many of the findings the list holds.
 fn held(list: &[u64], written: usize) -> usize
     ensures { λ r. ⌜ 8 * r ≤ length (now (list .entry)) ⌝ }
 {
@@ -161,8 +161,8 @@ fn write_findings<'a>(
 )
     requires { ⌜ (Indexed (now table) (now index) entries) × (Accepted (now source) (now tape)) × (length (now source) ≤ 65536) ⌝ }
 {
-    let mut lines = marks();
-    let mut columns = marks();
+    let mut lines = places();
+    let mut columns = places();
     listing::lines_and_columns(source, &mut lines, &mut columns);
     let mut text = io::large_buffer();
     let mut out = lines_room();

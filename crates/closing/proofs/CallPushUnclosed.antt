@@ -2,10 +2,10 @@
 -- The contract of `closing::push_unclosed`, for its own walk and for the walks that call it: its symbol and its result; what is passed; what is asked of that; what is said of it, of the result r and of the last values z. `known` shows that it is the contract.
 use Rattle.reference_laws.proofs.Call.{Terms, stated-as, val, shr, mut, of-struct, u8, u64, [], _∷_, Known, bound-at, rule-of, cited}
 use Rattle.closing.specs.Inner.{ofOpen, UnclosedReady}
+use Rattle.findings.specs.Inner.{Wrote}
 use Rattle.findings.proofs.Counts as Counts-T
 use Rattle.definition.proofs.OpenStart as OpenStart-T
 use Rattle.closing.proofs.push_unclosed as push-unclosed-F
-use Rattle.findings.specs.Inner.{Wrote}
 
 abbrev pub terms : Terms
 terms = stated-as push-unclosed-F.Symbol.name (of-struct Counts-T.the-type Counts-T.Laws.the-laws Counts-T.Laws.the-plain)

@@ -4,12 +4,12 @@ use Rattle.reference_laws.proofs.Call.{Terms, stated-as, val, shr, mut, of-stru
 use mathlib.Core.Path.{_≡_}
 use Rattle.state.specs.Inner.{countsOf, openNodes}
 use Rattle.closing.specs.Inner.{Left}
+use Rattle.findings.specs.Inner.{Wrote}
 use Rattle.definition.specs.Document as Document
 use Rattle.findings.proofs.Counts as Counts-T
 use Rattle.definition.proofs.OpenStart as OpenStart-T
 use Rattle.state.proofs.State as State-T
 use Rattle.closing.proofs.unclosed as unclosed-F
-use Rattle.findings.specs.Inner.{Wrote}
 
 abbrev pub terms : Terms
 terms = stated-as unclosed-F.Symbol.name (of-struct Counts-T.the-type Counts-T.Laws.the-laws Counts-T.Laws.the-plain)

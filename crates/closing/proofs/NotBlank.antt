@@ -6,10 +6,9 @@ use mathlib.Core.Bool.{Bool, true, false, not, _&&_}
 use mathlib.Core.List.{List, []}
 use native.Mathlib.Omega.{arith}
 use lib.Dec.{eqb}
-use borrow.Author.Tests.{eq-eqb, ne-eqb, eqb-true}
-use Rattle.text.specs.Pick.{cut}
+use borrow.Author.Tests.{ne-eqb, eqb-true}
 use Rattle.text.specs.Words.{blankText}
-use Rattle.tape.specs.Nodes.{nodeAt, kindAt, span, isOpen, markerOpenKind, textKind}
+use Rattle.tape.specs.Nodes.{nodeAt, kindAt, isOpen, markerOpenKind, textKind}
 use Rattle.tape.specs.Forest.{forest}
 use Rattle.tape.proofs.Nest.{forest-done}
 use Rattle.cursor.specs.Inner.{Run}
@@ -26,13 +25,6 @@ use Rattle.findings.specs.Inner.{Wrote, Room}
 -- whether a node is a Text that isn't blank
 abbrev pub notBlankAt : List ℕ → List ℕ → ℕ → Bool
 notBlankAt s t i = eqb (kindAt t i) textKind && not (blankText (nodeAt s t i .text))
-
-module _ (s t : List ℕ) (i k : ℕ) (kind-is : k ≡ kindAt t i) where
-  pub not-blank-other : (k ≡ 5 → ⊥) → false ≡ notBlankAt s t i
-  not-blank-other n = rw (← kind-is, ne-eqb k 5 n)
-
-  pub not-blank-by : (u : List ℕ) (x : Bool) → k ≡ 5 → u ≡ cut (span t i) s → x ≡ blankText u → not x ≡ notBlankAt s t i
-  not-blank-by u x e f g = ap not g ∙ rw (← kind-is, eq-eqb k 5 e, f)
 
 pub before-none : (s t : List ℕ) (to : ℕ) (l : List ℕ) (c₀ c : Counts) → to ≤ 1 → c ≡ c₀ → Wrote (textBefore (forest s t 1 to)) l c₀ l c
 unfolding textBefore

@@ -20,12 +20,12 @@ missingChecks r =
     ∷ when ((r .«has_id» || r .«has_verse») && (not (r .«has_chapter») && not (r .«front_matter»))) (ofDocument missingChapterMarker)
     ∷ []
 
--- the open starts that are left are known, and there is room for what is said of them
+-- the open starts that are left are known, and there is room for their findings
 pub record Left (s t : List ℕ) (opens : List OpenStart) (r : State) : Type 0 where
   pub known : Opens s t opens (r .«open_len»)
   pub room : Room (countsOf r) (unclosed (openNodes s t opens (r .«open_len»)))
 
--- what is said of one
+-- the finding of one
 abbrev pub ofOpen : List ℕ → OpenStart → List Finding
 ofOpen t o = error (nodeAt [] t (o .node)) milestoneMismatch unclosedStart ∷ []
 

@@ -9,14 +9,10 @@ use findings::Severity;
 use findings::TEXT_BEFORE_ID;
 use state::State;
 ghost use mathlib.Core.Path.{_≡_};
-ghost use mathlib.Core.Bool.{not, _&&_, _||_};
 ghost use Prim.Native.Nat.{_≤_};
-ghost use lib.Dec.{eqb};
 ghost use lib.ListN.{length};
-ghost use Rattle.text.specs.Words.{blankText};
-ghost use Rattle.tape.specs.Nodes.{nodeAt, kindAt, textKind};
 ghost use Rattle.tape.specs.Forest.{forest};
-ghost use Rattle.cursor.specs.Inner.{Run, Spanned};
+ghost use Rattle.cursor.specs.Inner.{Run};
 ghost use Rattle.findings.specs.Finding.{findingOf};
 ghost use Rattle.definition.specs.Checks.{given};
 ghost use Rattle.definition.specs.Document.{textBefore, ofDocument};
@@ -42,16 +38,6 @@ fn of_document(code: u64) -> Finding
     }
 }
 
-fn is_text_not_blank(source: &[u8], tape: &[u8], i: usize) -> bool
-    requires { ⌜ Spanned (now source) (now tape) i ⌝ }
-    ensures { λ r. ⌜ r ≡ (eqb (kindAt (now (tape .entry)) i) textKind && not (blankText (nodeAt (now (source .entry)) (now (tape .entry)) i .text))) ⌝ }
-{
-    if tape::kind_at(tape, i) != tape::TEXT {
-        return false;
-    }
-    !text::is_blank_text(cursor::text(source, tape, i))
-}
-
 // Text before the `\id` marker: the first child of the root.
 pub fn text_before(source: &[u8], tape: &[u8], to: usize, rec: State, list: &mut [u64]) -> Counts
     requires { ⌜ (Run (now source) (now tape) 1 to) × Room (countsOf rec) (textBefore (forest (now source) (now tape) 1 to)) ⌝ }
@@ -61,7 +47,7 @@ pub fn text_before(source: &[u8], tape: &[u8], to: usize, rec: State, list: &mut
     if to <= 1 {
         return c;
     }
-    let there = is_text_not_blank(source, tape, 1);
+    let there = cursor::is_kind(source, tape, 1, tape::TEXT, false);
     findings::push_if(
         list,
         c,
@@ -109,38 +95,26 @@ pub fn unclosed(
     c
 }
 
-// Numbers without a book, a book without chapters.
+// MissingIdMarker and MissingChapterMarker.
 pub fn missing(rec: State, list: &mut [u64], c: Counts) -> Counts
     requires { ⌜ Room c (given (missingChecks rec)) ⌝ }
     ensures { λ r. ⌜ Wrote (given (missingChecks rec)) (now (list .entry)) c (now (list .exit)) r ⌝ }
 {
-    let numbered = or(rec.has_chapter, rec.has_verse);
+    let numbered = state::or(rec.has_chapter, rec.has_verse);
     let first = findings::push_if(
         list,
         c,
-        and(!rec.has_id, numbered),
+        state::and(!rec.has_id, numbered),
         of_document(MISSING_ID_MARKER),
     );
-    let book = or(rec.has_id, rec.has_verse);
-    let bare = and(!rec.has_chapter, !rec.front_matter);
+    let book = state::or(rec.has_id, rec.has_verse);
+    let bare = state::and(!rec.has_chapter, !rec.front_matter);
     findings::push_if(
         list,
         first,
-        and(book, bare),
+        state::and(book, bare),
         of_document(MISSING_CHAPTER_MARKER),
     )
-}
-
-fn or(a: bool, b: bool) -> bool
-    ensures { λ r. ⌜ r ≡ (a || b) ⌝ }
-{
-    if a { true } else { b }
-}
-
-fn and(a: bool, b: bool) -> bool
-    ensures { λ r. ⌜ r ≡ (a && b) ⌝ }
-{
-    if a { b } else { false }
 }
 
 pub fn clear_seen(seen: &mut [u32], n: usize)

@@ -2,3 +2,4 @@ pub mod Around
 pub mod Named
 pub mod Entry
 pub mod Runs
+pub mod OfKind

@@ -7,13 +7,13 @@ ghost use Prim.Native.Nat.{_+_, _<_, _≤_};
 ghost use lib.ListN.{length, drop};
 ghost use Rattle.text.specs.Pick.{cut};
 ghost use Rattle.text.specs.Characters.{find};
-ghost use Rattle.tape.specs.Nodes.{count, startAt, lenAt, kindAt, linkAt};
+ghost use Rattle.tape.specs.Nodes.{count, startAt, lenAt, kindAt, linkAt, nodeAt};
 ghost use Rattle.tape.specs.Nodes as nodes;
 ghost use Rattle.cursor.specs.Names.{pastOne, endsName, namePart, nameOf};
 ghost use Rattle.cursor.specs.Steps.{firstChild, nextSibling, numberAt, holdsNodes, nodePlace, numberRead};
 ghost use Rattle.table.specs.Entries.{infoOf};
 ghost use Rattle.cursor.specs.Info.{hasMarker, infoAt};
-ghost use Rattle.cursor.specs.Inner.{Spanned, Reached, PlainByte, Named};
+ghost use Rattle.cursor.specs.Inner.{isKind, Spanned, Reached, PlainByte, Named};
 ghost use Rattle.text.specs.Inner.{Ended};
 ghost use Rattle.table.specs.Inner.{Indexed};
 
@@ -83,7 +83,7 @@ fn ends_name(cp: u32) -> bool
     if cp == 0x7C { true } else { cp == 0x5C }
 }
 
-// Whether few tests show that a name goes on past a byte. They do for letters and digits, which most names are made of.
+// Whether a name goes on past a byte, by a few tests: they hold for letters and digits, of which most names consist.
 fn is_plain(b: u8) -> bool
     ensures { λ r. ⌜ (r ≡ true → PlainByte b) ⌝ }
 {
@@ -121,7 +121,7 @@ pub fn name_start(s: &[u8]) -> usize
     past_one(s, a, 0x2B)
 }
 
-// Where the name of a node stands in the source. If it isn't empty, the text's length needn't be looked at.
+// Where the name of a node stands in the source. If it isn't empty, this needs no test of the text's length.
 pub fn name_at(source: &[u8], tape: &[u8], i: usize) -> usize
     requires { ⌜ (Spanned (now source) (now tape) i) × (0 < length (nameOf (cut (nodes.span (now tape) i) (now source)))) ⌝ }
     ensures { λ r. ⌜ r ≡ startAt (now (tape .entry)) i + namePart (cut (nodes.span (now (tape .entry)) i) (now (source .entry))) .start ⌝ }
@@ -246,4 +246,18 @@ pub fn marker_info(table: &[u8], index: &[u64], entries: usize, tape: &[u8], i: 
         return Info::Missing;
     }
     MarkerId::info(table, index, entries, MarkerId(tape::marker_at(tape, i)))
+}
+
+// Whether a node is of a kind; one whose text is blank counts if `blank` says so.
+pub fn is_kind(source: &[u8], tape: &[u8], i: usize, kind: u8, blank: bool) -> bool
+    requires { ⌜ Spanned (now source) (now tape) i ⌝ }
+    ensures { λ r. ⌜ r ≡ isKind kind blank (nodeAt (now (source .entry)) (now (tape .entry)) i) ⌝ }
+{
+    if tape::kind_at(tape, i) != kind {
+        return false;
+    }
+    if blank {
+        return true;
+    }
+    !text::is_blank_text(text(source, tape, i))
 }

@@ -25,7 +25,7 @@ use Rattle.table.specs.Names.{defaultOf, noteOnly}
 use Rattle.cursor.specs.Names.{nameOf}
 use Rattle.findings.specs.Finding.{Finding, Kind}
 use Rattle.findings.specs.Written.{only, room}
-use Rattle.attributes.specs.Attributes.{emptyList, noDefault, Mode, between, key, value, opened, quoted, escaping, unquoted, inQuotes, ScanStep, go, tell, stop, scanStep, endOfText, scanOn, attributeScan, body, hasDefault, holdsEquals, attributeKinds, findingsAt, attributeFindings, attributesFindings}
+use Rattle.attributes.specs.Attributes.{emptyList, noDefault, Mode, between, key, value, opened, quoted, escaping, unquoted, inQuotes, ScanStep, go, report, stop, scanStep, endOfText, scanOn, attributeScan, body, hasDefault, holdsEquals, attributeKinds, findingsAt, attributeFindings, attributesFindings}
 use Rattle.rows.specs.Cells.{ColumnRange}
 use Rattle.rows.specs.Row.{cellIn, outOfOrder, byColumns, rowFrom, rowFindings}
 use Rattle.numbers.specs.Verse.{Position, versePart, inSequence}
@@ -86,7 +86,7 @@ Low (k ∷ ks) = Listed (k .severity) (k .code) × Low ks
 
 abbrev LowStep : ScanStep → Type 0
 LowStep (go m) = Unit {0}
-LowStep (tell k m) = Listed (k .severity) (k .code)
+LowStep (report k m) = Listed (k .severity) (k .code)
 LowStep (stop k) = Listed (k .severity) (k .code)
 
 low-pick : (b : Bool) (x y : ScanStep) → LowStep x → LowStep y → LowStep (pick b x y)
@@ -117,7 +117,7 @@ low-ended unquoted = tt
 
 low-resume : (s : ScanStep) (rest : Mode → List Kind) → LowStep s → ((m : Mode) → Low (rest m)) → Low (scanOn s rest)
 low-resume (go m) rest p h = h m
-low-resume (tell k m) rest p h = (p, h m)
+low-resume (report k m) rest p h = (p, h m)
 low-resume (stop k) rest p h = (p, tt)
 
 low-scan : (m : Mode) (cs : List Decoded) → Low (attributeScan m cs)

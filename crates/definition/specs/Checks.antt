@@ -19,10 +19,11 @@ use Rattle.findings.specs.Written.{only}
 use Rattle.numbers.specs.Label.{isGlued, labelOf, numbered}
 use Rattle.numbers.specs.Verse.{Position, versePart, verseEnd, next, inSequence}
 use Rattle.attachment.specs.Attached.{among, isAttached}
+use Rattle.definition.specs.Setters.{setHasId, setHasChapter, setHasVerse, setFrontMatter, setVerseOutsideWarned, setExpectedChapter, setExpectedVerse, setSeen, setVerses}
 use Rattle.definition.specs.State.{WalkState, firstVerse, WalkContext, Anchor, NodeChecked}
 use Rattle.findings.specs.Codes.{missingSpaceBeforeNumber, leadingZeros, missingChapterNumber, verseOutsideParagraph, charCrossesVerseBoundary, missingVerseNumber, duplicateId, invalidBookCode, noteSubmarkerOutsideNote, nonEmptyBlankLine, bodyParagraphBeforeChapter, misplacedNumberMarker, emptyFigure, emptyWordMarker, missingRequiredAttribute, duplicateChapter, invalidChapterSequence, invalidVerseSequence, chapterForm, verseForm, shouldBeUppercase, notValid}
 use Rattle.text.specs.Literal.{ascii}
-use Rattle.text.specs.Bytes.{equal, oneOf}
+use Rattle.text.specs.Bytes.{equal, oneOf, upper}
 
 -- a finding with the span of a node: severity, code, form, two numbers
 abbrev pub about : Node → ℕ → ℕ → ℕ → ℕ → ℕ → Finding
@@ -79,19 +80,7 @@ chapterChecks e st x =
     ∷ numberForm chapterForm e x
 
 unfoldable pub afterChapter : WalkState → Node → WalkState
-afterChapter st x =
-    record {
-      hasId = st .hasId;
-      hasChapter = true;
-      hasVerse = st .hasVerse;
-      frontMatter = st .frontMatter;
-      verseOutsideWarned = st .verseOutsideWarned;
-      expectedChapter = x .link + 1;
-      expectedVerse = firstVerse;
-      seen = x .link ∷ st .seen;
-      openStarts = st .openStarts;
-      verses = st .verses;
-    }
+afterChapter st x = setHasChapter true (setExpectedChapter (x .link + 1) (setExpectedVerse firstVerse (setSeen (x .link ∷ st .seen) st)))
 
 abbrev pub letterByte : Option ℕ → ℕ
 letterByte none = 0
@@ -123,20 +112,12 @@ verseChecks e o st x =
 
 unfoldable pub afterVerse : Option Entry → WalkContext → WalkState → Node → WalkState
 afterVerse e o st x =
-    record {
-      hasId = st .hasId;
-      hasChapter = st .hasChapter;
-      hasVerse = true;
-      frontMatter = st .frontMatter;
-      verseOutsideWarned = (st .verseOutsideWarned || not (o .inBodyPara));
-      expectedChapter = st .expectedChapter;
-      expectedVerse = expectedAfter (versePart (labelOf e (x .text))) (labelOf e (x .text)) (st .expectedVerse);
-      seen = st .seen;
-      openStarts = st .openStarts;
-      verses = st .verses + 1;
-    }
+    setHasVerse true
+    (setVerseOutsideWarned (st .verseOutsideWarned || not (o .inBodyPara))
+    (setExpectedVerse (expectedAfter (versePart (labelOf e (x .text))) (labelOf e (x .text)) (st .expectedVerse))
+    (setVerses (st .verses + 1) st)))
 
--- a Chapter, a Verse, or any other leaf, of which nothing is said
+-- a Chapter, a Verse, or any other leaf, which has no check
 unfoldable pub leafChecked : List ℕ → WalkContext → WalkState → Node → NodeChecked
 leafChecked table o st x =
     record {
@@ -160,24 +141,12 @@ idChecks named st code x =
     ∷ when (named && (not (isEmpty code) && not (isBook code))) (warning x invalidBookCode (pick (isBook (upper code)) shouldBeUppercase notValid))
     ∷ []
 
--- without a book code the front-matter flag stays as it was
+-- without a book code the front-matter flag doesn't change
 abbrev pub frontBy : List ℕ → Bool → Bool
 frontBy code before = pick (isEmpty code) before (oneOf frontMatter code)
 
 unfoldable pub afterId : Bool → WalkState → Forest → WalkState
-afterId named st c =
-    record {
-      hasId = (named || st .hasId);
-      hasChapter = st .hasChapter;
-      hasVerse = st .hasVerse;
-      frontMatter = pick named (frontBy (bookCode c) (st .frontMatter)) (st .frontMatter);
-      verseOutsideWarned = st .verseOutsideWarned;
-      expectedChapter = st .expectedChapter;
-      expectedVerse = st .expectedVerse;
-      seen = st .seen;
-      openStarts = st .openStarts;
-      verses = st .verses;
-    }
+afterId named st c = setHasId (named || st .hasId) (setFrontMatter (pick named (frontBy (bookCode c) (st .frontMatter)) (st .frontMatter)) st)
 
 -- content of a `\b`: a Text that isn't blank or a marker, before any Verse or Chapter
 unfoldable pub inlineContent : Forest → Bool
@@ -185,16 +154,18 @@ inlineContent end = false
 inlineContent (leaf x r) = pick (numbered (x .kind)) false (pick (eqb (x .kind) textKind && not (blankText (x .text))) true (inlineContent r))
 inlineContent (node x c r) = true
 
--- a Text that isn't blank
-unfoldable pub hasText : Forest → Bool
-hasText end = false
-hasText (leaf x r) = (eqb (x .kind) textKind && not (blankText (x .text))) || hasText r
-hasText (node x c r) = hasText r
+-- a leaf of the kind; one whose text is blank counts if the flag says so
+unfoldable pub hasLeaf : ℕ → Bool → Forest → Bool
+hasLeaf kind blank end = false
+hasLeaf kind blank (leaf x r) = (eqb (x .kind) kind && (blank || not (blankText (x .text)))) || hasLeaf kind blank r
+hasLeaf kind blank (node x c r) = hasLeaf kind blank r
 
-unfoldable pub hasAttribute : Forest → Bool
-hasAttribute end = false
-hasAttribute (leaf x r) = eqb (x .kind) attributeKind || hasAttribute r
-hasAttribute (node x c r) = hasAttribute r
+-- a Text that isn't blank
+abbrev pub hasText : Forest → Bool
+hasText f = hasLeaf textKind false f
+
+abbrev pub hasAttribute : Forest → Bool
+hasAttribute f = hasLeaf attributeKind true f
 
 unfoldable pub hasMarkers : Forest → Bool
 hasMarkers end = false

@@ -166,7 +166,7 @@ example6 =
     (found 1 33 14 3 6 0 0 0
     ∷ [])
 
--- a chapter's sequence goes by its link, and not by its label
+-- a chapter's sequence depends on its link, and not on its label
 unfoldable pub example7 : Example
 example7 =
     example (ascii "\\id GEN\n\\c 2\n")
@@ -221,7 +221,7 @@ example9 =
     ∷ found 0 16 50 5 16 0 0 0
     ∷ [])
 
--- a verse outside a paragraph is warned of once; 9a may follow 9, and 9 may not follow 9a
+-- a verse outside a paragraph gives one warning; 9a may follow 9, and 9 may not follow 9a
 unfoldable pub example10 : Example
 example10 =
     example (ascii "\\id GEN\n\\c 1\n\\v 1-9 \\v 9a \\v 9 ")

@@ -1,4 +1,5 @@
 pub mod State
+pub mod Setters
 pub mod Checks
 pub mod Walk
 pub mod Milestones

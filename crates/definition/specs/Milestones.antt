@@ -10,6 +10,7 @@ use Rattle.tape.specs.Nodes.{Node}
 use Rattle.tape.specs.Forest.{Forest, end, leaf, node}
 use Rattle.table.specs.Entries.{Entry, milestoneCategory}
 use Rattle.cursor.specs.Names.{nameOf}
+use Rattle.definition.specs.Setters.{setOpenStarts}
 use Rattle.definition.specs.State.{WalkState}
 use Rattle.definition.specs.Checks.{error, entryOf, Check, when}
 use Rattle.findings.specs.Codes.{milestoneMismatch, endAlone}
@@ -36,21 +37,6 @@ sameBase x y = equal (baseOf x) (baseOf y)
 abbrev pub isMilestone : Entry → Node → Bool
 isMilestone e x = eqb (e .category) milestoneCategory && (isStart x || isEnd x)
 
-abbrev pub withOpen : WalkState → List Node → WalkState
-withOpen st starts =
-    record {
-      hasId = st .hasId;
-      hasChapter = st .hasChapter;
-      hasVerse = st .hasVerse;
-      frontMatter = st .frontMatter;
-      verseOutsideWarned = st .verseOutsideWarned;
-      expectedChapter = st .expectedChapter;
-      expectedVerse = st .expectedVerse;
-      seen = st .seen;
-      openStarts = starts;
-      verses = st .verses;
-    }
-
 -- an open start of the base of x
 unfoldable pub waits : Node → List Node → Bool
 waits x [] = false
@@ -69,7 +55,7 @@ abbrev pub milestoneChecks : Entry → WalkState → Node → List Check
 milestoneChecks e st x = when (isMilestone e x && (not (isStart x) && not (waits x (st .openStarts)))) (error x milestoneMismatch endAlone) ∷ []
 
 unfoldable pub afterMilestone : Entry → WalkState → Node → WalkState
-afterMilestone e st x = withOpen st (pick (isMilestone e x) (startsAfter (isStart x) x (st .openStarts)) (st .openStarts))
+afterMilestone e st x = setOpenStarts (pick (isMilestone e x) (startsAfter (isStart x) x (st .openStarts)) (st .openStarts)) st
 
 -- The order of visits: the milestones of a run that are visited, in order.
 
@@ -82,7 +68,7 @@ visits table end = []
 visits table (leaf x r) = visits table r
 visits table (node x c r) = visitOf (entryOf table x) x (visits table c) (visits table r)
 
--- "A visited end takes the nearest earlier visited start of the same base that no end took before". A milestone that was visited, and the end that took it, if one did
+-- "A visited end takes the nearest earlier visited start of the same base that no end took before". A visited milestone, and the end that took it, if one did
 pub record Mark : Type 0 where
   pub milestone : Node
   pub taker : Option Node

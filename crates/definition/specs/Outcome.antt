@@ -115,7 +115,7 @@ answerBy none c = checked c
 abbrev pub answer : Lent → Answer
 answer l = answerBy (refusal l) (checkedOf l)
 
--- what the lent lists hold afterwards: "A refusal writes to no lent list"
+-- what the lent lists hold afterwards. A refusal: "Each gives number and place and writes nothing."
 abbrev pub wordsBy : {A : Type 0} → Option Refusal → List A → List A → List A
 wordsBy (some r) before after = before
 wordsBy none before after = after
@@ -123,7 +123,7 @@ wordsBy none before after = after
 abbrev pub listAfter : Lent → List ℕ
 listAfter l = wordsBy (refusal l) (l .list) (overlay (l .list) 0 (listOf l))
 
--- so many entries of nothing
+-- n copies of an entry
 unfoldable pub repeated : {A : Type 0} → A → ℕ → List A
 repeated nothing zero = []
 repeated nothing (suc n) = nothing ∷ repeated nothing n

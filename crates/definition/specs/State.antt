@@ -1,4 +1,4 @@
--- What the walk knows: "The running record (flags, expected chapter and verse, list lengths)", what lies around a run of siblings, and the anchor of the run.
+-- The state of the walk: "The running record (flags, expected chapter and verse, list lengths)", the context of a run of siblings, and its anchor.
 use Prim.Native.Nat.{ℕ}
 use mathlib.Core.Bool.{Bool, true, false}
 use mathlib.Core.List.{List, [], _∷_}
@@ -39,7 +39,7 @@ initial =
       verses = 0;
     }
 
--- whether a run of siblings stands in a body paragraph, in a note, in a character marker
+-- whether a run of siblings is in a body paragraph, in a note, in a character marker
 pub record WalkContext : Type 0 where
   pub inBodyPara : Bool
   pub inNote : Bool
@@ -48,7 +48,7 @@ pub record WalkContext : Type 0 where
 abbrev pub outside : WalkContext
 outside = record { inBodyPara = false; inNote = false; inChar = false }
 
--- "The latest chapter/verse among these siblings": its kind, and the siblings that were passed since
+-- "The latest chapter/verse among these siblings": its kind, and the siblings since
 pub record Anchor : Type 0 where
   pub kind : ℕ
   pub passed : Forest

@@ -28,7 +28,7 @@ pub record Walked : Type 0 where
 abbrev pub leafAnchor : Option Anchor → Node → Option Anchor
 leafAnchor a x = pick (numbered (x .kind)) (some (record { kind = x .kind; passed = end })) (past a (leaf x end))
 
--- by its table name, and the record after `id`; the row of a `tr` and the attributes stand before the milestone
+-- by its table name, and the record after `id`; the row of a `tr` and the attributes come before the milestone
 abbrev pub openBy : List ℕ → WalkState → WalkContext → Option Anchor → WalkState → Entry → Node → Forest → Forest → NodeChecked
 openBy name st₁ o a st e x c f =
     record {
@@ -40,11 +40,11 @@ openBy name st₁ o a st e x c f =
       state = afterMilestone e st₁ x;
     }
 
--- all that is said of a marker before its children are walked: `f` are the siblings from it on
+-- a marker's own findings, which come before those of its children: `f` are the siblings from it on
 unfoldable pub openChecked : List ℕ → WalkContext → Option Anchor → WalkState → Entry → Node → Forest → Forest → NodeChecked
 openChecked table o a st e x c f = openBy (cut (e .name) table) (afterId (equal (cut (e .name) table) idName) st c) o a st e x c f
 
--- what lies around the children of a marker
+-- the context of a marker's children
 abbrev pub inside : WalkContext → Entry → WalkContext
 inside o e =
     record {

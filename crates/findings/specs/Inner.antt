@@ -17,7 +17,7 @@ unfoldable pub counted : Counts → List Finding → Counts
 counted c [] = c
 counted c (f ∷ fs) = counted (bySeverity (f .severity) c) fs
 
--- the findings were written behind those that the counts count, and counted: the list and the counts before, and after
+-- the findings are written behind those that the counts count, and counted: the list and the counts before, and after
 pub record Wrote (fs : List Finding) (l : List ℕ) (c : Counts) (l′ : List ℕ) (c′ : Counts) : Type 0 where
   pub words : l′ ≡ overlay l (total c) fs
   pub counts : c′ ≡ counted c fs

@@ -103,7 +103,7 @@ pub struct Finding {
     pub second: u64,
 }
 
-// How many findings of each severity there are, those that found no room among them.
+// How many findings of each severity there are, with room in the list or without.
 pub struct Counts {
     pub errors: u64,
     pub warnings: u64,

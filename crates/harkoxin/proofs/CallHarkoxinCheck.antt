@@ -5,9 +5,9 @@ use mathlib.Core.Path.{_≡_}
 use Rattle.definition.specs.Outcome.{answer, listAfter, seenAfter, openAfter}
 use Rattle.buffer.specs.Over.{over}
 use Rattle.harkoxin.specs.Words.{answerWords}
+use Rattle.validate.specs.Entry.{lent}
 use Rattle.definition.proofs.OpenStart as OpenStart-T
 use Rattle.harkoxin.proofs.harkoxin_check as harkoxin-check-F
-use Rattle.validate.specs.Inner.{lent}
 
 abbrev pub terms : Terms
 terms = stated-as harkoxin-check-F.Symbol.name of-nothing

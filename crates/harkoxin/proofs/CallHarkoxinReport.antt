@@ -8,9 +8,9 @@ use lib.ListN.{length}
 use Rattle.buffer.specs.Over.{over}
 use Rattle.harkoxin.specs.Words.{answerWords, messagesWords}
 use Rattle.harkoxin.specs.Report.{reportAnswer, reportText, reportEnds}
+use Rattle.validate.specs.Entry.{lent}
 use Rattle.definition.proofs.OpenStart as OpenStart-T
 use Rattle.harkoxin.proofs.harkoxin_report as harkoxin-report-F
-use Rattle.validate.specs.Inner.{lent}
 
 abbrev pub terms : Terms
 terms = stated-as harkoxin-report-F.Symbol.name of-nothing

@@ -21,12 +21,14 @@ use Rattle.validate.specs.declared.InputCheck.the-variants as input
 use Rattle.validate.proofs.Whole.{refusal-is}
 use Rattle.messages.specs.Answer.{firstNine}
 use Rattle.messages.proofs.Nine.{nine-none, is-accepted, is-short}
-use Rattle.messages.specs.Messages.{textsOf, joined, endsFrom}
+use Rattle.messages.specs.Messages.{textsOf, endsFrom}
+use Rattle.message_texts.specs.Filled.{joined}
 use Rattle.harkoxin.specs.Words.{answerWords, messagesWords}
 use Rattle.harkoxin.specs.Report.{heldOf, heldIn, heldAnswer, turnedWords, reportAnswer, reportText, reportEnds}
 use Rattle.text.specs.Pick.{pick}
 use Rattle.table.specs.Inner.{Indexed}
-use Rattle.validate.specs.Inner.{checkRefusal, fromTable, lent}
+use Rattle.validate.specs.Inner.{checkRefusal, fromTable}
+use Rattle.validate.specs.Entry.{lent}
 
 pub nine-words : (a : Answer) → length (answerWords a) ≡ 9
 nine-words (refused r) = refl

@@ -4,7 +4,8 @@ use mathlib.Core.List.{List, _++_}
 use lib.ListN.{take}
 use Rattle.definition.specs.Outcome.{Lent, Answer, refused, checked, refusal, answer, listAfter, wordsBy}
 use Rattle.messages.specs.Messages as messages
-use Rattle.messages.specs.Messages.{MessagesAnswer, refusedOr, messagesAnswer, answerByTexts, textAt, whole, textsOf, messagesAfter, endsAfter}
+use Rattle.messages.specs.Messages.{MessagesAnswer, refusedOr, messagesAnswer, answerByTexts, textAt, textsOf, messagesAfter, endsAfter}
+use Rattle.findings.specs.Written.{wholeRecords}
 use Rattle.harkoxin.specs.Words.{refusalWords, messagesWords}
 
 -- how many findings the list of a checked document holds
@@ -18,7 +19,7 @@ heldIn a l = take (8 * heldOf a) l
 
 -- the answer for the texts of a list, of a document that nothing turns back
 abbrev pub heldAnswer : List ℕ → List ℕ → List ℕ → List ℕ → ℕ → MessagesAnswer
-heldAnswer table s t l room = answerByTexts (textAt table s t l) (whole l) (textsOf table s t l room)
+heldAnswer table s t l room = answerByTexts (textAt table s t l) (wholeRecords l) (textsOf table s t l room)
 
 -- both answers of a document that is turned back
 abbrev pub turnedWords : ℕ → ℕ → List ℕ

@@ -1,4 +1,4 @@
-// The library under C names. All that a caller must see to is that slices are valid and don't overlap.
+// The library under C names. A caller must pass valid slices that don't overlap.
 use definition::OpenStart;
 use messages::MessageAnswer;
 use messages::MessageRequest;
@@ -16,14 +16,15 @@ ghost use lib.ListN.{length};
 ghost use Rattle.tape.specs.Forest.{Accepted};
 ghost use Rattle.buffer.specs.Over.{over};
 ghost use Rattle.messages.specs.Answer.{messageAnswer, messageAfter};
-ghost use Rattle.messages.specs.Inner as message;
+ghost use Rattle.messages.specs.Answer as message;
 ghost use Rattle.tally.specs.Tally as tally;
 ghost use Rattle.tally.specs.Tally.{tallyRefusal, countsAfter};
-ghost use Rattle.messages.specs.Messages.{textsOf, joined, endsFrom, messagesAnswer, messagesAnswerOf, messagesAfter, endsAfter};
+ghost use Rattle.messages.specs.Messages.{textsOf, endsFrom, messagesAnswer, messagesAnswerOf, messagesAfter, endsAfter};
+ghost use Rattle.message_texts.specs.Filled.{joined};
 ghost use Rattle.harkoxin.specs.Words.{answerWords, reportWords, refusalWords, messageWords, messagesWords, tallyWords};
 ghost use Rattle.harkoxin.specs.Report.{heldOf, heldIn, heldAnswer, turnedWords, reportAnswer, reportText, reportEnds};
-ghost use Rattle.validate.specs.Inner.{lent};
 ghost use Rattle.table.specs.Inner.{Indexed};
+ghost use Rattle.validate.specs.Entry.{lent};
 
 // Writes words over a lent list from a place on, as far as there is room.
 fn write_words(words: &[u64], at: usize, out: &mut [u64])
@@ -92,7 +93,7 @@ pub extern "C" fn harkoxin_check(
 }
 
 fn write_message_answer(a: MessageAnswer, out: &mut [u64])
-    ensures { λ r. ⌜ now (out .exit) ≡ over (now (out .entry)) 0 (messageWords (message.answerOf a)) ⌝ }
+    ensures { λ r. ⌜ now (out .exit) ≡ over (now (out .entry)) 0 (messageWords (message.messageAnswerOf a)) ⌝ }
 {
     match a {
         MessageAnswer::Written(n) => write_words(&[0, 0, 0, n as u64], 0, out),
@@ -147,7 +148,7 @@ fn write_messages_answer(a: MessagesAnswer, at: usize, out: &mut [u64])
 }
 
 // The texts of a list's findings, one behind another, and where each ends. It writes its answer over the list `out`: the verdict (0 all
-// written, 1 stopped, 2 refused), number and place of a refusal or of what turns the next text back, how many texts were written, their
+// written, 1 stopped, 2 refused), number and place of a refusal or of what turns the next text back, how many texts are written, their
 // bytes.
 #[no_mangle]
 pub extern "C" fn harkoxin_messages<'a>(
@@ -257,7 +258,7 @@ pub extern "C" fn harkoxin_report<'a>(
 }
 
 fn write_tallied(a: Tallied, out: &mut [u64])
-    ensures { λ r. ⌜ now (out .exit) ≡ over (now (out .entry)) 0 (tallyWords (tally.answerOf a)) ⌝ }
+    ensures { λ r. ⌜ now (out .exit) ≡ over (now (out .entry)) 0 (tallyWords (tally.tallyAnswerOf a)) ⌝ }
 {
     match a {
         Tallied::Counted => write_words(&[0, 0, 0], 0, out),

@@ -1,7 +1,6 @@
 -- Document 01, "Listing": the lines of a listing. "Line and column count from 1; a line ends after byte 10; column counts bytes."
 use Prim.Native.Nat.{ℕ, zero, suc, _+_}
 use Prim.Native.String.{String}
-use mathlib.Core.Bool.{Bool, true, false}
 use mathlib.Core.List.{List, [], _∷_, _++_}
 use lib.Dec.{eqb}
 use Rattle.text.specs.Literal.{ascii}
@@ -97,3 +96,7 @@ placeFrom p (b ∷ s) (suc n) = placeFrom (afterByte b p) s n
 
 abbrev pub lineAndColumn : List ℕ → ℕ → Place
 lineAndColumn s n = placeFrom (record { line = 1; column = 1 }) s n
+
+-- a place, and the length of a message, from which no sum leaves 64 bits
+abbrev pub farthest : ℕ
+farthest = 1152921504606846976

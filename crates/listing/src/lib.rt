@@ -7,7 +7,8 @@ ghost use Rattle.buffer.specs.Decimal.{decimal};
 ghost use Rattle.table.specs.Inner.{linesOf};
 ghost use Rattle.listing.specs.Lines.{tooLargeLines, refusedLines, checkedLines, findingLines, nameAt};
 ghost use Rattle.listing.specs.LinesAndColumns.{linesFrom, columnsFrom};
-ghost use Rattle.listing.specs.Inner.{lineOf, farthest, Near};
+ghost use Rattle.listing.specs.Inner.{lineOf, Near};
+ghost use Rattle.listing.specs.Lines.{farthest};
 use buffer::put;
 use buffer::put_decimal;
 

@@ -8,16 +8,15 @@ use native.Mathlib.Omega.{arith}
 use lib.Dec.{eqb}
 use borrow.Author.Tests.{eq-eqb, ne-eqb, eqb-true}
 use Rattle.text.specs.Pick.{cut}
-use Rattle.text.specs.Words.{firstWord, blankText}
-use Rattle.tape.specs.Nodes.{nodeAt, kindAt, linkAt, span, isOpen, markerOpenKind, chapterKind, verseKind, textKind, attributeKind}
+use Rattle.text.specs.Words.{firstWord}
+use Rattle.tape.specs.Nodes.{nodeAt, kindAt, linkAt, span, isOpen, markerOpenKind, chapterKind, verseKind, textKind}
 use Rattle.tape.specs.Forest.{Forest, end, leaf, node, forest}
 use Rattle.tape.proofs.Nest.{forest-done}
-use Rattle.cursor.specs.Inner.{Run}
+use Rattle.cursor.specs.Inner.{Run, isKind}
 use Rattle.cursor.specs.Steps.{pastNode}
 use Rattle.cursor.proofs.Runs.{run-next, run-children, forest-at-leaf, forest-at-open}
 use Rattle.attachment.specs.Attached.{plain}
-use Rattle.definition.specs.Checks.{bookCode, inlineContent, hasText, hasAttribute, hasMarkers}
-use Rattle.marker_checks.specs.Inner.{isText}
+use Rattle.definition.specs.Checks.{bookCode, inlineContent, hasLeaf, hasMarkers}
 use Rattle.text.proofs.Bool.{and-left}
 
 -- what is left of a run reads as the whole does
@@ -45,32 +44,27 @@ module _ (s t : List ℕ) (i to : ℕ) (run : Run s t i to) (more : i < to) wher
       go true h = ap read (forest-at-open s t i to run more h) ∙ a _
       go false h = ap read (forest-at-leaf s t i to run more h) ∙ b
 
-  text-kind : isText false (nodeAt s t i) ≡ true → kindAt t i ≡ textKind
+  text-kind : isKind textKind false (nodeAt s t i) ≡ true → kindAt t i ≡ textKind
   text-kind h = eqb-true (kindAt t i) textKind (and-left _ _ h)
 
   pub code-here : (y : Bool) → (eqb (kindAt t i) textKind && y) ≡ true → (x : List ℕ) → x ≡ cut (span t i) s → cut (firstWord x) x ≡ bookCode (forest s t i to)
   unfolding bookCode
   code-here y h x q = let e = eqb-true (kindAt t i) textKind (and-left _ _ h) in sym (as-leaf bookCode (λ z. omega arith) ∙ rw (eq-eqb (kindAt t i) textKind e, ← q))
 
-  pub code-past : isText true (nodeAt s t i) ≡ false → bookCode (forest s t i to) ≡ bookCode (forest s t (pastNode t i) to)
+  pub code-past : isKind textKind true (nodeAt s t i) ≡ false → bookCode (forest s t i to) ≡ bookCode (forest s t (pastNode t i) to)
   unfolding bookCode
   code-past h = let e : eqb (kindAt t i) textKind ≡ false = sym (and-true (eqb (kindAt t i) textKind)) ∙ h in passes bookCode (λ c. refl) (rw e)
 
-  pub text-here : isText false (nodeAt s t i) ≡ true → true ≡ hasText (forest s t i to)
-  unfolding hasText
-  text-here h = let k = text-kind h in sym (as-leaf hasText (λ z. omega arith) ∙ rw h)
+  pub leaf-here : (kind : ℕ) (blank : Bool) → isOpen kind ≡ false → isKind kind blank (nodeAt s t i) ≡ true → true ≡ hasLeaf kind blank (forest s t i to)
+  unfolding hasLeaf
+  leaf-here kind blank n h =
+      let e = eqb-true (kindAt t i) kind (and-left _ _ h) in
+      let o : isOpen (kindAt t i) ≡ false = rw e n in
+      sym (ap (hasLeaf kind blank) (forest-at-leaf s t i to run more o) ∙ rw h)
 
-  pub text-past : isText false (nodeAt s t i) ≡ false → hasText (forest s t i to) ≡ hasText (forest s t (pastNode t i) to)
-  unfolding hasText
-  text-past h = passes hasText (λ c. refl) (rw h)
-
-  pub attribute-here : kindAt t i ≡ attributeKind → true ≡ hasAttribute (forest s t i to)
-  unfolding hasAttribute
-  attribute-here e = sym (as-leaf hasAttribute (λ z. omega arith) ∙ rw (eq-eqb (kindAt t i) attributeKind e))
-
-  pub attribute-past : (kindAt t i ≡ attributeKind → ⊥) → hasAttribute (forest s t i to) ≡ hasAttribute (forest s t (pastNode t i) to)
-  unfolding hasAttribute
-  attribute-past n = passes hasAttribute (λ c. refl) (rw (ne-eqb (kindAt t i) attributeKind n))
+  pub leaf-past : (kind : ℕ) (blank : Bool) → isKind kind blank (nodeAt s t i) ≡ false → hasLeaf kind blank (forest s t i to) ≡ hasLeaf kind blank (forest s t (pastNode t i) to)
+  unfolding hasLeaf
+  leaf-past kind blank h = passes (hasLeaf kind blank) (λ c. refl) (rw h)
 
   -- a marker, a chapter, a verse, a text with content, and any other
   pub line-marker : kindAt t i ≡ markerOpenKind → true ≡ inlineContent (forest s t i to)
@@ -85,11 +79,11 @@ module _ (s t : List ℕ) (i to : ℕ) (run : Run s t i to) (more : i < to) wher
   unfolding inlineContent
   line-verse e = sym (as-leaf inlineContent (λ z. omega arith) ∙ rw (ne-eqb (kindAt t i) chapterKind (omega arith), eq-eqb (kindAt t i) verseKind e))
 
-  pub line-text : isText false (nodeAt s t i) ≡ true → true ≡ inlineContent (forest s t i to)
+  pub line-text : isKind textKind false (nodeAt s t i) ≡ true → true ≡ inlineContent (forest s t i to)
   unfolding inlineContent
   line-text h = let k = text-kind h in sym (as-leaf inlineContent (λ z. omega arith) ∙ rw (ne-eqb (kindAt t i) chapterKind (omega arith), ne-eqb (kindAt t i) verseKind (omega arith), h))
 
-  pub line-past : (kindAt t i ≡ markerOpenKind → ⊥) → (kindAt t i ≡ chapterKind → ⊥) → (kindAt t i ≡ verseKind → ⊥) → isText false (nodeAt s t i) ≡ false → inlineContent (forest s t i to) ≡ inlineContent (forest s t (pastNode t i) to)
+  pub line-past : (kindAt t i ≡ markerOpenKind → ⊥) → (kindAt t i ≡ chapterKind → ⊥) → (kindAt t i ≡ verseKind → ⊥) → isKind textKind false (nodeAt s t i) ≡ false → inlineContent (forest s t i to) ≡ inlineContent (forest s t (pastNode t i) to)
   unfolding inlineContent
   line-past a b d h = as-leaf inlineContent a ∙ rw (ne-eqb (kindAt t i) chapterKind b, ne-eqb (kindAt t i) verseKind d, h)
 
@@ -97,13 +91,9 @@ pub code-none : [] ≡ bookCode end
 unfolding bookCode
 code-none = refl
 
-pub text-none : false ≡ hasText end
-unfolding hasText
-text-none = refl
-
-pub attribute-none : false ≡ hasAttribute end
-unfolding hasAttribute
-attribute-none = refl
+pub leaf-none : (kind : ℕ) (blank : Bool) → false ≡ hasLeaf kind blank end
+unfolding hasLeaf
+leaf-none kind blank = refl
 
 pub line-none : false ≡ inlineContent end
 unfolding inlineContent
@@ -115,17 +105,6 @@ unfolding plain hasMarkers
 markers-plain end = refl
 markers-plain (leaf x r) = markers-plain r
 markers-plain (node x c r) = refl
-
--- a text, by the tests that the code takes
-module _ (s t : List ℕ) (i k : ℕ) (blank : Bool) (is-kind : k ≡ kindAt t i) where
-  pub text-other : (k ≡ 5 → ⊥) → false ≡ isText blank (nodeAt s t i)
-  text-other n = rw (← is-kind, ne-eqb k 5 n)
-
-  pub text-any : k ≡ 5 → blank ≡ true → true ≡ isText blank (nodeAt s t i)
-  text-any e h = rw (← is-kind, eq-eqb k 5 e, h)
-
-  pub text-filled : k ≡ 5 → blank ≡ false → (x : List ℕ) (r : Bool) → x ≡ cut (span t i) s → r ≡ blankText x → not r ≡ isText blank (nodeAt s t i)
-  text-filled e h x r p q = rw (← is-kind, eq-eqb k 5 e, h, ← p) (ap not q)
 
 -- the run of the children, as the code reads where it ends
 pub children : (s t : List ℕ) (i to : ℕ) → Run s t i to → i < to → isOpen (kindAt t i) ≡ true → (link : ℕ) → link ≡ linkAt t i → Run s t (i + 1) link

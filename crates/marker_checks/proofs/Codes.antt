@@ -4,27 +4,20 @@ use Prim.Native.Nat.{ℕ, _-_}
 use mathlib.Core.Path.{_≡_, refl, sym, _∙_}
 use mathlib.Core.Bool.{Bool, true, false}
 use mathlib.Core.List.{List, [], _∷_}
-use mathlib.Core.Option.{Option, some, none}
 use native.Mathlib.Omega.{arith}
 use lib.Dec.{eqb}
 use lib.ListN.{length, getD}
 use borrow.Author.Tests.{ne-eqb}
 use Rattle.text.specs.Pick.{within, pick}
 use Rattle.table.specs.Books.{bookCodes, bookOf}
-use Rattle.table.specs.Inner as table
 use Rattle.table.proofs.Words.{one-of, every, one-passes}
 use Rattle.definition.specs.Checks.{isBook}
-use Rattle.text.specs.Pick.{known}
 use Rattle.text.specs.Literal.{ascii}
 use Rattle.text.specs.Bytes.{oneOf, upper}
 
-same-known : (o : Option ℕ) → known o ≡ table.known o
-same-known none = refl
-same-known (some n) = refl
-
 book-one : (s : List ℕ) → isBook s ≡ oneOf bookCodes s
 unfolding bookOf
-book-one s = same-known (bookOf s) ∙ sym (one-of bookCodes s 0)
+book-one s = sym (one-of bookCodes s 0)
 
 pub no-book : (s : List ℕ) → (length s ≡ 3 → ⊥) → false ≡ isBook s
 unfolding ascii every bookCodes

@@ -18,6 +18,7 @@ use Rattle.findings.proofs.Overlay.{wrote-none}
 use Rattle.definition.specs.State.{WalkState, Anchor}
 use Rattle.definition.specs.Checks.{given, idChecks, numberMarkers, frontBy, attachedTo}
 use Rattle.state.specs.Inner.{startsFor}
+use Rattle.state.specs.InnerSetters.{putHasId, putFrontMatter}
 use Rattle.state.specs.declared.State.{State}
 use Rattle.marker_checks.specs.Inner.{withId}
 use Rattle.text.specs.Literal.{ascii}
@@ -87,23 +88,7 @@ attached-is (some a) f at = refl
 pub with-none : (named : Bool) (code : List ℕ) (r : State) → named ≡ false → r ≡ withId named code r
 with-none named code r h = rw h refl
 
-pub with-code : (named : Bool) (code x : List ℕ) (r : State) (front : Bool) → named ≡ true → x ≡ code → front ≡ frontBy x (r .«front_matter») →
-    record {
-      «has_id» = true;
-      «has_chapter» = r .«has_chapter»;
-      «has_verse» = r .«has_verse»;
-      «front_matter» = front;
-      «verse_outside_warned» = r .«verse_outside_warned»;
-      «expected_chapter» = r .«expected_chapter»;
-      «expected_verse» = r .«expected_verse»;
-      «seen_len» = r .«seen_len»;
-      «open_len» = r .«open_len»;
-      verses = r .verses;
-      anchor = r .anchor;
-      errors = r .errors;
-      warnings = r .warnings;
-      infos = r .infos;
-    } ≡ withId named code r
+pub with-code : (named : Bool) (code x : List ℕ) (r : State) (front : Bool) → named ≡ true → x ≡ code → front ≡ frontBy x (r .«front_matter») → putHasId true (putFrontMatter front r) ≡ withId named code r
 with-code named code x r front h e f = rw (h, ← e, f) refl
 
 -- nothing is said of a marker that is no `id`

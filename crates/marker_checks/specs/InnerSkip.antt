@@ -1,4 +1,4 @@
--- A test of a marker. Where it holds, nothing is said of the marker and its children change nothing, which `skipped-marked` and, in `walk`, `visited-skipped` prove; it holds of most markers of a book.
+-- A test of a marker. Where it holds, the marker has no finding and its children change nothing, which `skipped-marked` and, in `walk`, `visited-skipped` prove; it holds of most markers of a book.
 use Prim.Native.Nat.{ℕ}
 use mathlib.Core.Bool.{Bool, true, false, not, _&&_, _||_}
 use mathlib.Core.List.{List}
@@ -18,7 +18,7 @@ onlyTexts end = true
 onlyTexts (leaf x r) = eqb (x .kind) textKind && onlyTexts r
 onlyTexts (node x c r) = false
 
--- a name that a check asks for
+-- a name for which there is a check
 abbrev pub hasOwnCheck : List ℕ → Bool
 hasOwnCheck name =
     (equal name bName || equal name wName) || ((equal name idName || equal name rbName) || ((equal name trName || equal name figName) || oneOf numberMarkers name))
@@ -27,7 +27,7 @@ hasOwnCheck name =
 abbrev pub placed : Entry → state.WalkContext → Bool → Bool
 placed e o chapter = pick (eqb (e .category) paragraphCategory) chapter (eqb (e .category) characterCategory && o .inNote)
 
--- by its name in the table, what lies around it, whether a chapter stands before it, and its children
+-- by its name in the table, its context, whether a chapter comes before it, and its children
 abbrev pub canSkipMarker : List ℕ → Entry → state.WalkContext → Bool → Forest → Bool
 canSkipMarker name e o chapter c = placed e o chapter && (onlyTexts c && not (hasOwnCheck name))
 

@@ -17,12 +17,12 @@ use table::Book;
 use table::BookId;
 use table::MarkerInfo;
 ghost use mathlib.Core.Path.{_≡_};
-ghost use mathlib.Core.Bool.{true, not, _&&_, _||_};
+ghost use mathlib.Core.Bool.{true, false, not, _&&_, _||_};
 ghost use mathlib.Core.List.{[]};
-ghost use Prim.Native.Nat.{_+_, _-_, _<_, _≤_};
+ghost use Prim.Native.Nat.{_+_, _<_, _≤_};
 ghost use lib.Dec.{eqb};
 ghost use lib.ListN.{length};
-ghost use Rattle.text.specs.Pick.{within, pick};
+ghost use Rattle.text.specs.Pick.{pick};
 ghost use Rattle.tape.specs.Nodes.{count, nodeAt, kindAt, startAt, linkAt, isOpen};
 ghost use Rattle.tape.specs.Forest.{forest};
 ghost use Rattle.table.specs.Names.{noteOnly};
@@ -34,11 +34,11 @@ ghost use Rattle.findings.specs.Written.{only};
 ghost use Rattle.attachment.specs.Attached.{startsOf, among};
 ghost use Rattle.rows.specs.Row.{rowFindings};
 ghost use Rattle.definition.specs.Checks;
-ghost use Rattle.definition.specs.Checks.{given, idChecks, placeChecks, contentChecks, bookCode, isBook, frontBy, inlineContent, hasText, hasAttribute, hasMarkers, numberMarkers, bName, figName, wName, rbName, trName, isBody};
+ghost use Rattle.definition.specs.Checks.{given, idChecks, placeChecks, contentChecks, bookCode, isBook, frontBy, inlineContent, hasLeaf, hasText, hasAttribute, hasMarkers, numberMarkers, bName, figName, wName, rbName, trName, isBody};
 ghost use Rattle.state.specs.Inner.{contextOf, anchorOf, startsFor, stateOf, countsOf};
 ghost use Rattle.marker_checks.specs.InnerSkip.{onlyTexts, hasOwnCheck, placed, canSkipMarkerAt};
 ghost use Rattle.marker_checks.specs.InnerVisit.{ownAt, MarkerVisited, childrenAt};
-ghost use Rattle.marker_checks.specs.Inner.{isText, hasContent, withId};
+ghost use Rattle.marker_checks.specs.Inner.{hasContent, withId};
 ghost use Rattle.findings.specs.Codes.{shouldBeUppercase, notValid};
 ghost use Rattle.text.specs.Bytes.{equal, oneOf, upper};
 ghost use Rattle.findings.specs.Inner.{Room, Wrote};
@@ -63,20 +63,6 @@ fn push_for_node(
     findings::push(list, c, state::about(tape, i, severity, code, form, 0, 0))
 }
 
-// Whether a node is text; a blank one counts if `blank` says so.
-fn is_text(source: &[u8], tape: &[u8], i: usize, blank: bool) -> bool
-    requires { ⌜ Spanned (now source) (now tape) i ⌝ }
-    ensures { λ r. ⌜ r ≡ isText blank (nodeAt (now (source .entry)) (now (tape .entry)) i) ⌝ }
-{
-    if tape::kind_at(tape, i) != tape::TEXT {
-        return false;
-    }
-    if blank {
-        return true;
-    }
-    !text::is_blank_text(cursor::text(source, tape, i))
-}
-
 // The first word of the first Text of a run; empty where there is none.
 pub fn book_code<'a, 'b>(source: &'a [u8], tape: &'b [u8], from: usize, to: usize) -> &'a [u8]
     requires { ⌜ Run (now source) (now tape) from to ⌝ }
@@ -84,7 +70,7 @@ pub fn book_code<'a, 'b>(source: &'a [u8], tape: &'b [u8], from: usize, to: usiz
 {
     let mut i = from;
     while i < to {
-        if is_text(source, tape, i, true) {
+        if cursor::is_kind(source, tape, i, tape::TEXT, true) {
             return text::first_word(cursor::text(source, tape, i));
         }
         i = cursor::past_node(tape, i);
@@ -109,7 +95,7 @@ fn blank_line_has_inline_content(source: &[u8], tape: &[u8], from: usize, to: us
         if kind == tape::VERSE {
             return false;
         }
-        if is_text(source, tape, i, false) {
+        if cursor::is_kind(source, tape, i, tape::TEXT, false) {
             return true;
         }
         i = cursor::past_node(tape, i);
@@ -117,29 +103,14 @@ fn blank_line_has_inline_content(source: &[u8], tape: &[u8], from: usize, to: us
     false
 }
 
-// Whether a run has a text that isn't blank.
-fn has_text(source: &[u8], tape: &[u8], from: usize, to: usize) -> bool
-    requires { ⌜ Run (now source) (now tape) from to ⌝ }
-    ensures { λ r. ⌜ r ≡ hasText (forest (now (source .entry)) (now (tape .entry)) from to) ⌝ }
+// Whether a run has a leaf of a kind; one whose text is blank counts if `blank` says so.
+fn has_leaf(source: &[u8], tape: &[u8], from: usize, to: usize, kind: u8, blank: bool) -> bool
+    requires { ⌜ (Run (now source) (now tape) from to) × (isOpen kind ≡ false) ⌝ }
+    ensures { λ r. ⌜ r ≡ hasLeaf kind blank (forest (now (source .entry)) (now (tape .entry)) from to) ⌝ }
 {
     let mut i = from;
     while i < to {
-        if is_text(source, tape, i, false) {
-            return true;
-        }
-        i = cursor::past_node(tape, i);
-    }
-    false
-}
-
-// Whether a run has an attribute.
-fn has_attribute(source: &[u8], tape: &[u8], from: usize, to: usize) -> bool
-    requires { ⌜ Run (now source) (now tape) from to ⌝ }
-    ensures { λ r. ⌜ r ≡ hasAttribute (forest (now (source .entry)) (now (tape .entry)) from to) ⌝ }
-{
-    let mut i = from;
-    while i < to {
-        if tape::kind_at(tape, i) == tape::ATTRIBUTE {
+        if cursor::is_kind(source, tape, i, kind, blank) {
             return true;
         }
         i = cursor::past_node(tape, i);
@@ -164,16 +135,6 @@ fn is_book(code: &[u8]) -> bool
     }
 }
 
-fn upper_byte(b: u8) -> u8
-    ensures { λ r. ⌜ r ≡ pick (within 0x61 0x7A b) (b - 32) b ⌝ }
-{
-    if text::holds(b, b'a', b'z') {
-        b - 32
-    } else {
-        b
-    }
-}
-
 // Whether the code in upper case is a book. All codes have three bytes.
 fn is_book_upper(code: &[u8]) -> bool
     ensures { λ r. ⌜ r ≡ isBook (upper (now (code .entry))) ⌝ }
@@ -182,9 +143,9 @@ fn is_book_upper(code: &[u8]) -> bool
         return false;
     }
     let mut bytes = [0u8; 3];
-    bytes[0] = upper_byte(code[0]);
-    bytes[1] = upper_byte(code[1]);
-    bytes[2] = upper_byte(code[2]);
+    bytes[0] = text::upper(code[0]);
+    bytes[1] = text::upper(code[1]);
+    bytes[2] = text::upper(code[2]);
     is_book(&bytes)
 }
 
@@ -209,7 +170,7 @@ fn code_form(code: &[u8]) -> u64
     }
 }
 
-// What is said of node i if it is an `id`: `link` is the end of its children.
+// The findings of node i if it is an `id`: `link` is the end of its children.
 fn id_findings(
     named: bool,
     source: &[u8],
@@ -263,16 +224,16 @@ fn after_id(named: bool, source: &[u8], tape: &[u8], from: usize, to: usize, rec
 pub fn is_number_marker(name: &[u8]) -> bool
     ensures { λ r. ⌜ r ≡ oneOf numberMarkers (now (name .entry)) ⌝ }
 {
-    if table::same(b"ca", name) {
+    if text::equal(b"ca", name) {
         return true;
     }
-    if table::same(b"cp", name) {
+    if text::equal(b"cp", name) {
         return true;
     }
-    if table::same(b"va", name) {
+    if text::equal(b"va", name) {
         return true;
     }
-    table::same(b"vp", name)
+    text::equal(b"vp", name)
 }
 
 // A marker of notes that stands outside one.
@@ -293,7 +254,7 @@ fn filled_blank_line(name: &[u8], source: &[u8], tape: &[u8], from: usize, to: u
     requires { ⌜ Run (now source) (now tape) from to ⌝ }
     ensures { λ r. ⌜ r ≡ (equal (now (name .entry)) bName && inlineContent (forest (now (source .entry)) (now (tape .entry)) from to)) ⌝ }
 {
-    if table::same(name, b"b") {
+    if text::equal(name, b"b") {
         return blank_line_has_inline_content(source, tape, from, to);
     }
     false
@@ -325,7 +286,7 @@ fn is_misplaced(name: &[u8], source: &[u8], tape: &[u8], i: usize, numbers: Atta
     !attachment::is_attached(numbers, tape::start_at(tape, i))
 }
 
-// What is said of the place of node i, by its name in the table and the record after `id`. Its run ends at `to`.
+// The findings about the place of node i, by its name in the table and the record after `id`. Its run ends at `to`.
 fn place_findings(
     name: &[u8],
     m: MarkerInfo,
@@ -355,36 +316,44 @@ fn place_findings(
     push_for_node(tape, i, misplaced, w, MISPLACED_NUMBER_MARKER, 0, list, d)
 }
 
-fn empty_figure(name: &[u8], source: &[u8], tape: &[u8], from: usize, to: usize) -> bool
+// A figure without text, or with blank text alone; attributes don't count.
+fn figure_is_empty(source: &[u8], tape: &[u8], from: usize, to: usize) -> bool
+    requires { ⌜ Run (now source) (now tape) from to ⌝ }
+    ensures { λ r. ⌜ r ≡ not (hasText (forest (now (source .entry)) (now (tape .entry)) from to)) ⌝ }
+{
+    !has_leaf(source, tape, from, to, tape::TEXT, false)
+}
+
+fn is_empty_figure(name: &[u8], source: &[u8], tape: &[u8], from: usize, to: usize) -> bool
     requires { ⌜ Run (now source) (now tape) from to ⌝ }
     ensures { λ r. ⌜ r ≡ (equal (now (name .entry)) figName && not (hasText (forest (now (source .entry)) (now (tape .entry)) from to))) ⌝ }
 {
-    if table::same(name, b"fig") {
-        return !has_text(source, tape, from, to);
+    if text::equal(name, b"fig") {
+        return figure_is_empty(source, tape, from, to);
     }
     false
 }
 
-// Whether a run has a text that isn't blank, an attribute or a marker.
-fn has_content(source: &[u8], tape: &[u8], from: usize, to: usize) -> bool
+// A `\\w` without text, but for blank text, without an attribute and without a marker.
+fn word_marker_is_empty(source: &[u8], tape: &[u8], from: usize, to: usize) -> bool
     requires { ⌜ Run (now source) (now tape) from to ⌝ }
-    ensures { λ r. ⌜ r ≡ hasContent (forest (now (source .entry)) (now (tape .entry)) from to) ⌝ }
+    ensures { λ r. ⌜ r ≡ not (hasContent (forest (now (source .entry)) (now (tape .entry)) from to)) ⌝ }
 {
-    if has_text(source, tape, from, to) {
-        return true;
+    if has_leaf(source, tape, from, to, tape::TEXT, false) {
+        return false;
     }
-    if has_attribute(source, tape, from, to) {
-        return true;
+    if has_leaf(source, tape, from, to, tape::ATTRIBUTE, true) {
+        return false;
     }
-    has_markers(source, tape, from, to)
+    !has_markers(source, tape, from, to)
 }
 
-fn empty_word(name: &[u8], source: &[u8], tape: &[u8], from: usize, to: usize) -> bool
+fn is_empty_word(name: &[u8], source: &[u8], tape: &[u8], from: usize, to: usize) -> bool
     requires { ⌜ Run (now source) (now tape) from to ⌝ }
     ensures { λ r. ⌜ r ≡ (equal (now (name .entry)) wName && not (hasContent (forest (now (source .entry)) (now (tape .entry)) from to))) ⌝ }
 {
-    if table::same(name, b"w") {
-        return !has_content(source, tape, from, to);
+    if text::equal(name, b"w") {
+        return word_marker_is_empty(source, tape, from, to);
     }
     false
 }
@@ -399,13 +368,13 @@ fn lacks_required_attributes(
     requires { ⌜ Run (now source) (now tape) from to ⌝ }
     ensures { λ r. ⌜ r ≡ (equal (now (name .entry)) rbName && not (hasAttribute (forest (now (source .entry)) (now (tape .entry)) from to))) ⌝ }
 {
-    if table::same(name, b"rb") {
-        return !has_attribute(source, tape, from, to);
+    if text::equal(name, b"rb") {
+        return !has_leaf(source, tape, from, to, tape::ATTRIBUTE, true);
     }
     false
 }
 
-// What is said of the children of node i, which end at `link`.
+// The findings about the children of node i, which end at `link`.
 fn content_findings(
     name: &[u8],
     source: &[u8],
@@ -418,8 +387,8 @@ fn content_findings(
     requires { ⌜ (i < count (now tape)) × (Run (now source) (now tape) (i + 1) link) × Room c (given (contentChecks (now name) (nodeAt (now source) (now tape) i) (forest (now source) (now tape) (i + 1) link))) ⌝ }
     ensures { λ r. ⌜ Wrote (given (contentChecks (now (name .entry)) (nodeAt (now (source .entry)) (now (tape .entry)) i) (forest (now (source .entry)) (now (tape .entry)) (i + 1) link))) (now (list .entry)) c (now (list .exit)) r ⌝ }
 {
-    let figure = empty_figure(name, source, tape, i + 1, link);
-    let word = empty_word(name, source, tape, i + 1, link);
+    let figure = is_empty_figure(name, source, tape, i + 1, link);
+    let word = is_empty_word(name, source, tape, i + 1, link);
     let attribute = lacks_required_attributes(name, source, tape, i + 1, link);
     let e = Severity::Error;
     let mut d = push_for_node(tape, i, figure, e, EMPTY_FIGURE, 0, list, c);
@@ -449,13 +418,13 @@ fn row_findings(
     requires { ⌜ (Run (now source) (now tape) from to) × Room c (pick (equal (now name) trName) (rowFindings (forest (now source) (now tape) from to)) []) ⌝ }
     ensures { λ r. ⌜ Wrote (pick (equal (now (name .entry)) trName) (rowFindings (forest (now (source .entry)) (now (tape .entry)) from to)) []) (now (list .entry)) c (now (list .exit)) r ⌝ }
 {
-    if table::same(name, b"tr") {
+    if text::equal(name, b"tr") {
         return rows::validate_table_row(source, tape, from, to, list, c);
     }
     c
 }
 
-// All that is said of a marker before its milestone's step and its children. `numbers` are those attached to the anchor of its run, which ends at `to`.
+// The findings of a marker, but for its milestone's and its children's. `numbers` are those attached to the anchor of its run, which ends at `to`.
 pub fn visit_marker(
     table: &[u8],
     m: MarkerInfo,
@@ -474,7 +443,7 @@ pub fn visit_marker(
     let name = table::name(table, m);
     let link = tape::link_at(tape, i) as usize;
     let from = i + 1;
-    let named = table::same(name, b"id");
+    let named = text::equal(name, b"id");
     let next = after_id(named, source, tape, from, link, rec);
     let mut c = state::counts(rec);
     c = id_findings(named, source, tape, i, link, rec, list, c);
@@ -515,13 +484,13 @@ fn has_only_texts(source: &[u8], tape: &[u8], from: usize, to: usize) -> bool
 fn is_either(name: &[u8], a: &[u8], b: &[u8]) -> bool
     ensures { λ r. ⌜ r ≡ (equal (now (name .entry)) (now (a .entry)) || equal (now (name .entry)) (now (b .entry))) ⌝ }
 {
-    if table::same(name, a) {
+    if text::equal(name, a) {
         return true;
     }
-    table::same(name, b)
+    text::equal(name, b)
 }
 
-// Whether a check asks for markers of this name.
+// Whether there is a check for markers of this name.
 fn has_own_check(name: &[u8]) -> bool
     ensures { λ r. ⌜ r ≡ hasOwnCheck (now (name .entry)) ⌝ }
 {
@@ -549,7 +518,7 @@ fn is_placed(m: MarkerInfo, context: Context, chapter: bool) -> bool
     false
 }
 
-// Whether a marker is one of which nothing is said and whose children change nothing, so that its visit is spared. `chapter` says
+// Whether a marker has no finding and its children change nothing, so that its visit can be skipped. `chapter` says
 // whether a chapter stands before it.
 pub fn can_skip_marker(
     table: &[u8],

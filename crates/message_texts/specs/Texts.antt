@@ -3,6 +3,7 @@ use Prim.Native.Nat.{ℕ}
 use Prim.Native.String.{String}
 use mathlib.Core.List.{List, [], _∷_}
 use Rattle.text.specs.Literal.{ascii}
+use Rattle.findings.specs.Codes.{missingIdMarker, invalidBookCode, duplicateId, textBeforeId, missingChapterMarker, invalidChapterSequence, duplicateChapter, invalidVerseSequence, verseOutsideParagraph, noteSubmarkerOutsideNote, nonEmptyBlankLine, leadingZeros, milestoneMismatch, invalidAttributes, missingChapterNumber, missingVerseNumber, charCrossesVerseBoundary, emptyFigure, unquotedAttributeValue, missingRequiredAttribute, bodyParagraphBeforeChapter, emptyWordMarker, invalidTableColumnSequence, defaultAttributeNotDefined, misplacedNumberMarker, missingSpaceBeforeNumber}
 
 -- what a text can show beside its own bytes
 pub data Hole : Type 0 where
@@ -60,47 +61,47 @@ of code h1 h2 h3 forms = record { code = code; h1 = h1; h2 = h2; h3 = h3; forms 
 
 unfoldable pub documentTexts : List Code
 documentTexts =
-    of 4 empty empty empty ((say "document has chapters/verses but no \\id (book) marker" ∷ []) ∷ [])
-    ∷ of 5 bookCode empty empty ((say "book code \"" ∷ v1 ∷ say "\" should be uppercase: \"" ∷ V1 ∷ say "\"" ∷ []) ∷ (say "\"" ∷ v1 ∷ say "\" is not a valid USFM book code" ∷ []) ∷ [])
-    ∷ of 6 empty empty empty ((say "more than one \\id marker" ∷ []) ∷ [])
-    ∷ of 7 empty empty empty ((say "text appears before the \\id marker" ∷ []) ∷ [])
-    ∷ of 8 empty empty empty ((say "the document has no \\c (chapter) marker" ∷ []) ∷ [])
+    of missingIdMarker empty empty empty ((say "document has chapters/verses but no \\id (book) marker" ∷ []) ∷ [])
+    ∷ of invalidBookCode bookCode empty empty ((say "book code \"" ∷ v1 ∷ say "\" should be uppercase: \"" ∷ V1 ∷ say "\"" ∷ []) ∷ (say "\"" ∷ v1 ∷ say "\" is not a valid USFM book code" ∷ []) ∷ [])
+    ∷ of duplicateId empty empty empty ((say "more than one \\id marker" ∷ []) ∷ [])
+    ∷ of textBeforeId empty empty empty ((say "text appears before the \\id marker" ∷ []) ∷ [])
+    ∷ of missingChapterMarker empty empty empty ((say "the document has no \\c (chapter) marker" ∷ []) ∷ [])
     ∷ []
 
 unfoldable pub numberTexts : List Code
 numberTexts =
-    of 9 first second empty ((say "expected chapter " ∷ v1 ∷ say " but found " ∷ v2 ∷ []) ∷ [])
-    ∷ of 10 first second empty ((say "chapter " ∷ v1 ∷ say " appears more than once" ∷ []) ∷ [])
-    ∷ of 11 position label empty ((say "expected verse " ∷ v1 ∷ say " but found " ∷ v2 ∷ []) ∷ [])
-    ∷ of 12 empty empty empty ((say "\\v is not inside a body paragraph (e.g. \\c or \\s directly followed by \\v with no \\p)" ∷ []) ∷ [])
-    ∷ of 15 label empty empty ((say "chapter number `" ∷ v1 ∷ say "` has leading zeros" ∷ []) ∷ (say "verse number `" ∷ v1 ∷ say "` has leading zeros" ∷ []) ∷ [])
-    ∷ of 18 empty empty empty ((say "\\c is missing its chapter number" ∷ []) ∷ [])
-    ∷ of 19 empty empty empty ((say "\\v is missing its verse number" ∷ []) ∷ [])
-    ∷ of 20 empty empty empty ((say "a character marker spans a verse boundary (\\v inside a \\char span)" ∷ []) ∷ [])
-    ∷ of 34 gluedName bareName gluedLabel ((say "\\" ∷ v1 ∷ say " needs a space before its number; read as \\" ∷ v2 ∷ say " " ∷ v3 ∷ []) ∷ [])
+    of invalidChapterSequence first second empty ((say "expected chapter " ∷ v1 ∷ say " but found " ∷ v2 ∷ []) ∷ [])
+    ∷ of duplicateChapter first second empty ((say "chapter " ∷ v1 ∷ say " appears more than once" ∷ []) ∷ [])
+    ∷ of invalidVerseSequence position label empty ((say "expected verse " ∷ v1 ∷ say " but found " ∷ v2 ∷ []) ∷ [])
+    ∷ of verseOutsideParagraph empty empty empty ((say "\\v is not inside a body paragraph (e.g. \\c or \\s directly followed by \\v with no \\p)" ∷ []) ∷ [])
+    ∷ of leadingZeros label empty empty ((say "chapter number `" ∷ v1 ∷ say "` has leading zeros" ∷ []) ∷ (say "verse number `" ∷ v1 ∷ say "` has leading zeros" ∷ []) ∷ [])
+    ∷ of missingChapterNumber empty empty empty ((say "\\c is missing its chapter number" ∷ []) ∷ [])
+    ∷ of missingVerseNumber empty empty empty ((say "\\v is missing its verse number" ∷ []) ∷ [])
+    ∷ of charCrossesVerseBoundary empty empty empty ((say "a character marker spans a verse boundary (\\v inside a \\char span)" ∷ []) ∷ [])
+    ∷ of missingSpaceBeforeNumber gluedName bareName gluedLabel ((say "\\" ∷ v1 ∷ say " needs a space before its number; read as \\" ∷ v2 ∷ say " " ∷ v3 ∷ []) ∷ [])
     ∷ []
 
 unfoldable pub markerTexts : List Code
 markerTexts =
-    of 13 entryName empty empty ((say "\\" ∷ v1 ∷ say " is only valid inside a note" ∷ []) ∷ [])
-    ∷ of 14 empty empty empty ((say "\\b (blank line) must not contain content" ∷ []) ∷ [])
-    ∷ of 16 base empty empty ((say "milestone \\" ∷ v1 ∷ say "-s has no matching \\" ∷ v1 ∷ say "-e" ∷ []) ∷ (say "milestone \\" ∷ v1 ∷ say "-e has no matching \\" ∷ v1 ∷ say "-s" ∷ []) ∷ [])
-    ∷ of 21 empty empty empty ((say "\\fig has no caption content" ∷ []) ∷ [])
-    ∷ of 23 empty empty empty ((say "\\rb is missing its required \"gloss\" attribute" ∷ []) ∷ [])
-    ∷ of 24 entryName empty empty ((say "body paragraph \\" ∷ v1 ∷ say " appears before any \\c (chapter)" ∷ []) ∷ [])
-    ∷ of 25 empty empty empty ((say "\\w has no text content or attributes" ∷ []) ∷ [])
-    ∷ of 27 first second empty ((say "expected table column " ∷ v1 ∷ say " but found column " ∷ v2 ∷ []) ∷ [])
-    ∷ of 33 numberName owner unit ((say "\\" ∷ v1 ∷ say " must directly follow its \\" ∷ v2 ∷ say " (at most once per " ∷ v3 ∷ say "); it is kept as character text" ∷ []) ∷ [])
+    of noteSubmarkerOutsideNote entryName empty empty ((say "\\" ∷ v1 ∷ say " is only valid inside a note" ∷ []) ∷ [])
+    ∷ of nonEmptyBlankLine empty empty empty ((say "\\b (blank line) must not contain content" ∷ []) ∷ [])
+    ∷ of milestoneMismatch base empty empty ((say "milestone \\" ∷ v1 ∷ say "-s has no matching \\" ∷ v1 ∷ say "-e" ∷ []) ∷ (say "milestone \\" ∷ v1 ∷ say "-e has no matching \\" ∷ v1 ∷ say "-s" ∷ []) ∷ [])
+    ∷ of emptyFigure empty empty empty ((say "\\fig has no caption content" ∷ []) ∷ [])
+    ∷ of missingRequiredAttribute empty empty empty ((say "\\rb is missing its required \"gloss\" attribute" ∷ []) ∷ [])
+    ∷ of bodyParagraphBeforeChapter entryName empty empty ((say "body paragraph \\" ∷ v1 ∷ say " appears before any \\c (chapter)" ∷ []) ∷ [])
+    ∷ of emptyWordMarker empty empty empty ((say "\\w has no text content or attributes" ∷ []) ∷ [])
+    ∷ of invalidTableColumnSequence first second empty ((say "expected table column " ∷ v1 ∷ say " but found column " ∷ v2 ∷ []) ∷ [])
+    ∷ of misplacedNumberMarker numberName owner unit ((say "\\" ∷ v1 ∷ say " must directly follow its \\" ∷ v2 ∷ say " (at most once per " ∷ v3 ∷ say "); it is kept as character text" ∷ []) ∷ [])
     ∷ []
 
 unfoldable pub attributeTexts : List Code
 attributeTexts =
-    of 17 empty empty empty
+    of invalidAttributes empty empty empty
     ((say "empty attribute list after `|`" ∷ [])
     ∷ (say "attribute key without a `=\"value\"`" ∷ [])
     ∷ (say "attribute has an empty value (e.g. `lemma=\"\"`)" ∷ [])
     ∷ (say "unterminated quoted attribute value" ∷ [])
     ∷ [])
-    ∷ of 22 empty empty empty ((say "attribute value must be quoted" ∷ []) ∷ [])
-    ∷ of 32 ownerName empty empty ((say "\\" ∷ v1 ∷ say " has no default attribute; the value after `|` is invalid" ∷ []) ∷ [])
+    ∷ of unquotedAttributeValue empty empty empty ((say "attribute value must be quoted" ∷ []) ∷ [])
+    ∷ of defaultAttributeNotDefined ownerName empty empty ((say "\\" ∷ v1 ∷ say " has no default attribute; the value after `|` is invalid" ∷ []) ∷ [])
     ∷ []

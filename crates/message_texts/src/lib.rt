@@ -1,25 +1,13 @@
 // The texts of findings: writes the text that a code and a form have over a lent list, its values in their places.
-ghost use mathlib.Core.Path.{_≡_};
 ghost use mathlib.Core.List.{[], _∷_, _++_};
 ghost use mathlib.Core.Option.{some};
-ghost use Prim.Native.Nat.{_-_, _≤_};
+ghost use Prim.Native.Nat.{_≤_};
 ghost use lib.ListN.{length, drop};
-ghost use Rattle.text.specs.Pick.{within, pick};
 ghost use Rattle.buffer.specs.Over.{Put, placeLimit};
 ghost use Rattle.message_texts.specs.Texts.{numberTexts, markerTexts, attributeTexts};
 ghost use Rattle.message_texts.specs.Filled.{byteOf, filled, allTexts};
 ghost use Rattle.message_texts.specs.Inner.{values, Short, NoValues, WrittenAs, WrittenFrom, WrittenOf};
 ghost use Rattle.text.specs.Bytes.{upper};
-
-fn capital(b: u8) -> u8
-    ensures { λ r. ⌜ r ≡ pick (within 0x61 0x7A b) (b - 32) b ⌝ }
-{
-    if text::holds(b, b'a', b'z') {
-        b - 32
-    } else {
-        b
-    }
-}
 
 // Writes the bytes with capitals for small letters, and gives the place behind them, whether or not they had room.
 fn put_capitals(out: &mut [u8], at: usize, s: &[u8]) -> usize
@@ -28,7 +16,7 @@ fn put_capitals(out: &mut [u8], at: usize, s: &[u8]) -> usize
 {
     let mut i: usize = 0;
     while i < s.len() && at + i < out.len() {
-        out[at + i] = capital(s[i]);
+        out[at + i] = text::upper(s[i]);
         i += 1;
     }
     at + s.len()
@@ -83,9 +71,9 @@ fn fill(text: &[u8], a: &[u8], b: &[u8], c: &[u8], out: &mut [u8]) -> usize
 }
 
 // The functions from here on write a text if there is one and it has room, and give one more than its length, or 0 where there is none: a number is
-// handed back in a register, where an enum would be copied from function to function.
+// returned in a register, where an enum would be copied from function to function.
 
-// Writes a text with its values in their places if it has room. Its length is seldom in doubt: only where the list may be too short is it found first, by writing over no list.
+// Writes a text with its values in their places if it has room. Only where the list may be too short is its length found first, by writing over no list.
 fn fill_within(text: &[u8], a: &[u8], b: &[u8], c: &[u8], out: &mut [u8]) -> usize
     requires { ⌜ (length (now text) ≤ 256) × Short (now a) (now b) (now c) ⌝ }
     ensures { λ r. ⌜ WrittenAs (some (filled (now (text .entry)) (values (now (a .entry)) (now (b .entry)) (now (c .entry))))) (now (out .entry)) (now (out .exit)) r ⌝ }
@@ -142,7 +130,7 @@ fn four(
     two(form - 2, text2, text3, a, b, c, out)
 }
 
-// A text is made in its own arm, by a `*`: a byte string that is borrowed as it stands is stored where its function starts, whatever the code is.
+// Each arm makes its text by a `*`: a borrowed byte string would be stored at the start of the function, whatever the code is.
 
 // The codes of the document and its book, else those below.
 fn document_text(code: u64, form: u64, a: &[u8], b: &[u8], c: &[u8], out: &mut [u8]) -> usize

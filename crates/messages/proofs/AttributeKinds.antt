@@ -10,7 +10,7 @@ use Rattle.text.specs.Characters.{chars}
 use Rattle.text.specs.declared.Decoded.{Decoded}
 use Rattle.table.specs.Names.{defaultOf}
 use Rattle.findings.specs.Finding.{Kind}
-use Rattle.attributes.specs.Attributes.{emptyList, keyAlone, emptyValue, unterminated, unquotedValue, noDefault, Mode, between, key, value, opened, quoted, escaping, unquoted, inQuotes, ScanStep, go, tell, stop, scanStep, endOfText, scanOn, attributeScan, body, hasDefault, holdsEquals, attributeKinds}
+use Rattle.attributes.specs.Attributes.{emptyList, keyAlone, emptyValue, unterminated, unquotedValue, noDefault, Mode, between, key, value, opened, quoted, escaping, unquoted, inQuotes, ScanStep, go, report, stop, scanStep, endOfText, scanOn, attributeScan, body, hasDefault, holdsEquals, attributeKinds}
 use Rattle.messages.proofs.Every.{AllOf}
 use Rattle.text.specs.Pick.{pick}
 
@@ -25,7 +25,7 @@ pub record OfAttributes (P : Kind → Type 0) : Type 0 where
 module _ (P : Kind → Type 0) (six : OfAttributes P) where
   abbrev InStep : ScanStep → Type 0
   InStep (go m) = Unit {0}
-  InStep (tell k m) = P k
+  InStep (report k m) = P k
   InStep (stop k) = P k
 
   in-pick : (b : Bool) (x y : ScanStep) → InStep x → InStep y → InStep (pick b x y)
@@ -56,7 +56,7 @@ module _ (P : Kind → Type 0) (six : OfAttributes P) where
 
   resumed : (x : ScanStep) (rest : Mode → List Kind) → InStep x → ((m : Mode) → AllOf P (rest m)) → AllOf P (scanOn x rest)
   resumed (go m) rest p h = h m
-  resumed (tell k m) rest p h = (p, h m)
+  resumed (report k m) rest p h = (p, h m)
   resumed (stop k) rest p h = (p, tt)
 
   scanned : (m : Mode) (cs : List Decoded) → AllOf P (attributeScan m cs)

@@ -15,7 +15,6 @@ use borrow.Author.Tests.{le-ltb, eq-eqb, ne-eqb, ltb-false}
 use borrow.Rule.Slice.PartMut.{midOf, putMid, put-same, mid-len}
 use Rattle.buffer.specs.Over.{over}
 use Rattle.buffer.proofs.Over.{over-over, over-none, over-past, length-over}
-use Rattle.messages.specs.Inner.{messageAnswerOf}
 use Rattle.messages.specs.declared.MessageAnswer as declared
 use Rattle.messages.specs.declared.MessageAnswer.the-variants as answer
 use Rattle.messages.specs.Answer.{refused, written, byRoom, bytesBy}
@@ -24,6 +23,7 @@ use Rattle.messages.specs.Messages as answers
 use Rattle.messages.specs.Messages.{fitting, textsFrom, endsFrom, turnedBack, answerByTexts}
 use Rattle.text.specs.Pick.{pick}
 use Rattle.refusals.specs.Refusal.{messageListTooShort}
+use Rattle.messages.specs.Answer.{messageAnswerOf}
 
 -- bytes written over the part of a list that begins at a place
 over-part : (l : List ℕ) (at : ℕ) (s : List ℕ) → take at l ++ over (drop at l) 0 s ≡ over l at s

@@ -9,24 +9,12 @@ use Rattle.text.specs.Pick.{cut}
 use Rattle.tape.specs.Nodes.{count}
 use Rattle.tape.specs.Forest.{Accepted}
 use Rattle.table.specs.Entries.{Entry}
+use Rattle.findings.specs.Codes.{noteSubmarkerOutsideNote, bodyParagraphBeforeChapter}
 use Rattle.message_texts.specs.Filled.{allTexts, codeOf}
 use Rattle.message_texts.specs.Inner.{WrittenAs, WrittenFrom}
 use Rattle.messages.specs.Message as message
 use Rattle.messages.specs.Message.{shown, textBy}
-use Rattle.messages.specs.Answer as answers
-use Rattle.messages.specs.declared.MessageRequest as code
-use Rattle.messages.specs.declared.MessageAnswer.the-variants as answer
-use Rattle.messages.specs.declared.MessageAnswer as declared
 use Rattle.table.specs.Inner.{Indexed}
-
--- the request that the code makes
-abbrev pub requestBy : code.MessageRequest → message.Request
-requestBy q = record { code = q .code; form = q .form; node = q .node; first = q .first; second = q .second }
-
--- what the answer says
-abbrev pub messageAnswerOf : declared.MessageAnswer → answers.MessageAnswer
-messageAnswerOf (answer.Written n) = answers.written n
-messageAnswerOf (answer.Refused number place) = answers.refused (record { number = number; place = place })
 
 -- a document that numbers 1 to 9 pass, with its table's index, and a node of it
 pub record DocumentNode (table index : List ℕ) (entries : ℕ) (s t : List ℕ) (node : ℕ) : Type 0 where
@@ -45,7 +33,7 @@ WrittenWith q a b c l l′ r = WrittenFrom allTexts (q .code) (q .form) a b c l 
 
 -- "`\fr` outside a note shows the table's name"
 abbrev pub isTables : ℕ → Bool
-isTables code = eqb code 13 || eqb code 24
+isTables code = eqb code noteSubmarkerOutsideNote || eqb code bodyParagraphBeforeChapter
 
 -- the name in the table, empty where there is no entry
 abbrev pub nameOr : List ℕ → Option Entry → List ℕ

@@ -69,7 +69,7 @@ refusedOr none a = a
 abbrev pub messagesAnswer : List ℕ → List ℕ → List ℕ → List ℕ → ℕ → MessagesAnswer
 messagesAnswer table s t l room = refusedOr (firstNine table s t) (answerByTexts (textAt table s t l) (wholeRecords l) (textsOf table s t l room))
 
--- a lent list after it: as it was after a refusal, else with the words or bytes written over its start as far as there is room
+-- a lent list after it: unchanged after a refusal, else with the words or bytes written over its start as far as there is room
 abbrev pub writtenUnless : Option Refusal → List ℕ → List ℕ → List ℕ
 writtenUnless (some r) out s = out
 writtenUnless none out s = over out 0 s

@@ -32,13 +32,16 @@ ghost use Rattle.numbers.specs.Label.{labelOf, numbered};
 ghost use Rattle.definition.specs.Milestones.{endsIn};
 ghost use Rattle.buffer.specs.Over.{over};
 ghost use Rattle.buffer.specs.Decimal.{decimal};
+ghost use Rattle.findings.specs.Codes.{bodyParagraphBeforeChapter, defaultAttributeNotDefined, invalidBookCode, invalidVerseSequence, leadingZeros, milestoneMismatch, misplacedNumberMarker, missingSpaceBeforeNumber, noteSubmarkerOutsideNote};
+ghost use Rattle.findings.specs.Written.{wholeRecords};
+ghost use Rattle.message_texts.specs.Filled.{joined, allTexts};
 ghost use Rattle.messages.specs.Message.{letterBytes, unitOf, messageText};
 ghost use Rattle.messages.specs.Answer.{byRoom, bytesBy, messageAnswer, messageAfter};
 ghost use Rattle.messages.specs.Messages.{requestAt, textAt, textsOf, endsFrom, answerByTexts, messagesAnswer, messagesAnswerOf, messagesAfter, endsAfter};
-ghost use Rattle.messages.specs.Inner.{requestBy, messageAnswerOf, DocumentNode, WrittenBy, nameOr, isTables};
-ghost use Rattle.message_texts.specs.Filled.{allTexts};
+ghost use Rattle.messages.specs.Inner.{DocumentNode, WrittenBy, nameOr, isTables};
 ghost use Rattle.message_texts.specs.Inner.{WrittenFrom};
 ghost use Rattle.table.specs.Inner.{Indexed};
+ghost use Rattle.messages.specs.Answer.{requestBy, messageAnswerOf};
 
 // Of a finding's words, those that its text depends on.
 pub struct MessageRequest {
@@ -49,13 +52,13 @@ pub struct MessageRequest {
     pub second: u64,
 }
 
-// The length of the text that was written, or the number that turns it back with its place.
+// The length of the written text, or the number that turns it back with its place.
 pub enum MessageAnswer {
     Written(usize),
     Refused(u64, u64),
 }
 
-// How many texts were written and how many bytes they take; where not all were, what turns the next one back.
+// How many texts are written and how many bytes they take; where not all are, what turns the next one back.
 pub enum MessagesAnswer {
     All(usize, usize),
     Stopped(usize, usize, u64, u64),
@@ -76,20 +79,20 @@ fn shows_entry(code: u64) -> bool
 // The name that a text shows: the table's or the source's, by code; empty where the table has none.
 fn name_shown<'a, 'b, 'c>(
     table: &'a [u8],
-    words: &'b [u64],
+    index: &'b [u64],
     entries: usize,
     source: &'a [u8],
     tape: &'c [u8],
     i: usize,
     code: u64,
 ) -> &'a [u8]
-    requires { ⌜ (Indexed (now table) (now words) entries) × Spanned (now source) (now tape) i ⌝ }
+    requires { ⌜ (Indexed (now table) (now index) entries) × Spanned (now source) (now tape) i ⌝ }
     ensures { λ r. ⌜ now r ≡ pick (isTables code) (nameOr (now (table .entry)) (infoAt (now (table .entry)) (now (tape .entry)) i)) (nameOf (nodeAt (now (source .entry)) (now (tape .entry)) i .text)) ⌝ }
 {
     if !shows_entry(code) {
         return cursor::marker_name(source, tape, i);
     }
-    match cursor::marker_info(table, words, entries, tape, i) {
+    match cursor::marker_info(table, index, entries, tape, i) {
         Info::Known(m) => table::name(table, m),
         Info::Missing => &table[..0],
     }
@@ -98,20 +101,20 @@ fn name_shown<'a, 'b, 'c>(
 // The label of a Chapter or a Verse; empty for any other node.
 fn label_shown<'a, 'b, 'c, 'd>(
     table: &'b [u8],
-    words: &'c [u64],
+    index: &'c [u64],
     entries: usize,
     source: &'a [u8],
     tape: &'d [u8],
     i: usize,
 ) -> &'a [u8]
-    requires { ⌜ DocumentNode (now table) (now words) entries (now source) (now tape) i ⌝ }
+    requires { ⌜ DocumentNode (now table) (now index) entries (now source) (now tape) i ⌝ }
     ensures { λ r. ⌜ now r ≡ pick (numbered (kindAt (now (tape .entry)) i)) (labelOf (infoAt (now (table .entry)) (now (tape .entry)) i) (nodeAt (now (source .entry)) (now (tape .entry)) i .text)) [] ⌝ }
 {
     if !numbers::is_numbered(tape::kind_at(tape, i)) {
         return &source[..0];
     }
     numbers::number_label(
-        cursor::marker_info(table, words, entries, tape, i),
+        cursor::marker_info(table, index, entries, tape, i),
         cursor::text(source, tape, i),
     )
 }
@@ -159,7 +162,7 @@ fn write_verse(
     q: MessageRequest,
     out: &mut [u8],
 ) -> usize
-    requires { ⌜ (DocumentNode (now table) (now index) entries (now source) (now tape) (q .node)) × (q .code ≡ 11) ⌝ }
+    requires { ⌜ (DocumentNode (now table) (now index) entries (now source) (now tape) (q .node)) × (q .code ≡ invalidVerseSequence) ⌝ }
     ensures { λ r. ⌜ WrittenBy (now (table .entry)) (now (source .entry)) (now (tape .entry)) (requestBy q) (now (out .entry)) (now (out .exit)) r ⌝ }
 {
     if 127 < q.second {
@@ -182,7 +185,7 @@ fn write_label(
     q: MessageRequest,
     out: &mut [u8],
 ) -> usize
-    requires { ⌜ (DocumentNode (now table) (now index) entries (now source) (now tape) (q .node)) × (q .code ≡ 15) ⌝ }
+    requires { ⌜ (DocumentNode (now table) (now index) entries (now source) (now tape) (q .node)) × (q .code ≡ leadingZeros) ⌝ }
     ensures { λ r. ⌜ WrittenBy (now (table .entry)) (now (source .entry)) (now (tape .entry)) (requestBy q) (now (out .entry)) (now (out .exit)) r ⌝ }
 {
     let label = label_shown(table, index, entries, source, tape, q.node as usize);
@@ -211,7 +214,7 @@ fn write_glued<'a>(
     q: MessageRequest,
     out: &mut [u8],
 ) -> usize
-    requires { ⌜ (DocumentNode (now table) (now index) entries (now source) (now tape) (q .node)) × (q .code ≡ 34) ⌝ }
+    requires { ⌜ (DocumentNode (now table) (now index) entries (now source) (now tape) (q .node)) × (q .code ≡ missingSpaceBeforeNumber) ⌝ }
     ensures { λ r. ⌜ WrittenBy (now (table .entry)) (now (source .entry)) (now (tape .entry)) (requestBy q) (now (out .entry)) (now (out .exit)) r ⌝ }
 {
     let i = q.node as usize;
@@ -238,7 +241,7 @@ fn write_entry<'a>(
     q: MessageRequest,
     out: &mut [u8],
 ) -> usize
-    requires { ⌜ (DocumentNode (now table) (now index) entries (now source) (now tape) (q .node)) × ((q .code ≡ 13) ⊎ (q .code ≡ 24)) ⌝ }
+    requires { ⌜ (DocumentNode (now table) (now index) entries (now source) (now tape) (q .node)) × ((q .code ≡ noteSubmarkerOutsideNote) ⊎ (q .code ≡ bodyParagraphBeforeChapter)) ⌝ }
     ensures { λ r. ⌜ WrittenBy (now (table .entry)) (now (source .entry)) (now (tape .entry)) (requestBy q) (now (out .entry)) (now (out .exit)) r ⌝ }
 {
     if q.node == 0 {
@@ -262,7 +265,7 @@ fn write_base<'a>(
     q: MessageRequest,
     out: &mut [u8],
 ) -> usize
-    requires { ⌜ (DocumentNode (now table) (now index) entries (now source) (now tape) (q .node)) × (q .code ≡ 16) ⌝ }
+    requires { ⌜ (DocumentNode (now table) (now index) entries (now source) (now tape) (q .node)) × (q .code ≡ milestoneMismatch) ⌝ }
     ensures { λ r. ⌜ WrittenBy (now (table .entry)) (now (source .entry)) (now (tape .entry)) (requestBy q) (now (out .entry)) (now (out .exit)) r ⌝ }
 {
     if q.node == 0 {
@@ -273,7 +276,14 @@ fn write_base<'a>(
     if !is_paired(name) {
         return 0;
     }
-    message_texts::write_text(q.code, q.form, milestones::base(name), b"", b"", out)
+    message_texts::write_text(
+        q.code,
+        q.form,
+        milestones::milestone_base(name),
+        b"",
+        b"",
+        out,
+    )
 }
 
 // Whether a name is a milestone's start or end.
@@ -296,7 +306,7 @@ fn write_owner<'a>(
     q: MessageRequest,
     out: &mut [u8],
 ) -> usize
-    requires { ⌜ (DocumentNode (now table) (now index) entries (now source) (now tape) (q .node)) × (q .code ≡ 32) ⌝ }
+    requires { ⌜ (DocumentNode (now table) (now index) entries (now source) (now tape) (q .node)) × (q .code ≡ defaultAttributeNotDefined) ⌝ }
     ensures { λ r. ⌜ WrittenBy (now (table .entry)) (now (source .entry)) (now (tape .entry)) (requestBy q) (now (out .entry)) (now (out .exit)) r ⌝ }
 {
     if q.first == 0 {
@@ -331,7 +341,7 @@ fn write_number<'a>(
     q: MessageRequest,
     out: &mut [u8],
 ) -> usize
-    requires { ⌜ (DocumentNode (now table) (now index) entries (now source) (now tape) (q .node)) × (q .code ≡ 33) ⌝ }
+    requires { ⌜ (DocumentNode (now table) (now index) entries (now source) (now tape) (q .node)) × (q .code ≡ misplacedNumberMarker) ⌝ }
     ensures { λ r. ⌜ WrittenBy (now (table .entry)) (now (source .entry)) (now (tape .entry)) (requestBy q) (now (out .entry)) (now (out .exit)) r ⌝ }
 {
     if q.node == 0 {
@@ -347,7 +357,7 @@ fn write_number<'a>(
 
 // InvalidBookCode.
 fn write_book(source: &[u8], tape: &[u8], q: MessageRequest, out: &mut [u8]) -> usize
-    requires { ⌜ (Accepted (now source) (now tape)) × (length (now source) ≤ 1048576) × (q .node < count (now tape)) × (q .code ≡ 5) ⌝ }
+    requires { ⌜ (Accepted (now source) (now tape)) × (length (now source) ≤ 1048576) × (q .node < count (now tape)) × (q .code ≡ invalidBookCode) ⌝ }
     ensures { λ r. ⌜ ((table : List ℕ) → WrittenBy table (now (source .entry)) (now (tape .entry)) (requestBy q) (now (out .entry)) (now (out .exit)) r) ⌝ }
 {
     let i = q.node as usize;
@@ -406,15 +416,15 @@ pub fn message_in<'a>(
     ensures { λ r. ⌜ (messageAnswerOf r ≡ byRoom (messageText (now (table .entry)) (now (source .entry)) (now (tape .entry)) (requestBy q)) (length (now (out .entry)))) × (now (out .exit) ≡ bytesBy none (messageText (now (table .entry)) (now (source .entry)) (now (tape .entry)) (requestBy q)) (now (out .entry))) ⌝ }
 {
     if tape.len() as u64 / 16 <= q.node {
-        return MessageAnswer::Refused(12, 0);
+        return MessageAnswer::Refused(refusals::NO_MESSAGE, 0);
     }
     let n = write_message(table, index, entries, source, tape, q, out);
     if n == 0 {
-        return MessageAnswer::Refused(12, 0);
+        return MessageAnswer::Refused(refusals::NO_MESSAGE, 0);
     }
     let len = n - 1;
     if out.len() < len {
-        return MessageAnswer::Refused(13, len as u64);
+        return MessageAnswer::Refused(refusals::MESSAGE_LIST_TOO_SHORT, len as u64);
     }
     MessageAnswer::Written(len)
 }

@@ -7,9 +7,9 @@ use lib.ListN.{length}
 use Rattle.tape.specs.Nodes.{nodeAt}
 use Rattle.definition.specs.Milestones.{baseOf}
 use Rattle.milestones.specs.Inner.{Measured, baseAt}
+use Rattle.text.specs.Bytes.{equal}
 use Rattle.definition.proofs.OpenStart as OpenStart-T
 use Rattle.milestones.proofs.has_base as has-base-F
-use Rattle.text.specs.Bytes.{equal}
 
 abbrev pub terms : Terms
 terms = stated-as has-base-F.Symbol.name of-truth

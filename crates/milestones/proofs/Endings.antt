@@ -19,7 +19,7 @@ use Rattle.table.specs.declared.MarkerInfo.{MarkerInfo}
 use Rattle.table.specs.declared.Category.{Category}
 use Rattle.table.specs.declared.Category.the-variants.{Identification, Chapter, Verse, Paragraph, Character, Note, Milestone, Other}
 use Rattle.table.proofs.Category as declared
-use Rattle.table.proofs.Words.{equal-apart, equal-ends}
+use Rattle.text.proofs.Blocks.{equal-apart, equal-ends}
 use Rattle.cursor.specs.Names.{namePart, nameOf}
 use Rattle.numbers.proofs.Labels.{part-from}
 use Rattle.definition.specs.Milestones.{endsIn, baseOf}

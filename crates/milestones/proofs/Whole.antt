@@ -14,7 +14,8 @@ use Rattle.findings.specs.Finding.{Finding}
 use Rattle.findings.specs.declared.Counts.{Counts}
 use Rattle.findings.specs.Written.{overlay, only}
 use Rattle.definition.specs.Checks.{given, when, error}
-use Rattle.definition.specs.Milestones.{isStart, isMilestone, baseOf, waits, milestoneChecks, startsAfter, without, withOpen, afterMilestone}
+use Rattle.definition.specs.Milestones.{isStart, isMilestone, baseOf, waits, milestoneChecks, startsAfter, without, afterMilestone}
+use Rattle.definition.specs.Setters.{setOpenStarts}
 use Rattle.definition.specs.declared.OpenStart.{OpenStart}
 use Rattle.state.specs.Inner.{openNodes, stateOf, countsOf, withCounts, Opens}
 use Rattle.state.specs.declared.State.{State}
@@ -85,7 +86,7 @@ module _ (e : Entry) (s t : List ℕ) (i : ℕ) (opens : List OpenStart) (l : Li
   unfolding afterMilestone
   stepped opens′ n p o′ h =
       record {
-        state = λ seen. ap (withOpen (stateOf s t seen opens r)) p;
+        state = λ seen. ap (λ (xs : List Node). setOpenStarts xs (stateOf s t seen opens r)) p;
         stays = o′;
         few = h;
         counts = refl;

@@ -14,6 +14,7 @@ use Rattle.definition.specs.Milestones.{endsIn, isStart, isMilestone, baseOf}
 use Rattle.definition.specs.Outcome.{noStart}
 use Rattle.definition.specs.declared.OpenStart.{OpenStart}
 use Rattle.state.specs.Inner.{countsOf, withCounts}
+use Rattle.state.specs.InnerSetters.{putOpenLen}
 use Rattle.state.specs.declared.State.{State}
 use Rattle.milestones.specs.declared.Step.{Step}
 use Rattle.milestones.specs.declared.Step.the-variants as step
@@ -70,14 +71,14 @@ takenBy s t opens k (step.End at len) = nearestIn s t opens k (baseAt s at len)
 takenBy s t opens k (step.Start o) = Nothing
 takenBy s t opens k step.Neither = Nothing
 
--- the open starts after it: one more, one less, or as they were
+-- the open starts after it: one more, one less, or unchanged
 abbrev pub opensBy : Step → Found → List OpenStart → ℕ → List OpenStart
 opensBy step.Neither f opens k = opens
 opensBy (step.Start o) f opens k = set opens k o
 opensBy (step.End at len) (At j) opens k = removed opens k j
 opensBy (step.End at len) Nothing opens k = opens
 
--- how many they are, or that an end stands alone
+-- how many they are, or that an end has no open start
 abbrev pub pairedBy : Step → Found → ℕ → Paired
 pairedBy step.Neither f k = paired.Now k
 pairedBy (step.Start o) f k = paired.Now (k + 1)
@@ -86,35 +87,19 @@ pairedBy (step.End at len) Nothing k = paired.Alone
 
 -- the record with another number of open starts
 abbrev pub withOpens : State → ℕ → State
-withOpens r n =
-    record {
-      «has_id» = r .«has_id»;
-      «has_chapter» = r .«has_chapter»;
-      «has_verse» = r .«has_verse»;
-      «front_matter» = r .«front_matter»;
-      «verse_outside_warned» = r .«verse_outside_warned»;
-      «expected_chapter» = r .«expected_chapter»;
-      «expected_verse» = r .«expected_verse»;
-      «seen_len» = r .«seen_len»;
-      «open_len» = n;
-      verses = r .verses;
-      anchor = r .anchor;
-      errors = r .errors;
-      warnings = r .warnings;
-      infos = r .infos;
-    }
+withOpens r n = putOpenLen n r
 
--- the finding of an end that nothing waits for is written, and nothing but the counts is another
+-- the finding of an end without an open start is written, and only the counts change
 pub record WroteEndAlone (t : List ℕ) (i : ℕ) (l : List ℕ) (r : State) (l′ : List ℕ) (q : State) : Type 0 where
   pub wrote : Wrote (error (nodeAt [] t i) milestoneMismatch endAlone ∷ []) l (countsOf r) l′ (countsOf q)
   pub same : q ≡ withCounts r (countsOf q)
 
--- the record after a marker, by how many open starts there are now: an end that stands alone is told
+-- the record after a marker, by the number of open starts after it: an end without one has its finding
 abbrev pub Counted : List ℕ → ℕ → Paired → List ℕ → State → List ℕ → State → Type 0
 Counted t i (paired.Now n) l r l′ q = (q ≡ withOpens r n) × (l′ ≡ l)
 Counted t i paired.Alone l r l′ q = WroteEndAlone t i l r l′ q
 
--- there is room for what is told
+-- there is room for its finding
 abbrev pub Countable : List ℕ → ℕ → Paired → State → Type 0
 Countable t i (paired.Now n) r = Unit {0}
 Countable t i paired.Alone r = Room (countsOf r) (error (nodeAt [] t i) milestoneMismatch endAlone ∷ [])

@@ -29,7 +29,7 @@ pub record Milestoned (e : Entry) (s t : List ℕ) (i : ℕ) (opens : List OpenS
   pub wrote : Wrote (given (milestoneChecks e (stateOf s t [] opens r) (nodeAt s t i))) l (countsOf r) l′ (countsOf q)
   pub step : MilestoneStep e s t i opens (withCounts r (countsOf q)) opens′ q
 
--- what a marker asks for: it is a node of the tape, the open starts are known and have room for one more, and there is room for its finding
+-- what the step of a marker requires: it is a node of the tape, the open starts are known and have room for one more, and there is room for its finding
 pub record Steppable (e : Entry) (s t : List ℕ) (i : ℕ) (opens : List OpenStart) (r : State) : Type 0 where
   pub spanned : Spanned s t i
   pub low : i < 4294967296

@@ -10,9 +10,9 @@ ghost use lib.ListN.{length, set};
 ghost use Rattle.tape.specs.Nodes.{nodeAt, count};
 ghost use Rattle.table.specs.Entries.{Entry, entryOfInfo, milestoneCategory};
 ghost use Rattle.cursor.specs.Inner.{Spanned};
-ghost use Rattle.definition.specs.Checks.{given, error};
-ghost use Rattle.definition.specs.Milestones.{endsIn, baseOf, milestoneChecks};
-ghost use Rattle.state.specs.Inner.{stateOf, countsOf, Opens};
+ghost use Rattle.definition.specs.Checks.{error};
+ghost use Rattle.definition.specs.Milestones.{endsIn, baseOf};
+ghost use Rattle.state.specs.Inner.{countsOf, Opens};
 ghost use Rattle.milestones.specs.Inner.{baseIn, Measured, Read, Placed, baseAt, nearestIn, removed, takenBy, opensBy, pairedBy, withOpens, WroteEndAlone, Counted, Countable};
 ghost use Rattle.milestones.specs.InnerStep.{Milestoned, Steppable};
 ghost use Rattle.findings.specs.Codes.{milestoneMismatch, endAlone};
@@ -33,7 +33,7 @@ pub enum Step {
     Neither,
 }
 
-// How many open starts there are after a marker, or that it is an end that none waits for.
+// How many open starts there are after a marker, or that it is an end without an open start.
 pub enum Paired {
     Now(usize),
     Alone,
@@ -53,8 +53,8 @@ pub fn ends_in(name: &[u8], letter: u8) -> bool
     name[n - 1] == letter
 }
 
-// A name without its last two bytes: a part of it.
-pub fn base(name: &[u8]) -> &[u8]
+// The base of a start or an end, `qt` of `qt-s`: its name without the last two bytes, a part of it.
+pub fn milestone_base(name: &[u8]) -> &[u8]
     ensures { λ r. ⌜ now r ≡ baseIn (now (name .entry)) ⌝ }
 {
     let n = name.len();
@@ -114,7 +114,7 @@ fn has_base(source: &[u8], tape: &[u8], o: OpenStart, at: usize, len: usize) -> 
     let from = cursor::name_at(source, tape, o.node as usize);
     let end = from + n;
     let to = at + len;
-    table::same(&source[from..end], &source[at..to])
+    text::equal(&source[from..end], &source[at..to])
 }
 
 fn with_open(r: State, n: usize) -> State
@@ -125,7 +125,7 @@ fn with_open(r: State, n: usize) -> State
     q
 }
 
-// The finding of an end that no open start waits for.
+// Writes the finding of an end without an open start.
 fn push_end_alone(tape: &[u8], i: usize, rec: State, list: &mut [u64]) -> State
     requires { ⌜ (i < count (now tape)) × Room (countsOf rec) (error (nodeAt [] (now tape) i) milestoneMismatch endAlone ∷ []) ⌝ }
     ensures { λ r. ⌜ WroteEndAlone (now (tape .entry)) i (now (list .entry)) rec (now (list .exit)) r ⌝ }
@@ -208,7 +208,7 @@ fn pair(source: &[u8], tape: &[u8], step: Step, opens: &mut [OpenStart], k: usiz
     }
 }
 
-// The record after a marker, by how many open starts there are now.
+// The record after a marker, by the number of open starts after it.
 pub fn after_pair(tape: &[u8], i: usize, p: Paired, rec: State, list: &mut [u64]) -> State
     requires { ⌜ (i < count (now tape)) × Countable (now tape) i p rec ⌝ }
     ensures { λ r. ⌜ Counted (now (tape .entry)) i p (now (list .entry)) rec (now (list .exit)) r ⌝ }

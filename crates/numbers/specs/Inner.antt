@@ -1,4 +1,4 @@
--- What the functions promise that others are made of.
+-- What the inner functions promise.
 use Prim.Native.Nat.{ℕ, zero, suc, _-_, _≤_}
 use mathlib.Core.Path.{_≡_}
 use mathlib.Core.Bool.{Bool, true, false, not, _&&_}

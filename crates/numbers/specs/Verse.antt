@@ -90,7 +90,7 @@ abbrev pub letterLow : Option ℕ → Bool
 letterLow none = true
 letterLow (some b) = ltb b 255
 
--- a position that a label can have: what `next_expected` asks for
+-- a position that a label can have: what `next_expected` requires
 pub record Readable (p : Position) : Type 0 where
   pub number-low : p .number ≤ 4294967295
   pub letter-low : letterLow (p .letter) ≡ true

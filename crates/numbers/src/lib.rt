@@ -80,7 +80,7 @@ fn first_word_end(text: &[u8], at: NameSpan) -> usize
     text::find_from(text, e, true)
 }
 
-// Whether a text begins as `\v 1` does, with any small letter and any digit. Most labels stand behind such a beginning.
+// Whether a text begins as `\v 1` does, with any small letter and any digit. Most texts of Chapters and Verses begin so.
 fn is_usual(text: &[u8]) -> bool
     ensures { λ r. ⌜ (r ≡ true → Usual (now (text .entry))) ⌝ }
 {
@@ -99,7 +99,7 @@ fn is_usual(text: &[u8]) -> bool
     text::holds(text[3], b'0', b'9')
 }
 
-// The label by its places, where the table's name has so many bytes. A number in place of the entry is handed over in a register.
+// The label by its places, where the table's name has so many bytes. A number in place of the entry passes in a register.
 fn label_by(base: usize, text: &[u8]) -> LabelSpan
     ensures { λ r. ⌜ LabelledBy base (now (text .entry)) r ⌝ }
 {
@@ -131,7 +131,7 @@ fn label_by(base: usize, text: &[u8]) -> LabelSpan
     }
 }
 
-// The label by its places, for a caller that asks whether it is glued, too: the name is read once. Without an entry no name is
+// The label by its places, for a caller that needs to know whether it is glued, too: the name is read once. Without an entry no name is
 // longer than the text.
 pub fn label_span(info: Info, text: &[u8]) -> LabelSpan
     ensures { λ r. ⌜ Labelled (infoOf info) (now (text .entry)) r ⌝ }
@@ -205,8 +205,9 @@ fn bad_label(
     label_splits(info, cursor::text(source, tape, i))
 }
 
-// The Chapters and Verses from one node up to another, in order, and how many they are. Nodes differ in kind with no order that a
-// processor foretells, so no jump here depends on it: what is no Chapter and no Verse is written too, and then over it.
+// The Chapters and Verses from one node up to another, in order, and how many they are. The kinds of nodes come in an
+// order that no processor predicts, so no jump here depends on it: a node that is no Chapter or Verse is written too, and the next
+// one overwrites it.
 fn gather(tape: &[u8], from: usize, to: usize, found: &mut [usize]) -> usize
     requires { ⌜ (from ≤ to) × (to ≤ count (now tape)) × (to - from < length (now found)) ⌝ }
     ensures { λ r. ⌜ (r ≤ length (now (found .exit))) × (take r (now (found .exit)) ≡ numbersIn (now (tape .entry)) from (to - from)) ⌝ }

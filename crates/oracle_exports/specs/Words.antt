@@ -1,4 +1,4 @@
--- An answer that may be missing, told as a number.
+-- An answer that may be missing, as a number.
 use Prim.Native.Nat.{ℕ, zero, suc}
 use mathlib.Core.Bool.{Bool, true, false, _&&_}
 use mathlib.Core.Option.{Option, some, none}
@@ -21,7 +21,7 @@ abbrev pub letterWord : Option Position → ℕ
 letterWord (some p) = numberOr 0 (p .letter)
 letterWord none = 0
 
--- the position that a number and the byte of a letter or 0 tell
+-- the position of a number and the byte of a letter, or 0 for none
 abbrev pub positionFrom : ℕ → ℕ → Position
 positionFrom n zero = record { number = n; letter = none }
 positionFrom n (suc b) = record { number = n; letter = some (suc b) }
@@ -30,7 +30,7 @@ positionFrom n (suc b) = record { number = n; letter = some (suc b) }
 abbrev pub low : ℕ → Bool
 low n = leb n 4294967296
 
--- the position after the one that is told, where a label can have that one and a letter has a byte after it; else itself
+-- the position after that of a number and a letter's byte, where a label can have that one and a letter has a byte after it; else itself
 abbrev pub nextFrom : ℕ → ℕ → Position
 nextFrom n b = pick (leb n 4294967295 && ltb b 255) (next (positionFrom n b)) (positionFrom n b)
 

@@ -1,4 +1,4 @@
-// Functions of the library under C names, for the program that compares them with the Rust's. Nothing is asked of a caller but valid slices.
+// Functions of the library under C names, for the program that compares them with the Rust's. A caller must pass valid slices.
 use attachment::Attached;
 use cursor::NumberRead;
 use cursor::Place;
@@ -117,7 +117,7 @@ pub extern "C" fn compared_parse(s: &[u8]) -> u64
     }
 }
 
-// A part that was handed back, copied as far as there is room, and its length.
+// A returned part, copied as far as there is room, and its length.
 fn copy(part: &[u8], out: &mut [u8]) -> usize
     ensures { λ r. ⌜ r ≡ length (now (part .entry)) ⌝ }
 {
@@ -257,7 +257,7 @@ pub extern "C" fn compared_table(table: &[u8]) -> u64 {
     }
 }
 
-// The number of the marker that a name stands for, or 2 to the power of 32, also where the table is badly laid out.
+// The number of the marker that a name stands for, or 2 to the power of 32, also where the table breaks its layout.
 #[no_mangle]
 pub extern "C" fn compared_lookup(table: &[u8], name: &[u8]) -> u64 {
     let mut index = [0u64; 512];

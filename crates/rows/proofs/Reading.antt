@@ -13,7 +13,7 @@ use Rattle.text.specs.Number.{parsed, numberOf}
 use Rattle.text.specs.declared.Parsed.{Parsed}
 use Rattle.text.specs.declared.Parsed.the-variants.{Value}
 use Rattle.text.proofs.Cuts.{rest-all}
-use Rattle.table.proofs.Words.{starts-long}
+use Rattle.text.proofs.Blocks.{starts-long}
 use Rattle.rows.specs.Cells.{ColumnRange, isCell, isAligned, afterLetters, pair, hyphen, columnsIn, cellColumns}
 use Rattle.text.specs.Literal.{ascii}
 use Rattle.text.specs.Bytes.{starting}

@@ -6,7 +6,7 @@ use text::Parsed;
 ghost use mathlib.Core.Path.{_≡_};
 ghost use Prim.Native.Nat.{_<_, _≤_};
 ghost use mathlib.Core.List.{[]};
-ghost use lib.ListN.{length, drop};
+ghost use lib.ListN.{length};
 ghost use Rattle.text.specs.Number.{numberOf};
 ghost use Rattle.tape.specs.Nodes.{nodeAt, count};
 ghost use Rattle.tape.specs.Forest.{forest};
@@ -30,10 +30,10 @@ pub enum Cell {
 fn is_cell(name: &[u8]) -> bool
     ensures { λ r. ⌜ r ≡ isCell (now (name .entry)) ⌝ }
 {
-    if table::starts_with(name, b"th") {
+    if text::starts_with(name, b"th") {
         true
     } else {
-        table::starts_with(name, b"tc")
+        text::starts_with(name, b"tc")
     }
 }
 

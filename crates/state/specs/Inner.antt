@@ -1,4 +1,4 @@
--- What the code's running values mean: the definition's record, what lies around, and the anchor.
+-- What the code's values mean in the definition: the record, the context, and the anchor.
 use Prim.Native.Nat.{ℕ, zero, suc, _<_, _≤_}
 use mathlib.Core.Path.{_≡_}
 use mathlib.Core.Bool.{Bool, true, false}
@@ -17,6 +17,7 @@ use Rattle.definition.specs.State as state
 use Rattle.definition.specs.Milestones.{baseOf}
 use Rattle.definition.specs.Outcome.{noStart}
 use Rattle.definition.specs.declared.OpenStart.{OpenStart}
+use Rattle.state.specs.InnerSetters.{putAnchor, putErrors, putWarnings, putInfos}
 use Rattle.state.specs.declared.State.{State}
 use Rattle.state.specs.declared.Context.{Context}
 
@@ -53,23 +54,7 @@ abbrev pub countsOf : State → Counts
 countsOf r = record { errors = r .errors; warnings = r .warnings; infos = r .infos }
 
 abbrev pub withCounts : State → Counts → State
-withCounts r c =
-    record {
-      «has_id» = r .«has_id»;
-      «has_chapter» = r .«has_chapter»;
-      «has_verse» = r .«has_verse»;
-      «front_matter» = r .«front_matter»;
-      «verse_outside_warned» = r .«verse_outside_warned»;
-      «expected_chapter» = r .«expected_chapter»;
-      «expected_verse» = r .«expected_verse»;
-      «seen_len» = r .«seen_len»;
-      «open_len» = r .«open_len»;
-      verses = r .verses;
-      anchor = r .anchor;
-      errors = c .errors;
-      warnings = c .warnings;
-      infos = c .infos;
-    }
+withCounts r c = putErrors (c .errors) (putWarnings (c .warnings) (putInfos (c .infos) r))
 
 -- the anchor that a node's number means to the siblings from a place on; 0 for none
 abbrev pub anchorOf : List ℕ → List ℕ → ℕ → ℕ → Option state.Anchor
@@ -91,7 +76,7 @@ startsFor (some a) f = attached.startOffsets (attachedNumbers (a .kind) (followe
 abbrev pub VerseBounded : State → Type 0
 VerseBounded r = r .«expected_verse» .num ≤ 4294967296
 
--- fields that a step leaves as they were
+-- fields that a step doesn't change
 pub record SameLists (r q : State) : Type 0 where
   pub seen : q .«seen_len» ≡ r .«seen_len»
   pub opens : q .«open_len» ≡ r .«open_len»
@@ -99,20 +84,4 @@ pub record SameLists (r q : State) : Type 0 where
   pub anchor : q .anchor ≡ r .anchor
 
 abbrev pub withAnchor : State → ℕ → State
-withAnchor r n =
-    record {
-      «has_id» = r .«has_id»;
-      «has_chapter» = r .«has_chapter»;
-      «has_verse» = r .«has_verse»;
-      «front_matter» = r .«front_matter»;
-      «verse_outside_warned» = r .«verse_outside_warned»;
-      «expected_chapter» = r .«expected_chapter»;
-      «expected_verse» = r .«expected_verse»;
-      «seen_len» = r .«seen_len»;
-      «open_len» = r .«open_len»;
-      verses = r .verses;
-      anchor = n;
-      errors = r .errors;
-      warnings = r .warnings;
-      infos = r .infos;
-    }
+withAnchor r n = putAnchor n r

@@ -1,1 +1,2 @@
+pub mod InnerSetters
 pub mod Inner

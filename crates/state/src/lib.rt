@@ -1,10 +1,10 @@
-// What runs along with the walk over a document: the record by value, and what lies around a run of siblings.
+// The state of the walk: the record by value, and the context of a run of siblings.
 use findings::Counts;
 use findings::Finding;
 use findings::Severity;
 use numbers::VersePart;
 use table::MarkerInfo;
-ghost use mathlib.Core.Bool.{_||_};
+ghost use mathlib.Core.Bool.{_&&_, _||_};
 ghost use mathlib.Core.Path.{_≡_};
 ghost use mathlib.Core.List.{[]};
 ghost use Prim.Native.Nat.{_<_};
@@ -35,7 +35,7 @@ pub struct State {
     pub infos: u64,
 }
 
-// Whether a run of siblings stands in a body paragraph, in a note, in a character marker.
+// Whether a run of siblings is in a body paragraph, in a note, in a character marker.
 pub struct Context {
     pub in_body_para: bool,
     pub in_note: bool,
@@ -117,13 +117,19 @@ pub fn is_body(m: MarkerInfo) -> bool
     }
 }
 
-fn or(a: bool, b: bool) -> bool
+pub fn or(a: bool, b: bool) -> bool
     ensures { λ r. ⌜ r ≡ (a || b) ⌝ }
 {
     if a { true } else { b }
 }
 
-// What lies around the children of a marker.
+pub fn and(a: bool, b: bool) -> bool
+    ensures { λ r. ⌜ r ≡ (a && b) ⌝ }
+{
+    if a { b } else { false }
+}
+
+// The context of a marker's children.
 pub fn inside(o: Context, m: MarkerInfo) -> Context
     ensures { λ r. ⌜ contextOf r ≡ Walk.inside (contextOf o) (entryOfInfo m) ⌝ }
 {

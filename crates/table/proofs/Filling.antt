@@ -13,10 +13,9 @@ use lib.Seq.{getD-set-same, getD-set-other}
 use borrow.Author.Tests.{ltb-true, ltb-false}
 use Rattle.table.specs.Lines.{lines, badFrom, badTable}
 use Rattle.table.specs.Entries.{Entry, entries, entriesOf, nth}
-use Rattle.table.specs.Inner.{LinesGood}
+use Rattle.table.specs.Inner.{LinesGood, pack, Sound, Indexed}
 use Rattle.table.proofs.Parts.{line-there, line-none}
 use Rattle.table.proofs.Unpack.{info-past}
-use Rattle.table.specs.Inner.{pack, Sound, Indexed}
 
 -- k markers are read, and the text is left from a place on
 pub record Going (t ix : List ℕ) (at k : ℕ) : Type 0 where

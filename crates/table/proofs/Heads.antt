@@ -20,8 +20,9 @@ use Rattle.table.specs.Lines.{nameByte}
 use Rattle.table.specs.Books.{codeFrom}
 use Rattle.table.specs.Inner.{nameLength, keyed, stepBy, stepWith, behindKey}
 use Rattle.table.proofs.Parts.{width}
-use Rattle.table.proofs.Words.{equal-true, every}
-use Rattle.table.proofs.Blocks.{parts, eight, HeadIs}
+use Rattle.table.proofs.Words.{every}
+use Rattle.text.proofs.Blocks.{equal-true, parts}
+use Rattle.table.proofs.HeadBytes.{eight, HeadIs}
 use Rattle.text.proofs.Bool.{and-left, and-right}
 use Rattle.text.specs.Bytes.{equal, all, starting}
 

@@ -1,5 +1,5 @@
 pub mod Words
-pub mod Blocks
+pub mod HeadBytes
 pub mod Suffix
 pub mod Positions
 pub mod Parts

@@ -15,10 +15,9 @@ use Rattle.table.specs.declared.TextRole.{TextRole}
 use Rattle.table.specs.declared.MarkerInfo.{MarkerInfo}
 use Rattle.table.specs.Entries.{Entry, entries, nth, entryOfInfo, categoryOf, roleOf}
 use Rattle.table.specs.Names.{namedFrom}
-use Rattle.table.specs.Inner.{categoryAt, roleAt}
+use Rattle.table.specs.Inner.{categoryAt, roleAt, pack, Sound, Indexed}
 use Rattle.table.proofs.Positions.{category-back, role-back}
 use Rattle.text.specs.Bytes.{equal}
-use Rattle.table.specs.Inner.{pack, Sound, Indexed}
 
 -- past the last entry, and before its end
 pub info-past : (es : List Entry) (k : ℕ) → length es ≤ k → nth es k ≡ none

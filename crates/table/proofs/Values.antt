@@ -9,14 +9,14 @@ use native.Mathlib.Omega.{arith}
 use lib.Dec.{leb}
 use lib.ListN.{length}
 use borrow.Author.Tests.{leb-true}
-use Rattle.text.specs.Pick.{within, pick}
+use Rattle.text.specs.Pick.{within, pick, known}
 use Rattle.text.proofs.Rows.{within-lo, within-hi}
 use Rattle.table.specs.Lines.{nameKey, nameByte, goodBody, categoryKey, categories, roleKey, roles}
 use Rattle.table.specs.Entries.{position}
 use Rattle.table.specs.Books.{codeFrom}
 use Rattle.table.specs.Inner.{nameLength, keyed, lineValue}
-use Rattle.text.specs.Pick.{known}
-use Rattle.table.proofs.Words.{starts-long, one-of, every, one-passes, found}
+use Rattle.table.proofs.Words.{one-of, every, one-passes, found}
+use Rattle.text.proofs.Blocks.{starts-long}
 use Rattle.text.proofs.Bool.{and-left}
 use Rattle.text.specs.Literal.{ascii}
 use Rattle.text.specs.Bytes.{all, starting, beyond}

@@ -1,6 +1,6 @@
--- Equal lists of bytes, and the first word of a list that equals another.
+-- The first word of a list that equals another.
 -- Assumes nothing.
-use mathlib.Core.Path.{_≡_, refl, sym, ap, _∙_}
+use mathlib.Core.Path.{_≡_, refl, sym, _∙_}
 use mathlib.Core.Bool.{Bool, true, false, false≢true, _&&_, _||_}
 use mathlib.Core.List.{List, [], _∷_}
 use mathlib.Core.Option.{some, none}
@@ -8,56 +8,18 @@ use Prim.Native.Nat.{ℕ, suc, _+_, _-_, _*_, _/_, _<_, _≤_}
 use native.Mathlib.Numerals.{add-one}
 use native.Mathlib.Omega.{arith}
 use lib.Dec.{eqb}
-use lib.ListN.{length, getD, take, drop, length-take, length-drop, drop-of-length-le}
+use lib.ListN.{length, getD, take, drop, length-drop}
 use lib.Seq.{drop-drop}
-use borrow.Author.Tests.{eq-eqb, ne-eqb, eqb-true}
-use Rattle.text.specs.Pick.{pick}
-use Rattle.text.proofs.Rows.{place}
+use borrow.Author.Tests.{ne-eqb}
+use Rattle.text.specs.Pick.{pick, known}
 use Rattle.table.specs.Entries.{position}
 use Rattle.table.specs.Names.{noteOnly}
 use Rattle.table.specs.Books.{codeFrom}
 use Rattle.table.specs.Inner.{triples}
-use Rattle.text.specs.Pick.{known}
 use Rattle.text.proofs.Bool.{and-left, and-right}
 use Rattle.text.specs.Literal.{ascii}
-use Rattle.text.specs.Bytes.{equal, oneOf, starting, beyond}
-
-pub equal-true : (a b : List ℕ) → equal a b ≡ true → a ≡ b
-unfolding equal
-equal-true [] [] e = refl
-equal-true [] (y ∷ b) e = absurd (false≢true e)
-equal-true (x ∷ a) [] e = absurd (false≢true e)
-equal-true (x ∷ a) (y ∷ b) e =
-    let first : x ≡ y = eqb-true x y (and-left (eqb x y) (equal a b) e) in
-    let rest : a ≡ b = equal-true a b (and-right (eqb x y) (equal a b) e) in
-    cc
-
-pub equal-apart : (a b : List ℕ) → (length a ≡ length b → ⊥) → equal a b ≡ false
-equal-apart a b h = go (equal a b) refl
-  where
-    go : (t : Bool) → equal a b ≡ t → t ≡ false
-    go true e = absurd (h (ap length (equal-true a b e)))
-    go false e = refl
-
-pub starts-short : (key s : List ℕ) → length s < length key → false ≡ starting key s
-starts-short key s h = sym (equal-apart key (take (length key) s) (λ e. omega (arith, e, length-take (length key) s)))
-
-pub starts-long : (key s : List ℕ) → starting key s ≡ true → length s ≡ length key + length (beyond key s)
-starts-long key s e = omega (arith, ap length (equal-true key (take (length key) s) e), length-take (length key) s, length-drop (length key) s)
-
--- past an equal byte, at one that differs, and at the end
-module _ (a b : List ℕ) (i : ℕ) where
-  pub equal-past : i < length a → i < length b → getD a i 0 ≡ getD b i 0 → equal (drop i a) (drop i b) ≡ equal (drop (i + 1) a) (drop (i + 1) b)
-  unfolding equal
-  equal-past h k e = rw (place a i h, place b i k, eq-eqb _ _ e)
-
-  pub equal-stops : i < length a → i < length b → (getD a i 0 ≡ getD b i 0 → ⊥) → equal (drop i a) (drop i b) ≡ false
-  unfolding equal
-  equal-stops h k e = rw (place a i h, place b i k, ne-eqb _ _ e)
-
-  pub equal-ends : length a ≤ i → length b ≤ i → equal (drop i a) (drop i b) ≡ true
-  unfolding equal
-  equal-ends h k = rw (drop-of-length-le a h, drop-of-length-le b k)
+use Rattle.text.proofs.Blocks.{equal-true}
+use Rattle.text.specs.Bytes.{equal, oneOf}
 
 -- the first word that equals the list, and the words before it
 module _ (k : ℕ) (s : List ℕ) where

@@ -97,7 +97,20 @@ behindBy false l = []
 abbrev pub behindKey : List ℕ → List ℕ → List ℕ
 behindKey key l = behindBy (starting key l) (beyond key l)
 
--- the three lines of marker number m at a place: they are good, and what follows them gives what is left
+-- one word holds an entry
+abbrev pub pack : Entry → ℕ
+pack e = e .name .start + 65536 * (e .name .len + 32 * (e .category + 8 * e .role))
+
+-- the bounds of an entry of a table that has no bad line
+pub record Sound (t : List ℕ) (e : Entry) : Type 0 where
+  pub inside : e .name .start + e .name .len ≤ length t
+  pub start-low : e .name .start < 65536
+  pub named : 1 ≤ e .name .len
+  pub short : e .name .len ≤ 16
+  pub category-low : e .category < 8
+  pub role-low : e .role < 3
+
+-- the three lines of marker number m at a place are good, and the check goes on behind them
 pub record LinesGood (t : List ℕ) (at : ℕ) (w next : ℕ) : Type 0 where
   pub entry : Entry
   pub word : w ≡ pack entry
@@ -150,19 +163,6 @@ stripped t s = pick (ltb (strippedLength s) (length s)) (entryNamed t (take (str
 
 abbrev pub unglued : List ℕ → List ℕ → Option ℕ
 unglued t s = pick (gluedDigit s) (entryNamed t (take 1 s)) none
-
--- one word holds an entry
-abbrev pub pack : Entry → ℕ
-pack e = e .name .start + 65536 * (e .name .len + 32 * (e .category + 8 * e .role))
-
--- the bounds of an entry of a table that has no bad line
-pub record Sound (t : List ℕ) (e : Entry) : Type 0 where
-  pub inside : e .name .start + e .name .len ≤ length t
-  pub start-low : e .name .start < 65536
-  pub named : 1 ≤ e .name .len
-  pub short : e .name .len ≤ 16
-  pub category-low : e .category < 8
-  pub role-low : e .role < 3
 
 -- the first n words of the index are the table's entries, in order, and there are no others
 pub record Indexed (t ix : List ℕ) (n : ℕ) : Type 0 where

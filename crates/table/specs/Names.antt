@@ -1,4 +1,4 @@
--- `lookup`, `strip_level_suffix`, `default_attribute`, and the names that some checks ask for.
+-- `lookup`, `strip_level_suffix`, `default_attribute`, and the names that some checks test for.
 -- Document 01, module 3: "`lookup`: exact name; else without `strip_level_suffix`; else `v` or `c` before a digit. First equal name counts."
 use Prim.Native.Nat.{ℕ, zero, suc, _+_, _-_}
 use mathlib.Core.Bool.{Bool, true, false, not, _&&_, _||_}

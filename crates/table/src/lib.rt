@@ -4,17 +4,15 @@ ghost use Prim.Native.Nat.{_+_, _^_, _<_, _≤_};
 ghost use mathlib.Core.Bool.{not};
 ghost use mathlib.Core.Option.{some};
 ghost use lib.ListN.{length, drop, take};
-ghost use Rattle.text.specs.Pick.{within, cut};
+ghost use Rattle.text.specs.Pick.{cut, known};
 ghost use Rattle.text.specs.Characters.{findByte};
 ghost use Rattle.table.specs.Lines.{nameByte, categories, roles, badTable};
 ghost use Rattle.table.specs.Entries;
 ghost use Rattle.table.specs.Entries.{nth, infoOf, entryOfInfo, layoutPlace, categoryOf, roleOf};
 ghost use Rattle.table.specs.Names.{undigited, strippedLength, tailOff, entryNamed, lookedUp, foundOf, defaultOf, frontMatter, noteOnly, gluedDigit};
 ghost use Rattle.table.specs.Books.{codeFrom, bookOf, idOf};
-ghost use Rattle.table.specs.Inner.{linesOf, triples, nameLength, valueOf, stepBy, stepWith, behindKey, stepOf, headOf, further, pastOf, LinesRead, attributeAt, categoryAt, roleAt, stripped, unglued};
-ghost use Rattle.text.specs.Pick.{known};
-ghost use Rattle.text.specs.Bytes.{equal, oneOf, starting};
-ghost use Rattle.table.specs.Inner.{Indexed, leaves};
+ghost use Rattle.table.specs.Inner.{linesOf, triples, nameLength, valueOf, stepBy, stepWith, behindKey, stepOf, headOf, further, pastOf, LinesRead, attributeAt, categoryAt, roleAt, stripped, unglued, Indexed, leaves};
+ghost use Rattle.text.specs.Bytes.{oneOf, starting};
 
 // A place in the marker table.
 pub struct MarkerId(pub u16);
@@ -146,100 +144,6 @@ const EXCLUDED_WORD: u64 = 7234298831932979301;
 
 const BOUNDARY_WORD: u64 = 8751164109912108898;
 
-// Whether eight bytes of two lists are the same. Two sums are compared, since the compiler makes one load of each.
-fn same_8(a: &[u8], b: &[u8], at: usize) -> bool
-    requires { ⌜ (at + 8 ≤ length (now a)) × (at + 8 ≤ length (now b)) ⌝ }
-    ensures { λ r. ⌜ r ≡ equal (take 8 (drop at (now (a .entry)))) (take 8 (drop at (now (b .entry)))) ⌝ }
-{
-    text::eight_bytes(a, at) == text::eight_bytes(b, at)
-}
-
-// The same of four bytes.
-fn same_4(a: &[u8], b: &[u8], at: usize) -> bool
-    requires { ⌜ (at + 4 ≤ length (now a)) × (at + 4 ≤ length (now b)) ⌝ }
-    ensures { λ r. ⌜ r ≡ equal (take 4 (drop at (now (a .entry)))) (take 4 (drop at (now (b .entry)))) ⌝ }
-{
-    text::four_bytes(a, at) == text::four_bytes(b, at)
-}
-
-// Whether two long lists of one length are equal. Their ends are compared first, so that the blocks need no rest.
-fn same_long(a: &[u8], b: &[u8]) -> bool
-    requires { ⌜ (length (now a) ≡ length (now b)) × (8 ≤ length (now a)) ⌝ }
-    ensures { λ r. ⌜ r ≡ equal (now (a .entry)) (now (b .entry)) ⌝ }
-{
-    let last = a.len() - 8;
-    if !same_8(a, b, last) {
-        return false;
-    }
-    let mut i: usize = 0;
-    while i < last {
-        if !same_8(a, b, i) {
-            return false;
-        }
-        i += 8;
-    }
-    true
-}
-
-// Whether two lists of one length are equal from a place on, byte by byte.
-fn same_from(a: &[u8], b: &[u8], from: usize) -> bool
-    requires { ⌜ length (now a) ≡ length (now b) ⌝ }
-    ensures { λ r. ⌜ r ≡ equal (drop from (now (a .entry))) (drop from (now (b .entry))) ⌝ }
-{
-    let mut i = from;
-    while i < a.len() {
-        if a[i] != b[i] {
-            return false;
-        }
-        i += 1;
-    }
-    true
-}
-
-// Whether two short lists of one length are equal. Where one is a constant, a block is one comparison with a number, if no two
-// blocks overlap.
-fn same_short(a: &[u8], b: &[u8]) -> bool
-    requires { ⌜ length (now a) ≡ length (now b) ⌝ }
-    ensures { λ r. ⌜ r ≡ equal (now (a .entry)) (now (b .entry)) ⌝ }
-{
-    if 8 <= a.len() {
-        if !same_8(a, b, 0) {
-            return false;
-        }
-        return same_from(a, b, 8);
-    }
-    if 4 <= a.len() {
-        if !same_4(a, b, 0) {
-            return false;
-        }
-        return same_from(a, b, 4);
-    }
-    same_from(a, b, 0)
-}
-
-// Whether two lists of bytes are equal.
-pub fn same(a: &[u8], b: &[u8]) -> bool
-    ensures { λ r. ⌜ r ≡ equal (now (a .entry)) (now (b .entry)) ⌝ }
-{
-    if a.len() != b.len() {
-        return false;
-    }
-    if a.len() < 8 {
-        return same_from(a, b, 0);
-    }
-    same_long(a, b)
-}
-
-pub fn starts_with(s: &[u8], key: &[u8]) -> bool
-    ensures { λ r. ⌜ r ≡ starting (now (key .entry)) (now (s .entry)) ⌝ }
-{
-    let n = key.len();
-    if s.len() < n {
-        return false;
-    }
-    same_short(key, &s[..n])
-}
-
 fn is_known(v: Value) -> bool
     ensures { λ r. ⌜ r ≡ known (valueOf v) ⌝ }
 {
@@ -258,7 +162,7 @@ fn code_in(codes: &[u8], s: &[u8]) -> Value
     while k < n {
         let at = 3 * k;
         let end = at + 3;
-        if same(&codes[at..end], s) {
+        if text::equal(&codes[at..end], s) {
             return Value::Known(k);
         }
         k += 1;
@@ -275,7 +179,7 @@ fn word_in(words: &[u8], s: &[u8]) -> Value
     while at < words.len() {
         let rest = &words[at..];
         let n = text::find_byte(rest, 10);
-        if same(&rest[..n], s) {
+        if text::equal(&rest[..n], s) {
             return Value::Known(k);
         }
         at = at + n + 1;
@@ -339,7 +243,7 @@ pub fn default_attribute(name: &[u8]) -> DefaultAttribute
 {
     match word_in(b"w\nwa\nwg\nwh\nrb\nxt\nref\njmp\nperiph\n", name) {
         Value::Known(p) => attribute(p),
-        Value::Unknown => if starts_with(name, b"qt") {
+        Value::Unknown => if text::starts_with(name, b"qt") {
             DefaultAttribute::Who
         } else {
             DefaultAttribute::NoDefault
@@ -407,7 +311,7 @@ fn is_name_byte(b: u8) -> bool
     }
 }
 
-// How many name bytes stand at the head.
+// The number of name bytes at the start.
 fn name_len(s: &[u8]) -> usize
     ensures { λ r. ⌜ r ≡ findByte (λ b. not (nameByte b)) (now (s .entry)) ⌝ }
 {
@@ -436,13 +340,13 @@ fn tail_step(s: &[u8], tail: &[u8], value: usize, next: usize) -> Step
     requires { ⌜ 8 ≤ length (now s) ⌝ }
     ensures { λ r. ⌜ r ≡ stepBy (starting (now (tail .entry)) (drop 8 (now (s .entry)))) (some value) next ⌝ }
 {
-    if starts_with(&s[8..], tail) {
+    if text::starts_with(&s[8..], tail) {
         return Step::Good(value, next);
     }
     Step::Bad
 }
 
-// What a name's line says, from behind its key on. No name byte is byte 10, so that its end is found on the way.
+// What a name's line says, from behind its key on. No name byte is byte 10, so that the search for the end of the name finds the end of the line.
 fn name_step(s: &[u8]) -> Step
     ensures { λ r. ⌜ r ≡ stepWith nameLength 5 (now (s .entry)) ⌝ }
 {
@@ -460,7 +364,7 @@ fn name_step(s: &[u8]) -> Step
 }
 
 // The same of a category's. The second number counts the key, the word and byte 10.
-// Compared with byte 10 behind it, a word needs no search for the end of the line. The first eight bytes, as one number, tell most words apart.
+// Compared with byte 10 behind it, a word needs no search for the end of the line. The first eight bytes, as one number, distinguish most words.
 fn category_step(s: &[u8]) -> Step
     ensures { λ r. ⌜ r ≡ stepWith (codeFrom 0 categories) 9 (now (s .entry)) ⌝ }
 {
@@ -480,13 +384,13 @@ fn category_step(s: &[u8]) -> Step
     if w == CHAPTER_WORD {
         return Step::Good(1, 17);
     }
-    if starts_with(s, b"verse\n") {
+    if text::starts_with(s, b"verse\n") {
         return Step::Good(2, 15);
     }
-    if starts_with(s, b"note\n") {
+    if text::starts_with(s, b"note\n") {
         return Step::Good(5, 14);
     }
-    if starts_with(s, b"other\n") {
+    if text::starts_with(s, b"other\n") {
         return Step::Good(7, 15);
     }
     Step::Bad
@@ -513,7 +417,7 @@ fn role_step(s: &[u8]) -> Step
 fn behind<'a>(s: &'a [u8], key: &[u8]) -> &'a [u8]
     ensures { λ r. ⌜ now r ≡ behindKey (now (key .entry)) (now (s .entry)) ⌝ }
 {
-    if starts_with(s, key) {
+    if text::starts_with(s, key) {
         let from = key.len();
         return &s[from..];
     }
@@ -670,7 +574,7 @@ fn find_name(table: &[u8], index: &[u64], entries: usize, name: &[u8]) -> Lookup
         let w = index[k];
         let start = (w % 65536) as usize;
         let end = start + (w / 65536 % 32) as usize;
-        if same(&table[start..end], name) {
+        if text::equal(&table[start..end], name) {
             return Lookup::Found(MarkerId(k as u16));
         }
         k += 1;

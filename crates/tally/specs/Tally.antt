@@ -5,6 +5,7 @@ use mathlib.Core.List.{List, [], _∷_}
 use mathlib.Core.Option.{Option, none}
 use lib.Dec.{eqb, ltb}
 use lib.ListN.{length, getD}
+use Rattle.findings.specs.Written.{wholeRecords}
 use Rattle.text.specs.Pick.{pick}
 use Rattle.refusals.specs.Refusal.{Refusal, refuse, onlyIf, orElse, firstBad, isNone, badTallyList}
 use Rattle.buffer.specs.Over.{over}
@@ -40,7 +41,7 @@ countsFrom l c (suc n) = withCode l c (wholeRecords l) ∷ countsFrom l (suc c) 
 abbrev pub tallyOf : List ℕ → List ℕ
 tallyOf l = countsFrom l 0 codeCount
 
--- the lent list after it: as it was after a refusal, else the counts written over it as far as there is room
+-- the lent list after it: unchanged after a refusal, else the counts written over it as far as there is room
 abbrev pub countsAfter : List ℕ → List ℕ → List ℕ
 countsAfter l out = pick (isNone (tallyRefusal l)) (over out 0 (tallyOf l)) out
 

@@ -52,7 +52,7 @@ fn clear(counts: &mut [u64])
     }
 }
 
-// One pass over the records of a list that isn't turned back. A code that the counts have no place for is passed over.
+// One pass over the records of a list that isn't turned back. A code without a place among the counts is skipped.
 fn count(list: &[u64], counts: &mut [u64])
     requires { ⌜ tallyRefusal (now list) ≡ none ⌝ }
     ensures { λ r. ⌜ now (counts .exit) ≡ over (now (counts .entry)) 0 (tallyOf (now (list .entry))) ⌝ }
@@ -69,8 +69,8 @@ fn count(list: &[u64], counts: &mut [u64])
     }
 }
 
-// Writes the counts by code of a list of findings over the lent list, as far as it has room. A list that is turned back leaves it as
-// it was.
+// Writes the counts by code of a list of findings over the lent list, as far as it has room. A list that is turned back leaves it
+// unchanged.
 pub fn tally(list: &[u64], counts: &mut [u64]) -> Tallied
     ensures answer { λ r. ⌜ tallyAnswerOf r ≡ tallyRefusal (now (list .entry)) ⌝ }
     ensures counts { λ r. ⌜ now (counts .exit) ≡ countsAfter (now (list .entry)) (now (counts .entry)) ⌝ }

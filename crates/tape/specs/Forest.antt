@@ -1,4 +1,4 @@
--- The meaning of an accepted tape: a forest, read off the order of opens and closes.
+-- The meaning of an accepted tape: a forest, read from the order of opens and closes.
 use Prim.Native.Nat.{ℕ, zero, suc, _+_, _-_, _<_, _≤_}
 use mathlib.Core.Path.{_≡_}
 use mathlib.Core.Bool.{Bool, true, false}

@@ -25,12 +25,12 @@ abbrev pub stacked : List ℕ → ℕ → List ℕ
 stacked xs zero = []
 stacked xs (suc k) = getD xs k 0 ∷ stacked xs k
 
--- a refusal that was met already, or what the rest gives
+-- the refusal found so far, or else that of the rest
 abbrev pub refusedOrRest : ℕ → ℕ → Option Refusal → Option Refusal
 refusedOrRest zero place rest = rest
 refusedOrRest (suc number) place rest = refuse (suc number) place
 
--- where the first bad span was met, or what the rest gives
+-- the first bad span found so far, or else the refusal of the rest
 abbrev pub metSpan : ℕ → Option Refusal → Option Refusal
 metSpan zero rest = rest
 metSpan (suc place) rest = refuse badNodeSpan (suc place)
@@ -39,7 +39,7 @@ abbrev pub spanAfter : List ℕ → List ℕ → ℕ → ℕ → ℕ
 spanAfter s t i zero = pick (badSpan s t i) i 0
 spanAfter s t i (suc place) = suc place
 
--- what the reading says of the nodes from i on, with the rest of the tape to read
+-- the refusal of the reading from node i on, with the rest of the tape to read
 abbrev pub says : List ℕ → ℕ → ℕ → List ℕ → Reading → Option Refusal
 says t n i stack r = refusedOrRest (r .number) (r .place) (read t (n - i) i (stacked stack (r .depth)))
 
@@ -61,7 +61,7 @@ pub record Closed (root i : ℕ) (stack : List ℕ) (r q : Reading) : Type 0 whe
 abbrev pub Known : ℕ → Type 0
 Known number = (number ≡ 0) ⊎ ((number ≡ 7) ⊎ (number ≡ 8))
 
--- the reading after node i, from the one before it: what is left gives what it gave
+-- the reading after node i, from the one before it: the refusal of the rest is the same
 pub record Stepped (t : List ℕ) (i : ℕ) (stack stack′ : List ℕ) (r q : Reading) : Type 0 where
   pub same : (n : ℕ) → i < n → says t n (i + 1) stack′ q ≡ says t n i stack r
   pub low : q .depth ≤ 64
@@ -108,7 +108,7 @@ abbrev pub Apart : ℕ → List ℕ → Type 0
 Apart link [] = Unit {0}
 Apart link (x ∷ awaited) = (x ≡ link → ⊥) × Apart link awaited
 
--- the nodes from 1 to i read, with these links awaited: what is left gives what the whole gives, of the reading, and of the opens that have the root's link, if that isn't awaited
+-- the nodes from 1 to i read, with these links awaited: the refusal of the rest is that of the whole, and so is the first open with the root's link, if that isn't awaited
 pub record Paired (t : List ℕ) (n root i : ℕ) (awaited : List ℕ) : Type 0 where
   pub opens : Apart root awaited → firstBad brokenLinks (opensTo t root) i (n - i) ≡ firstBad brokenLinks (opensTo t root) 1 (n - 1)
   pub reading : read t (n - i) i awaited ≡ read t (n - 1) 1 []

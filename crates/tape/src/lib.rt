@@ -173,7 +173,7 @@ fn span_step(source: &[u8], tape: &[u8], i: usize, first: usize) -> usize
     if bad_span(source, tape, i) { i } else { 0 }
 }
 
-// The reading after an open node: its link is awaited, unless 64 are already.
+// The reading after an open node: its link is awaited, unless 64 are awaited before it.
 fn open_step(link: u32, i: usize, stack: &mut [u32], r: Reading) -> Reading
     requires { ⌜ (length (now stack) ≡ 64) × (r .depth ≤ 64) ⌝ }
     ensures { λ q. ⌜ Opened link i (now (stack .entry)) (now (stack .exit)) r q ⌝ }
@@ -306,7 +306,7 @@ fn bad_kind(kind: u8) -> bool
     }
 }
 
-// Numbers 5 to 8 from node 1 on, in one pass: a bad kind comes before all others, and the rest waits for the end.
+// Numbers 5 to 8 from node 1 on, in one pass: a bad kind comes before all others, and the end decides among the rest.
 fn scan_each(source: &[u8], tape: &[u8], n: usize) -> TapeCheck
     requires { ⌜ Sized (now tape) n ⌝ }
     ensures { λ r. ⌜ tapeCheckRefusal r ≡ fromOne (now (source .entry)) (now (tape .entry)) n ⌝ }
@@ -381,8 +381,8 @@ fn is_clear_span(source: &[u8], tape: &[u8], i: usize, before: usize) -> bool
     is_clear(source, to)
 }
 
-// Whether the kinds and spans from node 1 on show that they are good. Nodes differ in kind with no order that a processor
-// foretells, so no jump here depends on it.
+// Whether the kinds and spans from node 1 on show that they are good. The kinds of nodes come in an order that no
+// processor predicts, so no jump here depends on it.
 fn are_clear(source: &[u8], tape: &[u8], n: usize) -> bool
     requires { ⌜ Sized (now tape) n ⌝ }
     ensures { λ r. ⌜ (r ≡ true → Clear (now (source .entry)) (now (tape .entry)) n 1) ⌝ }
@@ -409,8 +409,8 @@ pub fn one_if(b: bool) -> usize
 }
 
 // Whether each close before the root's link is the innermost awaited one, and all opens are closed there, so that none has the
-// root's link. Without jumps by kind, as above: each node's link is put above the top, where it is garbage unless the node
-// opens. The lowest element stays 0, which is no node from 1 on, so that a close with nothing awaited fails.
+// root's link. Without jumps by kind, as above: each node's link is put above the top, where only an open node's
+// counts. The lowest element stays 0, which is no node from 1 on, so that a close with nothing awaited fails.
 fn are_paired(tape: &[u8], root: u32) -> bool
     requires { ⌜ root ≤ count (now tape) ⌝ }
     ensures { λ r. ⌜ (r ≡ true → Paired (now (tape .entry)) (count (now (tape .entry))) root (1 + (root - 1)) []) ⌝ }
@@ -449,7 +449,7 @@ fn is_settled(source: &[u8], tape: &[u8], n: usize) -> bool
     are_paired(tape, root)
 }
 
-// Numbers 5 to 8 from node 1 on. Most tapes are good, and quickly seen to be.
+// Numbers 5 to 8 from node 1 on. Most tapes are good, and two quick passes show it.
 fn scan(source: &[u8], tape: &[u8], n: usize) -> TapeCheck
     requires { ⌜ Sized (now tape) n ⌝ }
     ensures { λ r. ⌜ tapeCheckRefusal r ≡ fromOne (now (source .entry)) (now (tape .entry)) n ⌝ }

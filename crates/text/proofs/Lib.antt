@@ -15,3 +15,4 @@ pub mod Boundary
 pub mod Cuts
 pub mod Find
 pub mod Hits
+pub mod Blocks

@@ -30,7 +30,10 @@ starting w s = equal w (take (length w) s)
 abbrev pub beyond : List ℕ → List ℕ → List ℕ
 beyond w s = drop (length w) s
 
--- capitals for the small letters of ASCII
+-- a capital for a small letter of ASCII
+abbrev pub capital : ℕ → ℕ
+capital b = pick (within 0x61 0x7A b) (b - 32) b
+
 unfoldable pub upper : List ℕ → List ℕ
 upper [] = []
-upper (b ∷ s) = pick (within 0x61 0x7A b) (b - 32) b ∷ upper s
+upper (b ∷ s) = capital b ∷ upper s

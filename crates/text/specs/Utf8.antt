@@ -38,7 +38,7 @@ widthBy (row ∷ rows) s = pick (begins row s) (length row) (widthBy rows s)
 unfoldable pub widthOf : List ℕ → ℕ
 widthOf s = widthBy table3-7 s
 
--- the place of the first ill-formed sequence. Here at the first byte of a sequence of the width: a width of 0 is no row of the table, and otherwise the rest is scanned, with its further bytes to skip
+-- the place of the first ill-formed sequence. From the first byte of a sequence with this width: 0 is no row of the table; else the scan goes on and skips the other bytes
 unfoldable pub afterWidth : ℕ → ℕ → (ℕ → Option ℕ) → Option ℕ
 afterWidth zero at rest = some at
 afterWidth (suc k) at rest = rest k

@@ -1,4 +1,4 @@
--- The words of a text, which runs of blank characters part, and the text without the blanks around it.
+-- The words of a text, between runs of blank characters, and the text without the blanks around it.
 use Prim.Native.Nat.{ℕ, zero, suc, _+_, _-_}
 use mathlib.Core.Bool.{Bool, true, false, not}
 use mathlib.Core.List.{List, [], _∷_}

@@ -6,6 +6,8 @@ ghost use mathlib.Core.List.{_∷_, []};
 ghost use lib.Dec.{eqb};
 ghost use lib.ListN.{length, drop, getD, take};
 ghost use Rattle.text.specs.Pick.{range, within, same, cut, pick};
+ghost use Rattle.text.specs.Bytes;
+ghost use Rattle.text.specs.Bytes.{starting, capital};
 ghost use Rattle.text.specs.Utf8.{begins, widthOf, firstIllFormed, utf8Place, replacement, decode};
 ghost use Rattle.text.specs.Blank.{blank};
 ghost use Rattle.text.specs.Characters.{chars, bytesBefore, find, findByte, isBoundary};
@@ -183,8 +185,8 @@ fn high16(s: &[u8], at: usize) -> u64
     high8(s, at) | high8(s, at + 8)
 }
 
-// How many of 8 bytes the run of ASCII at a place takes. The lowest bit that is set shows it without a jump, which in a text with
-// few bytes above ASCII would often be foretold wrongly.
+// How many of 8 bytes the run of ASCII at a place takes. The lowest bit that is set shows it without a jump, which a processor
+// would often predict wrongly in a text with few bytes above ASCII.
 fn ascii_of_8(s: &[u8], at: usize) -> usize
     requires { ⌜ at + 8 ≤ length (now s) ⌝ }
     ensures { λ r. ⌜ (r ≤ 8) × Ascii (now (s .entry)) at (at + r) ⌝ }
@@ -337,7 +339,7 @@ pub fn decode_at(s: &[u8], at: usize) -> Decoded
     decode_wide(s, at)
 }
 
-// The same at a byte of the text. It calls `decode_wide` itself, which two callers keep out of line: this function stays small
+// The same at a byte of the text. It calls `decode_wide` itself, which stays a function of its own since it has two callers: this function stays small
 // enough to become part of a loop.
 fn decode_in(s: &[u8], at: usize) -> Decoded
     requires { ⌜ at < length (now s) ⌝ }
@@ -360,7 +362,7 @@ pub fn is_char_boundary(s: &[u8], at: usize) -> bool
     if s.len() <= at {
         return at == s.len();
     }
-    // At most places an ASCII byte stands, which settles it.
+    // Most bytes are ASCII, and each of these begins a character.
     let b = s[at];
     if b < 0x80 {
         return true;
@@ -379,7 +381,7 @@ fn is_listed(cp: u32) -> bool
     }
 }
 
-// The property White_Space; below 85 few tests do.
+// The property White_Space; below 85 a few tests suffice.
 pub fn is_blank(cp: u32) -> bool
     ensures { λ r. ⌜ r ≡ blank cp ⌝ }
 {
@@ -468,7 +470,7 @@ fn kept_forward(s: &[u8]) -> usize
     end
 }
 
-// The same from the back, as long as ASCII stands there: such a byte is a character of its own, whatever stands before it.
+// The same from the back, as long as the bytes are ASCII: such a byte is a character of its own.
 fn kept_len(s: &[u8]) -> usize
     ensures { λ r. ⌜ Ended (now (s .entry)) 0 (kept (chars (now (s .entry)))) r ⌝ }
 {
@@ -565,4 +567,105 @@ pub fn parse(s: &[u8]) -> Parsed
     } else {
         digits_at(s, 0)
     }
+}
+
+// Whether eight bytes of two lists are the same. Two sums are compared, since the compiler makes one load of each.
+fn equal_8(a: &[u8], b: &[u8], at: usize) -> bool
+    requires { ⌜ (at + 8 ≤ length (now a)) × (at + 8 ≤ length (now b)) ⌝ }
+    ensures { λ r. ⌜ r ≡ Bytes.equal (take 8 (drop at (now (a .entry)))) (take 8 (drop at (now (b .entry)))) ⌝ }
+{
+    eight_bytes(a, at) == eight_bytes(b, at)
+}
+
+// Whether four bytes of two lists are the same.
+fn equal_4(a: &[u8], b: &[u8], at: usize) -> bool
+    requires { ⌜ (at + 4 ≤ length (now a)) × (at + 4 ≤ length (now b)) ⌝ }
+    ensures { λ r. ⌜ r ≡ Bytes.equal (take 4 (drop at (now (a .entry)))) (take 4 (drop at (now (b .entry)))) ⌝ }
+{
+    four_bytes(a, at) == four_bytes(b, at)
+}
+
+// Whether two long lists of one length are equal. Their ends are compared first, so that the blocks need no rest.
+fn equal_long(a: &[u8], b: &[u8]) -> bool
+    requires { ⌜ (length (now a) ≡ length (now b)) × (8 ≤ length (now a)) ⌝ }
+    ensures { λ r. ⌜ r ≡ Bytes.equal (now (a .entry)) (now (b .entry)) ⌝ }
+{
+    let last = a.len() - 8;
+    if !equal_8(a, b, last) {
+        return false;
+    }
+    let mut i: usize = 0;
+    while i < last {
+        if !equal_8(a, b, i) {
+            return false;
+        }
+        i += 8;
+    }
+    true
+}
+
+// Whether two lists of one length are equal from a place on, byte by byte.
+fn equal_from(a: &[u8], b: &[u8], from: usize) -> bool
+    requires { ⌜ length (now a) ≡ length (now b) ⌝ }
+    ensures { λ r. ⌜ r ≡ Bytes.equal (drop from (now (a .entry))) (drop from (now (b .entry))) ⌝ }
+{
+    let mut i = from;
+    while i < a.len() {
+        if a[i] != b[i] {
+            return false;
+        }
+        i += 1;
+    }
+    true
+}
+
+// Whether two short lists of one length are equal. Where one is a constant, a block is one comparison with a number, if no two
+// blocks overlap.
+fn equal_short(a: &[u8], b: &[u8]) -> bool
+    requires { ⌜ length (now a) ≡ length (now b) ⌝ }
+    ensures { λ r. ⌜ r ≡ Bytes.equal (now (a .entry)) (now (b .entry)) ⌝ }
+{
+    if 8 <= a.len() {
+        if !equal_8(a, b, 0) {
+            return false;
+        }
+        return equal_from(a, b, 8);
+    }
+    if 4 <= a.len() {
+        if !equal_4(a, b, 0) {
+            return false;
+        }
+        return equal_from(a, b, 4);
+    }
+    equal_from(a, b, 0)
+}
+
+// Whether two lists of bytes are equal.
+pub fn equal(a: &[u8], b: &[u8]) -> bool
+    ensures { λ r. ⌜ r ≡ Bytes.equal (now (a .entry)) (now (b .entry)) ⌝ }
+{
+    if a.len() != b.len() {
+        return false;
+    }
+    if a.len() < 8 {
+        return equal_from(a, b, 0);
+    }
+    equal_long(a, b)
+}
+
+pub fn starts_with(s: &[u8], key: &[u8]) -> bool
+    ensures { λ r. ⌜ r ≡ starting (now (key .entry)) (now (s .entry)) ⌝ }
+{
+    let n = key.len();
+    if s.len() < n {
+        return false;
+    }
+    equal_short(key, &s[..n])
+}
+
+// A capital for a small letter of ASCII.
+pub fn upper(b: u8) -> u8
+    ensures { λ r. ⌜ r ≡ capital b ⌝ }
+{
+    if holds(b, b'a', b'z') { b - 32 } else { b }
 }

@@ -121,7 +121,7 @@ pub utf8-place : (s : List ℕ) (at : ℕ) → (firstIllFormed s ≡ some at) �
 utf8-place s at = exact.utf8-place s at
 
 -- "A span from node 1 on leaves the source or splits a character; place: that node."
--- In text made of rows the byte at a place tells whether the place lies between two characters.
+-- In text made of rows the byte at a place shows whether the place lies between two characters.
 pub boundary : (s : List ℕ) → Made s → (at : ℕ) → isBoundary s at ≡ between (chars s) at
 boundary s made at = characters.boundary made at
 

@@ -1,4 +1,4 @@
-// Lays out documents at both sides of three limits, and one with labels at both sides of a fourth, checks them, and writes
+// Makes documents at both sides of three limits, and one with labels at both sides of a fourth, checks them, and writes
 // the answers: trial items 13 to 16.
 use libc::STDOUT_FILENO;
 use validate::Answer;
@@ -78,7 +78,7 @@ fn write_nested(nodes: &mut [u8], d: usize)
 }
 
 // A paragraph by entry 511 of the table and one by entry 512, which only a table of more than 512 would have: 5 nodes.
-fn lay_last(nodes: &mut [u8]) {
+fn write_last(nodes: &mut [u8]) {
     put_empty(nodes, 0, tape::ROOT, 0, 5);
     put_empty(nodes, 1, tape::MARKER_OPEN, 511, 2);
     put_empty(nodes, 2, tape::BLOCK_END, 511, 0);
@@ -87,20 +87,20 @@ fn lay_last(nodes: &mut [u8]) {
 }
 
 // The nodes of the source of `labels`: 11.
-fn lay_labels(nodes: &mut [u8]) {
+fn write_labels(nodes: &mut [u8]) {
     put_node(nodes, 0, tape::ROOT, 0, 0, 63, 11);
-    lay_book(nodes);
-    lay_verses(nodes);
+    write_book(nodes);
+    write_verses(nodes);
 }
 
-fn lay_book(nodes: &mut [u8]) {
+fn write_book(nodes: &mut [u8]) {
     put_node(nodes, 1, tape::MARKER_OPEN, ID, 0, 3, 3);
     put_node(nodes, 2, tape::TEXT, 0, 3, 5, 0);
     put_node(nodes, 3, tape::BLOCK_END, ID, 8, 0, 0);
     put_node(nodes, 4, tape::CHAPTER, C, 8, 5, 1);
 }
 
-fn lay_verses(nodes: &mut [u8]) {
+fn write_verses(nodes: &mut [u8]) {
     put_node(nodes, 5, tape::MARKER_OPEN, P, 13, 2, 10);
     put_node(nodes, 6, tape::VERSE, V, 16, 14, 4294967294);
     put_node(nodes, 7, tape::VERSE, V, 30, 14, 4294967295);
@@ -234,7 +234,7 @@ fn entries(nodes: &mut [u8], n: usize, list: &mut [u64])
 {
     let mut table = io::large_buffer();
     write_entries(&mut table);
-    lay_last(nodes);
+    write_last(nodes);
     counted(n, b" markers: ");
     answer(first(&table, 40 * n), b"", first(nodes, 80), list);
 }
@@ -243,7 +243,7 @@ fn labels(table: &[u8], nodes: &mut [u8], list: &mut [u64])
     requires { ⌜ 176 ≤ length (now nodes) ⌝ }
 {
     let source = b"\\id GEN\n\\c 1\n\\p\n\\v 4294967294\n\\v 4294967295\n\\v 4294967296\n\\v 1\n";
-    lay_labels(nodes);
+    write_labels(nodes);
     write(b"labels: ");
     let count = answer(table, source, first(nodes, 176), list);
     findings(list, count);

@@ -461,7 +461,7 @@ fn field_line(k: u64, i: u64, field: Field) {
 }
 
 // The line of a document that differs.
-fn tell(k: u64, outcome: Outcome) {
+fn write_outcome(k: u64, outcome: Outcome) {
     match outcome {
         Outcome::Same => {}
         Outcome::Cut => line(k, b"the file ends inside it"),
@@ -537,7 +537,7 @@ fn documents(s: &[u8], count: u64)
     while k < count {
         let d = document(s, at);
         let outcome = d.outcome;
-        tell(k, outcome);
+        write_outcome(k, outcome);
         replayed += ran(outcome);
         findings += d.findings;
         differences += differing(outcome);

@@ -4,9 +4,9 @@ use Rattle.reference_laws.proofs.Call.{Terms, stated-as, val, shr, mut, of-numb
 use mathlib.Core.Path.{_≡_}
 use Rattle.tape.specs.Nodes.{linkAt}
 use Rattle.cursor.specs.Inner.{Run}
+use Rattle.validate.specs.Inner.{Begun}
 use Rattle.state.proofs.State as State-T
 use Rattle.validate.proofs.begun as begun-F
-use Rattle.validate.specs.Inner.{Begun}
 
 abbrev pub terms : Terms
 terms = stated-as begun-F.Symbol.name (of-struct State-T.the-type State-T.Laws.the-laws State-T.Laws.the-plain)

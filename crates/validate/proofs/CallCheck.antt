@@ -3,11 +3,10 @@
 use Rattle.reference_laws.proofs.Call.{Terms, stated-as, shr, mut, of-enum, u8, u32, u64, [], _∷_, Known, bound-at, rule-of, cited}
 use mathlib.Core.Path.{_≡_}
 use Rattle.definition.specs.Outcome.{answer, listAfter, seenAfter, openAfter}
-use Rattle.validate.specs.Entry.{answerOf}
+use Rattle.validate.specs.Entry.{answerOf, lent}
 use Rattle.validate.proofs.Answer as Answer-T
 use Rattle.definition.proofs.OpenStart as OpenStart-T
 use Rattle.validate.proofs.check as check-F
-use Rattle.validate.specs.Inner.{lent}
 
 abbrev pub terms : Terms
 terms = stated-as check-F.Symbol.name (of-enum Answer-T.the-type Answer-T.Laws.the-laws Answer-T.Laws.the-plain tt)

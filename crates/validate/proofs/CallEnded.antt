@@ -1,10 +1,10 @@
 -- Written by proof_writer/write from proof_writer/descriptions/validate.py, from the code and its contracts.
 -- The contract of `validate::ended`, for its own walk and for the walks that call it: its symbol and its result; what is passed; what is asked of that; what is said of it, of the result r and of the last values z. `known` shows that it is the contract.
 use Rattle.reference_laws.proofs.Call.{Terms, stated-as, val, mut, of-struct, u64, [], _∷_, Known, bound-at, rule-of, cited}
+use Rattle.validate.specs.Inner.{Endable, MissingWritten}
 use Rattle.findings.proofs.Counts as Counts-T
 use Rattle.state.proofs.State as State-T
 use Rattle.validate.proofs.ended as ended-F
-use Rattle.validate.specs.Inner.{Endable, MissingWritten}
 
 abbrev pub terms : Terms
 terms = stated-as ended-F.Symbol.name (of-struct State-T.the-type State-T.Laws.the-laws State-T.Laws.the-plain)

@@ -5,18 +5,18 @@ use mathlib.Core.Path.{_≡_}
 use mathlib.Core.Option.{none}
 use lib.ListN.{length}
 use Rattle.definition.specs.Outcome.{answer, listAfter, seenAfter, openAfter}
-use Rattle.validate.specs.Entry.{answerOf}
+use Rattle.validate.specs.Entry.{answerOf, lent}
+use Rattle.table.specs.Inner.{Indexed}
+use Rattle.validate.specs.Inner.{fromTable}
 use Rattle.validate.proofs.Answer as Answer-T
 use Rattle.definition.proofs.OpenStart as OpenStart-T
 use Rattle.validate.proofs.passed as passed-F
-use Rattle.table.specs.Inner.{Indexed}
-use Rattle.validate.specs.Inner.{fromTable, lent}
 
 abbrev pub terms : Terms
 terms = stated-as passed-F.Symbol.name (of-enum Answer-T.the-type Answer-T.Laws.the-laws Answer-T.Laws.the-plain tt)
     (shr u8 ∷ shr u64 ∷ val (of-number w64) ∷ shr u8 ∷ shr u8 ∷ mut u32 ∷ mut OpenStart-T.the-row ∷ mut u64 ∷ [])
-    (λ table₀ words₀ entries₀ source₀ tape₀ seen₀ opens₀ list₀. ((Indexed table₀ words₀ entries₀) × (none ≡ fromTable table₀ source₀ tape₀ (length seen₀) (length opens₀))) ∷ [])
-    (λ table₀ words₀ entries₀ source₀ tape₀ seen₀ opens₀ list₀ r z. (answerOf r ≡ answer (lent table₀ source₀ tape₀ seen₀ opens₀ list₀)) ∷ ((z .1 .1 .0) ≡ listAfter (lent table₀ source₀ tape₀ seen₀ opens₀ list₀)) ∷ ((z .0) ≡ seenAfter (lent table₀ source₀ tape₀ seen₀ opens₀ list₀)) ∷ ((z .1 .0) ≡ openAfter (lent table₀ source₀ tape₀ seen₀ opens₀ list₀)) ∷ [])
+    (λ table₀ index₀ entries₀ source₀ tape₀ seen₀ opens₀ list₀. ((Indexed table₀ index₀ entries₀) × (none ≡ fromTable table₀ source₀ tape₀ (length seen₀) (length opens₀))) ∷ [])
+    (λ table₀ index₀ entries₀ source₀ tape₀ seen₀ opens₀ list₀ r z. (answerOf r ≡ answer (lent table₀ source₀ tape₀ seen₀ opens₀ list₀)) ∷ ((z .1 .1 .0) ≡ listAfter (lent table₀ source₀ tape₀ seen₀ opens₀ list₀)) ∷ ((z .0) ≡ seenAfter (lent table₀ source₀ tape₀ seen₀ opens₀ list₀)) ∷ ((z .1 .0) ≡ openAfter (lent table₀ source₀ tape₀ seen₀ opens₀ list₀)) ∷ [])
 
 pub known : Known terms passed-F.signature (λ M 𝓤 H A at-mem run. passed-F.spec 𝓤 H A at-mem run)
 known M 𝓤 H 𝓜 𝓖 𝓡 γ r at met x cs = cited 𝓤 H _ 𝓜 𝓡 γ (terms .name) r at met (bound-at (rule-of terms x .pars) cs)

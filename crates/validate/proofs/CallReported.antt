@@ -6,11 +6,11 @@ use Prim.Native.Nat.{_/_, _≤_}
 use Rattle.findings.specs.Written.{total}
 use Rattle.state.specs.Inner.{countsOf}
 use Rattle.validate.specs.Entry.{answerOf}
+use Rattle.findings.specs.Inner.{countLimit}
+use Rattle.validate.specs.Inner.{reported}
 use Rattle.validate.proofs.Answer as Answer-T
 use Rattle.state.proofs.State as State-T
 use Rattle.validate.proofs.reported as reported-F
-use Rattle.findings.specs.Inner.{countLimit}
-use Rattle.validate.specs.Inner.{reported}
 
 abbrev pub terms : Terms
 terms = stated-as reported-F.Symbol.name (of-enum Answer-T.the-type Answer-T.Laws.the-laws Answer-T.Laws.the-plain tt)

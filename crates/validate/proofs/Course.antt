@@ -24,7 +24,8 @@ use Rattle.validate.specs.Entry.{answerOf}
 use Rattle.validate.specs.declared.Answer.{Answer}
 use Rattle.validate.proofs.Ending.{whole-run, walk-ready, walk-room, unclosed-room, missing-room, ran, finished, cleared-whole}
 use Rattle.findings.specs.Inner.{Wrote, Room}
-use Rattle.validate.specs.Inner.{none-yet, fresh, Begun, Endable, MissingWritten, Ran, Fit, Finished, reported, lent}
+use Rattle.validate.specs.Inner.{none-yet, fresh, Begun, Endable, MissingWritten, Ran, Fit, Finished, reported}
+use Rattle.validate.specs.Entry.{lent}
 
 -- before the walk
 pub begun-room : (s t : List ℕ) (to : ℕ) (r : State) → r ≡ fresh → Room (countsOf r) (textBefore (forest s t 1 to))

@@ -36,7 +36,8 @@ use Rattle.walk.specs.Inner.{nowhere, walkAt, Ready, RunWalked}
 use Rattle.walk.proofs.Visiting.{count-low}
 use Rattle.table.specs.Inner.{Indexed}
 use Rattle.findings.specs.Inner.{Wrote, Room, countLimit, bySeverity, counted}
-use Rattle.validate.specs.Inner.{none-yet, fresh, Ran, Fit, reported, lent}
+use Rattle.validate.specs.Inner.{none-yet, fresh, Ran, Fit, reported}
+use Rattle.validate.specs.Entry.{lent}
 
 module _ {table index : List ℕ} {entries : ℕ} {s t seen : List ℕ} {opens : List OpenStart} (fit : Fit table index entries s t seen opens) where
   abbrev to : ℕ

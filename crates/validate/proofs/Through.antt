@@ -14,7 +14,8 @@ use Rattle.validate.specs.declared.InputCheck.{InputCheck}
 use Rattle.validate.specs.declared.InputCheck.the-variants as input
 use Rattle.validate.proofs.Whole.{turned-back, seen-long, opens-long, fits, went-through}
 use Rattle.table.specs.Inner.{Indexed}
-use Rattle.validate.specs.Inner.{checkRefusal, AcceptedIndex, fromTable, Fit, Finished, lent}
+use Rattle.validate.specs.Inner.{checkRefusal, AcceptedIndex, fromTable, Fit, Finished}
+use Rattle.validate.specs.Entry.{lent}
 
 module _ (table s t seen : List ℕ) (opens : List OpenStart) (l : List ℕ) where
   abbrev it : Lent

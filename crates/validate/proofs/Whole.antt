@@ -25,7 +25,8 @@ use Rattle.validate.specs.declared.InputCheck.the-variants as input
 use Rattle.validate.specs.Entry.{answerOf}
 use Rattle.text.proofs.Bool.{or-parts}
 use Rattle.table.specs.Inner.{Indexed}
-use Rattle.validate.specs.Inner.{checkRefusal, AcceptedIndex, fromTable, fromTape, Fit, Finished, lent}
+use Rattle.validate.specs.Inner.{checkRefusal, AcceptedIndex, fromTable, fromTape, Fit, Finished}
+use Rattle.validate.specs.Entry.{lent}
 
 pub or-assoc : (a b c : Option Refusal) → orElse (orElse a b) c ≡ orElse a (orElse b c)
 or-assoc none b c = refl

@@ -18,7 +18,7 @@ use Rattle.findings.specs.declared.Counts.{Counts}
 use Rattle.findings.specs.Written.{total, overlay}
 use Rattle.definition.specs.Checks.{given}
 use Rattle.definition.specs.Document.{findings, versesVisited, textBefore}
-use Rattle.definition.specs.Outcome.{Lent, checked, repeated, noStart, smaller, atPlace, checkedOf}
+use Rattle.definition.specs.Outcome.{checked, repeated, noStart, smaller, atPlace, checkedOf}
 use Rattle.definition.specs.Outcome as outcome
 use Rattle.definition.specs.declared.OpenStart.{OpenStart}
 use Rattle.state.specs.Inner.{countsOf, withCounts}
@@ -27,7 +27,7 @@ use Rattle.state.specs.declared.State.{State}
 use Rattle.validate.specs.declared.Answer.{Answer}
 use Rattle.validate.specs.declared.InputCheck.{InputCheck}
 use Rattle.validate.specs.declared.InputCheck.the-variants as input
-use Rattle.validate.specs.Entry.{answerOf}
+use Rattle.validate.specs.Entry.{answerOf, lent}
 use Rattle.table.specs.Inner.{Indexed}
 use Rattle.findings.specs.Inner.{Wrote, Room, countLimit}
 
@@ -36,12 +36,12 @@ abbrev pub checkRefusal : InputCheck → Option Refusal
 checkRefusal (input.Accepted n) = none
 checkRefusal (input.Refused number place) = some (record { number = number; place = place })
 
--- what stands open then: the table's index, of so many entries
+-- of what is accepted: the table's index, of so many entries
 abbrev pub AcceptedIndex : List ℕ → List ℕ → InputCheck → Type 0
 AcceptedIndex table index (input.Accepted n) = Indexed table index n
 AcceptedIndex table index (input.Refused number place) = Unit {0}
 
--- so many entries, if it is open
+-- so many entries, if it is accepted
 abbrev pub AcceptedEntries : ℕ → InputCheck → Type 0
 AcceptedEntries entries (input.Accepted n) = n ≡ entries
 AcceptedEntries entries (input.Refused number place) = Unit {0}
@@ -93,7 +93,7 @@ pub record Ran (table s t l l′ : List ℕ) (q : State) : Type 0 where
   pub verses : q .verses ≡ versesVisited table (top s t)
   pub low : total (countsOf q) ≤ countLimit
 
--- what the check asks for when nothing turns it back
+-- what the check requires when nothing turns it back
 pub record Fit (table index : List ℕ) (entries : ℕ) (s t seen : List ℕ) (opens : List OpenStart) : Type 0 where
   pub indexed : Indexed table index entries
   pub accepted : Accepted s t
@@ -115,9 +115,6 @@ reported r room =
       cut = ltb (smaller (total (countsOf r)) room) (total (countsOf r));
     })
 
-abbrev pub lent : List ℕ → List ℕ → List ℕ → List ℕ → List OpenStart → List ℕ → Lent
-lent table s t seen opens l = record { table = table; source = s; tape = t; seen = seen; openStarts = opens; list = l }
-
 -- the answer and the lists of a document that nothing turns back
 pub record Finished (table s t seen : List ℕ) (opens : List OpenStart) (l seen′ : List ℕ) (opens′ : List OpenStart) (l′ : List ℕ) (r : Answer) : Type 0 where
   pub answers : answerOf r ≡ checked (checkedOf (lent table s t seen opens l))
@@ -130,7 +127,7 @@ pub record Begun (s t l l′ : List ℕ) (q : State) : Type 0 where
   pub text : Wrote (textBefore (forest s t 1 (linkAt t 0))) l none-yet l′ (countsOf q)
   pub record-is : q ≡ withCounts fresh (countsOf q)
 
--- what is told after the walk has room
+-- the findings after the walk have room
 pub record Endable (r : State) (c : Counts) : Type 0 where
   pub room : Room c (given (missingChecks r))
 

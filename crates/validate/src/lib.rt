@@ -24,7 +24,8 @@ ghost use Rattle.state.specs.Inner.{countsOf};
 ghost use Rattle.validate.specs.Entry.{answerOf};
 ghost use Rattle.table.specs.Inner.{Indexed};
 ghost use Rattle.findings.specs.Inner.{countLimit};
-ghost use Rattle.validate.specs.Inner.{checkRefusal, sourceRefusal, listsRefusal, fromLabels, fromTape, fromSource, fromTable, AcceptedEntries, AcceptedIndex, fresh, Begun, Endable, MissingWritten, Ran, Fit, reported, Finished, lent};
+ghost use Rattle.validate.specs.Inner.{checkRefusal, sourceRefusal, listsRefusal, fromLabels, fromTape, fromSource, fromTable, AcceptedEntries, AcceptedIndex, fresh, Begun, Endable, MissingWritten, Ran, Fit, reported, Finished};
+ghost use Rattle.validate.specs.Entry.{lent};
 
 fn initial() -> State
     ensures { λ r. ⌜ r ≡ fresh ⌝ }
@@ -59,7 +60,7 @@ fn begun(source: &[u8], tape: &[u8], to: usize, list: &mut [u64]) -> State
     state::with_counts(start, closing::text_before(source, tape, to, start, list))
 }
 
-// The record after the open starts that are left are told.
+// The record after the findings of the open starts that are left.
 fn ended(rec: State, list: &mut [u64], left: Counts) -> State
     requires { ⌜ Endable rec left ⌝ }
     ensures { λ r. ⌜ MissingWritten rec left (now (list .entry)) (now (list .exit)) r ⌝ }
@@ -275,7 +276,7 @@ fn node_count(tape: &[u8]) -> usize
     tape.len() / 16
 }
 
-// The answer of a document that was walked, by the length of the findings list.
+// The answer of a document after its walk, by the length of the findings list.
 fn reported(r: State, len: usize) -> Answer
     requires { ⌜ total (countsOf r) ≤ countLimit ⌝ }
     ensures { λ q. ⌜ answerOf q ≡ reported r (len / 8) ⌝ }

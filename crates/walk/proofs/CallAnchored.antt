@@ -3,7 +3,7 @@
 use Rattle.reference_laws.proofs.Call.{Terms, stated-as, val, shr, of-number, of-struct, w64, u8, [], _∷_, Known, bound-at, rule-of, cited}
 use mathlib.Core.Path.{_≡_}
 use Prim.Native.Nat.{_≤_}
-use Rattle.tape.specs.Nodes.{count as nodes}
+use Rattle.tape.specs.Nodes.{count}
 use Rattle.tape.specs.Forest.{forest, Nested, Accepted}
 use Rattle.attachment.specs.Attached.{startsOf}
 use Rattle.state.specs.Inner.{anchorOf, startsFor}
@@ -14,7 +14,7 @@ use Rattle.walk.proofs.anchored as anchored-F
 abbrev pub terms : Terms
 terms = stated-as anchored-F.Symbol.name (of-struct Attached-T.the-type Attached-T.Laws.the-laws Attached-T.Laws.the-plain)
     (shr u8 ∷ shr u8 ∷ val (of-number w64) ∷ val (of-number w64) ∷ val (of-number w64) ∷ val (of-number w64) ∷ [])
-    (λ source₀ tape₀ depth₀ anchor₀ from₀ to₀. ((Accepted source₀ tape₀) × (Nested tape₀ depth₀ from₀ to₀) × (to₀ ≤ nodes tape₀) × (Anchored tape₀ depth₀ anchor₀ from₀)) ∷ [])
+    (λ source₀ tape₀ depth₀ anchor₀ from₀ to₀. ((Accepted source₀ tape₀) × (Nested tape₀ depth₀ from₀ to₀) × (to₀ ≤ count tape₀) × (Anchored tape₀ depth₀ anchor₀ from₀)) ∷ [])
     (λ source₀ tape₀ depth₀ anchor₀ from₀ to₀ r z. (startsOf r ≡ startsFor (anchorOf source₀ tape₀ anchor₀ from₀) (forest source₀ tape₀ from₀ to₀)) ∷ [])
 
 pub known : Known terms anchored-F.signature (λ M 𝓤 H A at-mem run. anchored-F.spec 𝓤 H A at-mem run)

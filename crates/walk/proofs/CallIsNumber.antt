@@ -3,14 +3,14 @@
 use Rattle.reference_laws.proofs.Call.{Terms, stated-as, val, shr, of-number, of-truth, w64, u8, [], _∷_, Known, bound-at, rule-of, cited}
 use mathlib.Core.Path.{_≡_}
 use Prim.Native.Nat.{_<_}
-use Rattle.tape.specs.Nodes.{kindAt, count as nodes}
+use Rattle.tape.specs.Nodes.{kindAt, count}
 use Rattle.numbers.specs.Label.{numbered}
 use Rattle.walk.proofs.is_number as is-number-F
 
 abbrev pub terms : Terms
 terms = stated-as is-number-F.Symbol.name of-truth
     (shr u8 ∷ val (of-number w64) ∷ [])
-    (λ tape₀ i₀. (i₀ < nodes tape₀) ∷ [])
+    (λ tape₀ i₀. (i₀ < count tape₀) ∷ [])
     (λ tape₀ i₀ r z. (r ≡ numbered (kindAt tape₀ i₀)) ∷ [])
 
 pub known : Known terms is-number-F.signature (λ M 𝓤 H A at-mem run. is-number-F.spec 𝓤 H A at-mem run)

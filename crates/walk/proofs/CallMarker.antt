@@ -3,19 +3,19 @@
 use Rattle.reference_laws.proofs.Call.{Terms, stated-as, val, shr, of-number, of-enum, w64, u8, u64, [], _∷_, Known, bound-at, rule-of, cited}
 use mathlib.Core.Path.{_≡_}
 use Prim.Native.Nat.{_<_}
-use Rattle.tape.specs.Nodes.{kindAt, isOpen, count as nodes}
+use Rattle.tape.specs.Nodes.{kindAt, isOpen, count}
 use Rattle.table.specs.Entries.{infoOf}
 use Rattle.cursor.specs.Info.{infoAt}
 use Rattle.walk.specs.Inner.{onlyOpen}
+use Rattle.table.specs.Inner.{Indexed}
 use Rattle.table.proofs.Info as Info-T
 use Rattle.walk.proofs.marker as marker-F
-use Rattle.table.specs.Inner.{Indexed}
 
 abbrev pub terms : Terms
 terms = stated-as marker-F.Symbol.name (of-enum Info-T.the-type Info-T.Laws.the-laws Info-T.Laws.the-plain tt)
     (shr u8 ∷ shr u64 ∷ val (of-number w64) ∷ shr u8 ∷ val (of-number w64) ∷ [])
-    (λ table₀ words₀ count₀ tape₀ i₀. ((Indexed table₀ words₀ count₀) × (i₀ < nodes tape₀)) ∷ [])
-    (λ table₀ words₀ count₀ tape₀ i₀ r z. (infoOf r ≡ onlyOpen (isOpen (kindAt tape₀ i₀)) (infoAt table₀ tape₀ i₀)) ∷ [])
+    (λ table₀ index₀ entries₀ tape₀ i₀. ((Indexed table₀ index₀ entries₀) × (i₀ < count tape₀)) ∷ [])
+    (λ table₀ index₀ entries₀ tape₀ i₀ r z. (infoOf r ≡ onlyOpen (isOpen (kindAt tape₀ i₀)) (infoAt table₀ tape₀ i₀)) ∷ [])
 
 pub known : Known terms marker-F.signature (λ M 𝓤 H A at-mem run. marker-F.spec 𝓤 H A at-mem run)
 known M 𝓤 H 𝓜 𝓖 𝓡 γ r at met x cs = cited 𝓤 H _ 𝓜 𝓡 γ (terms .name) r at met (bound-at (rule-of terms x .pars) cs)

@@ -11,8 +11,8 @@ use Rattle.walk.proofs.visit_leaf as visit-leaf-F
 abbrev pub terms : Terms
 terms = stated-as visit-leaf-F.Symbol.name (of-struct Attached-T.the-type Attached-T.Laws.the-laws Attached-T.Laws.the-plain)
     (shr u8 ∷ shr u64 ∷ val (of-number w64) ∷ shr u8 ∷ shr u8 ∷ val (of-number w64) ∷ val (of-number w64) ∷ val (of-number w64) ∷ val (of-struct Context-T.the-type Context-T.Laws.the-laws Context-T.Laws.the-plain) ∷ val (of-struct Attached-T.the-type Attached-T.Laws.the-laws Attached-T.Laws.the-plain) ∷ ref′ State-T.the-row ∷ mut u32 ∷ mut u64 ∷ [])
-    (λ table₀ words₀ count₀ source₀ tape₀ i₀ next₀ to₀ context₀ numbers₀ rec₀ seen₀ list₀. (Passable table₀ words₀ count₀ source₀ tape₀ (contextOf context₀) i₀ next₀ to₀ seen₀ rec₀) ∷ [])
-    (λ table₀ words₀ count₀ source₀ tape₀ i₀ next₀ to₀ context₀ numbers₀ rec₀ seen₀ list₀ r z. (PassedBy table₀ source₀ tape₀ (contextOf context₀) i₀ next₀ to₀ numbers₀ seen₀ list₀ rec₀ (z .1 .0) (z .1 .1 .0) (z .0) r) ∷ [])
+    (λ table₀ index₀ entries₀ source₀ tape₀ i₀ next₀ to₀ context₀ numbers₀ rec₀ seen₀ list₀. (Passable table₀ index₀ entries₀ source₀ tape₀ (contextOf context₀) i₀ next₀ to₀ seen₀ rec₀) ∷ [])
+    (λ table₀ index₀ entries₀ source₀ tape₀ i₀ next₀ to₀ context₀ numbers₀ rec₀ seen₀ list₀ r z. (PassedBy table₀ source₀ tape₀ (contextOf context₀) i₀ next₀ to₀ numbers₀ seen₀ list₀ rec₀ (z .1 .0) (z .1 .1 .0) (z .0) r) ∷ [])
 
 pub known : Known terms visit-leaf-F.signature (λ M 𝓤 H A at-mem run. visit-leaf-F.spec 𝓤 H A at-mem run)
 known M 𝓤 H 𝓜 𝓖 𝓡 γ r at met x cs = cited 𝓤 H _ 𝓜 𝓡 γ (terms .name) r at met (bound-at (rule-of terms x .pars) cs)

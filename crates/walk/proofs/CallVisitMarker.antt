@@ -12,12 +12,12 @@ use Rattle.cursor.specs.Inner.{Run}
 use Rattle.attachment.specs.Attached.{startsOf}
 use Rattle.state.specs.Inner.{contextOf, anchorOf, startsFor, countsOf}
 use Rattle.marker_checks.specs.InnerVisit.{ownAt, MarkerVisited}
+use Rattle.findings.specs.Inner.{Room}
 use Rattle.attachment.proofs.Attached as Attached-T
 use Rattle.state.proofs.Context as Context-T
 use Rattle.table.proofs.MarkerInfo as MarkerInfo-T
 use Rattle.state.proofs.State as State-T
 use Rattle.marker_checks.proofs.visit_marker as visit-marker-F
-use Rattle.findings.specs.Inner.{Room}
 
 abbrev pub terms : Terms
 terms = stated-as visit-marker-F.Symbol.name (of-struct State-T.the-type State-T.Laws.the-laws State-T.Laws.the-plain)

@@ -1,4 +1,4 @@
--- What the walk and the visit ask for and promise.
+-- What the walk and the visit require and promise.
 use Prim.Native.Nat.{ℕ, zero, suc, _+_, _-_, _<_, _≤_}
 use mathlib.Core.Path.{_≡_}
 use mathlib.Core.Bool.{Bool, true, false}
@@ -73,7 +73,7 @@ openCheckedAt table s t o e i to seen opens r =
 abbrev pub below : List ℕ → List ℕ → List ℕ → state.WalkContext → Entry → ℕ → NodeChecked → def.Walked
 below table s t o e i w = walk table (inside o e) none (forest s t (i + 1) (linkAt t i)) (w .state)
 
--- the visit of a marker: what is said of it, and the walk of its children; the anchor of its run stays
+-- the visit of a marker: its own findings, and the walk of its children; the anchor of its run stays
 abbrev pub visitFindings : List ℕ → List ℕ → List ℕ → state.WalkContext → Entry → ℕ → ℕ → List ℕ → List OpenStart → State → List Finding
 visitFindings table s t o e i to seen opens r =
     openCheckedAt table s t o e i to seen opens r .findings ++ below table s t o e i (openCheckedAt table s t o e i to seen opens r) .findings
@@ -85,7 +85,7 @@ pub record Visited (table s t : List ℕ) (o : state.WalkContext) (e : Entry) (i
   pub went : Went s t (visitFindings table s t o e i to seen opens r) (visitState table s t o e i to seen opens r) (pastNode t i - i) l r seen′ opens′ l′ q
   pub anchor : q .anchor ≡ r .anchor
 
--- what a visit asks for besides
+-- what a visit requires besides
 pub record Visitable (s t : List ℕ) (i to : ℕ) (numbers : Attached) (r : State) : Type 0 where
   pub more : i < to
   pub opened : isOpen (kindAt t i) ≡ true
@@ -144,7 +144,7 @@ pub record PassedBy (table s t : List ℕ) (o : state.WalkContext) (i next to : 
   pub number : numbered (kindAt t i) ≡ true → Leaved table s t o i next to numbers seen l r seen′ l′ q after
   pub other : numbered (kindAt t i) ≡ false → Unchanged numbers seen l r seen′ l′ q after
 
--- a run of which the walk says nothing and learns nothing: no marker, no Chapter and no Verse
+-- a run whose walk has no finding and changes nothing: no marker, no Chapter and no Verse
 unfoldable pub canSkipChildren : Forest → Bool
 canSkipChildren end = true
 canSkipChildren (leaf x r) = pick (numbered (x .kind)) false (canSkipChildren r)

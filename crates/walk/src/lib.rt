@@ -51,7 +51,7 @@ fn anchored(
     )
 }
 
-// The numbers attached after a leaf, to those that follow it: of a new anchor, or as they were.
+// The numbers attached after a leaf, to those that follow it: of a new anchor, or unchanged.
 fn numbers_after(
     source: &[u8],
     tape: &[u8],
@@ -130,7 +130,7 @@ fn marker(table: &[u8], index: &[u64], entries: usize, tape: &[u8], i: usize) ->
     Info::Missing
 }
 
-// The visit of a leaf, to which the record is lent: a Chapter or a Verse updates it, and any other node is passed. It gives the
+// The visit of a leaf, to which the record is lent: a Chapter or a Verse updates it, and any other node is skipped. It gives the
 // numbers attached to what follows, from `next` on.
 fn visit_leaf(
     table: &[u8],
@@ -169,7 +169,7 @@ fn visit_leaf(
     numbers
 }
 
-// Whether a run has no marker, no chapter and no verse. Most markers hold such a run, and the walk of it is spared.
+// Whether a run has no marker, no chapter and no verse. Most markers hold such a run, and its walk is skipped.
 fn can_skip_children(source: &[u8], tape: &[u8], from: usize, to: usize) -> bool
     requires { ⌜ Run (now source) (now tape) from to ⌝ }
     ensures { λ r. ⌜ r ≡ canSkipChildren (forest (now (source .entry)) (now (tape .entry)) from to) ⌝ }
@@ -191,7 +191,7 @@ fn can_skip_children(source: &[u8], tape: &[u8], from: usize, to: usize) -> bool
     true
 }
 
-// What is said of a marker, and of what lies in it. The record is lent: it is updated.
+// The findings of a marker and of what lies in it. The record is lent, and updated.
 fn visit(
     table: &[u8],
     index: &[u64],

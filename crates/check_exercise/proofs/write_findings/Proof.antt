@@ -15,11 +15,11 @@ Inv-loop table index entries source tape list written lines columns text₀ out�
 abbrev μ-loop : tie.MeasureT-loop
 μ-loop table index entries source tape list written lines columns text₀ out₀ n k₀ text out k = n - k
 
-marks-requires : tie.Need-marks-requires Inv-loop μ-loop
-marks-requires c κs = search needs
+places-requires : tie.Need-places-requires Inv-loop μ-loop
+places-requires c κs = search needs
 
-marks-requires-2 : tie.Need-marks-requires-2 Inv-loop μ-loop
-marks-requires-2 c κs = search needs
+places-requires-2 : tie.Need-places-requires-2 Inv-loop μ-loop
+places-requires-2 c κs = search needs
 
 slice-aggregate-lines-and-columns : tie.Need-slice-aggregate-lines-and-columns Inv-loop μ-loop
 slice-aggregate-lines-and-columns c = search needs
@@ -99,8 +99,8 @@ write-findings-spec =
     (tie.spec
     Inv-loop
     μ-loop
-    marks-requires
-    marks-requires-2
+    places-requires
+    places-requires-2
     slice-aggregate-lines-and-columns
     slice-aggregate-lines-and-columns-2
     lines-and-columns-requires

@@ -17,8 +17,8 @@ returns c =
     let a = c .before .before .before .before .before .args in
     before-none (now (a .source)) (now (a .tape)) (a .to) (now (a .list)) (countsOf (a .rec)) (c .before .counts .result) (c .if1 .taken) (c .before .counts .ensures)
 
-is-text-not-blank-requires : tie.Need-is-text-not-blank-requires
-is-text-not-blank-requires c κs =
+is-kind-requires : tie.Need-is-kind-requires
+is-kind-requires c κs =
     let s = c .before .before .before .before .before in
     let a = s .args in
     run-spanned (now (a .source)) (now (a .tape)) 1 (a .to) (s .pre .0) (c .if1 .left)
@@ -33,7 +33,7 @@ push-if-requires : tie.Need-push-if-requires
 push-if-requires c κs =
     let s = c .before .before .before .before .before .before .before .before in
     let a = s .args in
-    let b = c .before .before .is-text-not-blank in
+    let b = c .before .before .is-kind in
     let k = c .before .before .before .before .counts in
     before-room (now (a .source)) (now (a .tape)) (a .to) (s .pre .0) (c .before .before .before .if1 .left) (b .result) (findingOf (c .about .result)) (b .ensures) (c .about .ensures) (countsOf (a .rec)) (k .result) (k .ensures) (s .pre .1)
 
@@ -45,7 +45,7 @@ returns-2 c =
     let d = c .before .before .before in
     let s = d .before .before .before .before .before .before .before .before in
     let a = s .args in
-    let b = d .before .before .is-text-not-blank in
+    let b = d .before .before .is-kind in
     let k = d .before .before .before .before .counts in
     before-wrote (now (a .source)) (now (a .tape)) (a .to) (s .pre .0) (d .before .before .before .if1 .left) (b .result) (findingOf (d .about .result)) (b .ensures) (d .about .ensures) (countsOf (a .rec)) (k .result) (k .ensures) (c .before .before .push-if .ensures)
 
@@ -55,7 +55,7 @@ text-before-spec =
     (tie.spec
     counts-requires
     returns
-    is-text-not-blank-requires
+    is-kind-requires
     about-requires
     push-if-requires
     same-length

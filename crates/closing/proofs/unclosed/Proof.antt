@@ -4,7 +4,7 @@ use Rattle.reference_laws.proofs.Walk.{_≡_, refl, sym, _∙_, full, empty, In
 use Rattle.definition.specs.Outcome.{noStart}
 use Rattle.state.specs.Inner.{countsOf}
 use Rattle.closing.specs.Inner.{UnclosedReady}
-use Rattle.closing.proofs.Starts.{Told, unclosed-none, unclosed-all, unclosed-inside, unclosed-ready, unclosed-more}
+use Rattle.closing.proofs.Starts.{UnclosedSoFar, unclosed-none, unclosed-all, unclosed-inside, unclosed-ready, unclosed-next}
 use Rattle.reference_laws.proofs.Sizes.{scaled, more-fits, nearer}
 use prog.Wp.{afterTurn}
 use contract.Running.{tablesOf}
@@ -33,7 +33,7 @@ module _ {M : Type 1} (𝓤 : URA M) (H : Heap 𝓤) (A : Atoms 𝓤) (W : Given
       let E : Env 𝓤 H = env-of (code.function .locals) (l0 ∷ l1 ∷ l2 ∷ l3 ∷ l4 ∷ l5 ∷ l6 ∷ l7 ∷ l8 ∷ l9 ∷ l10 ∷ l11 ∷ l12 ∷ l13 ∷ l14 ∷ l15 ∷ []) in sets ! (of-opd ! (cell-field ! 5 8 refl refl refl)) 7 refl (tt, record { fits = (LL.lawful State-T.the-type State-L.the-laws 𝓤 H A W .typed rec₀ _ rec₀-is .0) .1 .1 .1 .1 .1 .1 .1 .1 .1 .0 .fits }) $
       calls-into W 𝓣 counts-C.terms (rec₀, tt) ! (rec₀-is, tt) tt known-counts (and-then ! (cell ! 6 refl) (no-more !)) 8 (λ _. refl) refl (λ z-counts s-counts.
       sets ! (of-opd ! (lit ! tt)) 9 refl (tt, record { fits = (lit< tt) }) $
-      let φ-kept : (Counts × (ℕ × ((List ℕ) × Unit {0}))) → Type 0 = λ x-kept. (Is Counts-T.the-row (x-kept .0) (LL.val Counts-T.the-type Counts-L.the-laws (x-kept .0) ∷ [])) × (((x-kept .1 .0) < 2 ^ 64) × ((length (x-kept .1 .1 .0) ≡ length list₀) × ((Told source₀ tape₀ opens₀ (rec₀ .«open_len») list₀ (countsOf rec₀) (x-kept .1 .1 .0) (x-kept .0) (x-kept .1 .0))))) in
+      let φ-kept : (Counts × (ℕ × ((List ℕ) × Unit {0}))) → Type 0 = λ x-kept. (Is Counts-T.the-row (x-kept .0) (LL.val Counts-T.the-type Counts-L.the-laws (x-kept .0) ∷ [])) × (((x-kept .1 .0) < 2 ^ 64) × ((length (x-kept .1 .1 .0) ≡ length list₀) × ((UnclosedSoFar source₀ tape₀ opens₀ (rec₀ .«open_len») list₀ (countsOf rec₀) (x-kept .1 .1 .0) (x-kept .0) (x-kept .1 .0))))) in
       let μ : (Counts × (ℕ × ((List ℕ) × Unit {0}))) → ℕ = λ y. rec₀ .«open_len» - (y .1 .0) in let less : (Counts × (ℕ × ((List ℕ) × Unit {0}))) → (Counts × (ℕ × ((List ℕ) × Unit {0}))) → Type 0 = λ a b. μ a < μ b in let I : (Counts × (ℕ × ((List ℕ) × Unit {0}))) → List (Item 𝓤) = λ x-kept. Stands 𝓤 H (φ-kept x-kept) E (empty ∷ full (fatVal source-at) ∷ full (fatVal tape-at) ∷ full (fatVal opens-at) ∷ full (LL.val State-T.the-type State-L.the-laws rec₀) ∷ full (fatVal list-at) ∷ full (vint w64 (rec₀ .«open_len»)) ∷ full (LL.val Counts-T.the-type Counts-L.the-laws (x-kept .0)) ∷ full (vint w64 (x-kept .1 .0)) ∷ []) (‵ (HasShr u8 source-at source₀) ∷ ‵ (HasShr u8 tape-at tape₀) ∷ ‵ (HasMut OpenStart-T.the-row opens-at opens₀) ∷ ‵ (HasMut u64 list-at (x-kept .1 .1 .0)) ∷ []) in say ! (φ-kept (z-counts .0, (0, (list₀, tt)))) ((s-counts .0), ((lit< tt), (refl, (unclosed-none source₀ tape₀ opens₀ (rec₀ .«open_len») list₀ (countsOf rec₀) (z-counts .0) (s-counts .1) (req .known) (req .room))))) $ keep ! (span 0 22 []) $
       loop-then ! 𝓣 less (InvImage·wf μ (Nat·lt-wfRel .wf)) I (λ x-kept leave. heard ! (φ-kept x-kept) (λ j-kept.
       sets ! (bin ! (cell ! 9 refl) (cell ! 7 refl) tt) 11 refl (tt, tt) $ if-then 𝓣 ! (cell ! 11 refl)
@@ -43,7 +43,7 @@ module _ {M : Type 1} (𝓤 : URA M) (H : Heap 𝓤) (A : Atoms 𝓤) (W : Given
       reslices ! 7 16 17 refl refl refl tt refl refl refl (tt, (tt, (record { fits = (list-room .0) }, tt))) $ move ! (19 ∷ 20 ∷ []) $ let req-push-unclosed : UnclosedReady tape₀ (getD opens₀ (x-kept .1 .0) noStart) (x-kept .0) = unclosed-ready (j-kept .1 .1 .1) (ltb→lt (x-kept .1 .0) (rec₀ .«open_len») h-while) in calls-any W 𝓣 push-unclosed-C.terms ((tape-at, tape₀), ((getD opens₀ (x-kept .1 .0) noStart), ((list-at, (x-kept .1 .1 .0)), ((x-kept .0), tt)))) ! (open-1, ((j-kept .0), tt)) req-push-unclosed known-push-unclosed (and-then ! (cell ! 5 refl) (and-then ! (cell ! 12 refl) (and-then ! (cell ! 18 refl) (and-then ! (cell ! 10 refl) (no-more !))))) (λ z-push-unclosed s-push-unclosed.
       relands-at ! 11 refl (LL.lawful Counts-T.the-type Counts-L.the-laws 𝓤 H A W .typed (z-push-unclosed .0) _ (s-push-unclosed .0) .0) $
       let fits-2 : ((x-kept .1 .0) + 1) < 2 ^ 64 = more-fits _ _ _ (unclosed-inside (j-kept .1 .1 .1) (ltb→lt (x-kept .1 .0) (rec₀ .«open_len») h-while)) opens-n (opens-room .0) in assigns-last ! (bin ! (cell ! 12 refl) (lit ! tt) (record { fits = fits-2 })) (from ! (stop !)) (store ! 12 refl (tt, record { fits = fits-2 })) $
-      forget ! 13 refl $ forget ! 14 refl $ forget ! 15 refl $ forget ! 16 refl $ forget ! 17 refl $ forget ! 18 refl $ forget ! 19 refl $ say ! (φ-kept (z-push-unclosed .0, ((x-kept .1 .0) + 1, ((z-push-unclosed .1 .0), tt)))) ((s-push-unclosed .0), (fits-2, (((s-push-unclosed .1 .0) ∙ (j-kept .1 .1 .0)), (unclosed-more (j-kept .1 .1 .1) (ltb→lt (x-kept .1 .0) (rec₀ .«open_len») h-while) (s-push-unclosed .1 .1))))) $ keep ! (0 ∷ span 4 18 (1 ∷ 3 ∷ 2 ∷ [])) $ again ! less I x-kept (z-push-unclosed .0, ((x-kept .1 .0) + 1, ((z-push-unclosed .1 .0), tt))) (nearer _ _ (ltb→lt (x-kept .1 .0) (rec₀ .«open_len») h-while)))))
+      forget ! 13 refl $ forget ! 14 refl $ forget ! 15 refl $ forget ! 16 refl $ forget ! 17 refl $ forget ! 18 refl $ forget ! 19 refl $ say ! (φ-kept (z-push-unclosed .0, ((x-kept .1 .0) + 1, ((z-push-unclosed .1 .0), tt)))) ((s-push-unclosed .0), (fits-2, (((s-push-unclosed .1 .0) ∙ (j-kept .1 .1 .0)), (unclosed-next (j-kept .1 .1 .1) (ltb→lt (x-kept .1 .0) (rec₀ .«open_len») h-while) (s-push-unclosed .1 .1))))) $ keep ! (0 ∷ span 4 18 (1 ∷ 3 ∷ 2 ∷ [])) $ again ! less I x-kept (z-push-unclosed .0, ((x-kept .1 .0) + 1, ((z-push-unclosed .1 .0), tt))) (nearer _ _ (ltb→lt (x-kept .1 .0) (rec₀ .«open_len») h-while)))))
       (λ h-while. exit-then ! $ leave _ $
       sets ! (of-opd ! (cell ! 8 refl)) 1 refl (LL.lawful Counts-T.the-type Counts-L.the-laws 𝓤 H A W .typed (x-kept .0) _ (j-kept .0) .0) $
       keep ! (span 0 21 []) $ ends ! ρ refl tt (x-kept .0) (j-kept .0) (opens₀, ((x-kept .1 .1 .0), tt)) (refl, ((j-kept .1 .1 .0), tt)) (refl, unclosed-all (j-kept .1 .1 .1) (nltb→le (x-kept .1 .0) (rec₀ .«open_len») h-while)) refl))) (z-counts .0, (0, (list₀, tt))))

@@ -4,7 +4,9 @@ use Rattle.reference_laws.proofs.Walk.{_≡_, refl, _∙_, _⊎_, inl, inr, ℕ
 use Rattle.validate.specs.Entry.{answerOf}
 use Rattle.tape.specs.Forest.{Accepted}
 use Rattle.harkoxin.specs.Report.{heldOf}
+use Rattle.table.specs.Inner.{Indexed}
 use mathlib.Core.Option.{none}
+use Rattle.validate.specs.Inner.{fromTable}
 use Rattle.harkoxin.proofs.Reporting.{turned-words, turned-text, turned-ends, held-requires, held-words, held-text, held-ends}
 use Rattle.validate.proofs.Through.{refused-so, accepted-so}
 use prog.Wp.{afterTurn}
@@ -28,8 +30,6 @@ use Rattle.validate.proofs.check_input as check-input-F
 use Rattle.harkoxin.proofs.write_turned_back as write-turned-back-F
 use Rattle.validate.proofs.passed as passed-F
 use Rattle.harkoxin.proofs.write_held as write-held-F
-use Rattle.validate.specs.Inner.{fromTable}
-use Rattle.table.specs.Inner.{Indexed}
 
 cases-InputCheck : (r : InputCheck) → (((a0 : ℕ) × (r ≡ InputCheck-V.Accepted a0)) ⊎ ((a0 : ℕ) × (a1 : ℕ) × (r ≡ InputCheck-V.Refused a0 a1)))
 cases-InputCheck (InputCheck-V.Accepted a0) = inl (a0, refl)

@@ -4,18 +4,18 @@ use borrow.Author.Needs.{needs}
 use Prim.Native.Nat.{_-_}
 use mathlib.Core.Logic.{⊎-elim}
 use lib.ListN.{length, length-set}
-use Rattle.listing.proofs.Marks.{Marking, marking-start, marking-break, marking-byte, lines-marked, columns-marked}
+use Rattle.listing.proofs.Places.{PlacesSoFar, places-start, places-break, places-byte, lines-written, columns-written}
 use Rattle.listing.proofs.lines_and_columns.Statement.{statement}
 use Rattle.listing.proofs.lines_and_columns.Tie as tie
 
 abbrev Inv-loop : tie.InvT-loop
-Inv-loop source lines₀ columns₀ line₀ column₀ i₀ lines columns line column i = Marking source lines₀ columns₀ lines columns line column i
+Inv-loop source lines₀ columns₀ line₀ column₀ i₀ lines columns line column i = PlacesSoFar source lines₀ columns₀ lines columns line column i
 
 abbrev μ-loop : tie.MeasureT-loop
 μ-loop source lines₀ columns₀ line₀ column₀ i₀ lines columns line column i = length source - i
 
 loop-holds : tie.Need-loop-holds Inv-loop μ-loop
-loop-holds c = marking-start _ _ _
+loop-holds c = places-start _ _ _
 
 mul-lines : tie.Need-mul-lines Inv-loop μ-loop
 mul-lines c = search needs
@@ -50,8 +50,8 @@ loop-again c =
     let p = c .before .before .before .before .pre in
     let h = c .before .before .loop-test .taken in
     ⊎-elim
-    (λ w. rw (w .1, w .2) (marking-break _ _ _ _ _ _ _ _ (l .inv) (p .1) (p .2) h (w .0 .taken)))
-    (λ w. rw (w .1, w .2) (marking-byte _ _ _ _ _ _ _ _ (l .inv) (p .1) (p .2) h (w .0 .left)))
+    (λ w. rw (w .1, w .2) (places-break _ _ _ _ _ _ _ _ (l .inv) (p .1) (p .2) h (w .0 .taken)))
+    (λ w. rw (w .1, w .2) (places-byte _ _ _ _ _ _ _ _ (l .inv) (p .1) (p .2) h (w .0 .left)))
     (c .if1 .came)
 
 mul-lines-2 : tie.Need-mul-lines-2 Inv-loop μ-loop
@@ -77,7 +77,7 @@ returns c =
     let l = c .before .loop in
     let p = c .before .before .pre in
     let h = c .loop-test .left in
-    (lines-marked _ _ _ _ _ _ _ _ (l .inv) (p .1) (p .2) h, columns-marked _ _ _ _ _ _ _ _ (l .inv) (p .1) (p .2) h)
+    (lines-written _ _ _ _ _ _ _ _ (l .inv) (p .1) (p .2) h, columns-written _ _ _ _ _ _ _ _ (l .inv) (p .1) (p .2) h)
 
 pub lines-and-columns-spec : {M : Type 1} → statement M
 lines-and-columns-spec =

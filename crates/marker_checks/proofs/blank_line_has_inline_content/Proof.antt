@@ -43,15 +43,15 @@ returns-3 c =
     let t = c .before .before .before .before .loop-test .taken in
     line-verse (now (a .source)) (now (a .tape)) (l .i) (a .to) (l .inv .run) t (sym (c .before .before .before .kind-at .ensures) ∙ c .if3 .taken) ∙ l .inv .same
 
-is-text-requires : tie.Need-is-text-requires Inv-loop μ-loop
-is-text-requires c κs = run-spanned _ _ _ _ (c .before .before .before .before .before .loop .inv .run) (c .before .before .before .before .loop-test .taken)
+is-kind-requires : tie.Need-is-kind-requires Inv-loop μ-loop
+is-kind-requires c κs = run-spanned _ _ _ _ (c .before .before .before .before .before .loop .inv .run) (c .before .before .before .before .loop-test .taken)
 
 returns-4 : tie.Need-returns-4 Inv-loop μ-loop
 returns-4 c =
     let a = c .before .before .before .before .before .before .before .before .before .before .args in
     let l = c .before .before .before .before .before .before .before .loop in
     let t = c .before .before .before .before .before .before .loop-test .taken in
-    line-text (now (a .source)) (now (a .tape)) (l .i) (a .to) (l .inv .run) t (sym (c .before .is-text .ensures) ∙ c .if4 .taken) ∙ l .inv .same
+    line-text (now (a .source)) (now (a .tape)) (l .i) (a .to) (l .inv .run) t (sym (c .before .is-kind .ensures) ∙ c .if4 .taken) ∙ l .inv .same
 
 past-node-requires : tie.Need-past-node-requires Inv-loop μ-loop
 past-node-requires c κs = run-below _ _ _ _ (c .before .before .before .before .before .before .before .loop .inv .run) (c .before .before .before .before .before .before .loop-test .taken)
@@ -69,7 +69,7 @@ loop-again c =
     let a = c .before .before .before .before .before .before .before .before .before .before .before .args in
     let l = c .before .before .before .before .before .before .before .before .loop in
     let t = c .before .before .before .before .before .before .before .loop-test .taken in
-    along-next inlineContent (now (a .source)) (now (a .tape)) (a .from) (a .to) (l .i) (l .inv) t (line-past (now (a .source)) (now (a .tape)) (l .i) (a .to) (l .inv .run) t (λ e. c .before .before .before .before .before .if1 .left (c .before .before .before .before .before .before .kind-at .ensures ∙ e)) (λ e. c .before .before .before .before .if2 .left (c .before .before .before .before .before .before .kind-at .ensures ∙ e)) (λ e. c .before .before .before .if3 .left (c .before .before .before .before .before .before .kind-at .ensures ∙ e)) (sym (c .before .before .is-text .ensures) ∙ c .before .if4 .left)) (c .past-node .result) (c .past-node .ensures)
+    along-next inlineContent (now (a .source)) (now (a .tape)) (a .from) (a .to) (l .i) (l .inv) t (line-past (now (a .source)) (now (a .tape)) (l .i) (a .to) (l .inv .run) t (λ e. c .before .before .before .before .before .if1 .left (c .before .before .before .before .before .before .kind-at .ensures ∙ e)) (λ e. c .before .before .before .before .if2 .left (c .before .before .before .before .before .before .kind-at .ensures ∙ e)) (λ e. c .before .before .before .if3 .left (c .before .before .before .before .before .before .kind-at .ensures ∙ e)) (sym (c .before .before .is-kind .ensures) ∙ c .before .if4 .left)) (c .past-node .result) (c .past-node .ensures)
 
 returns-5 : tie.Need-returns-5 Inv-loop μ-loop
 returns-5 c =
@@ -88,7 +88,7 @@ blank-line-has-inline-content-spec =
     returns
     returns-2
     returns-3
-    is-text-requires
+    is-kind-requires
     returns-4
     past-node-requires
     loop-less

@@ -20,8 +20,8 @@ abbrev μ-loop : tie.MeasureT-loop
 loop-holds : tie.Need-loop-holds Inv-loop μ-loop
 loop-holds c = record { run = c .before .before .pre; same = refl }
 
-is-text-requires : tie.Need-is-text-requires Inv-loop μ-loop
-is-text-requires c κs = run-spanned _ _ _ _ (c .before .loop .inv .run) (c .loop-test .taken)
+is-kind-requires : tie.Need-is-kind-requires Inv-loop μ-loop
+is-kind-requires c κs = run-spanned _ _ _ _ (c .before .loop .inv .run) (c .loop-test .taken)
 
 text-requires : tie.Need-text-requires Inv-loop μ-loop
 text-requires c κs = run-spanned _ _ _ _ (c .before .before .before .loop .inv .run) (c .before .before .loop-test .taken)
@@ -34,7 +34,7 @@ returns c =
     let a = c .before .before .before .before .before .before .before .before .args in
     let l = c .before .before .before .before .before .loop in
     let t = c .before .before .before .before .loop-test .taken in
-    c .first-word .ensures ∙ code-here (now (a .source)) (now (a .tape)) (l .i) (a .to) (l .inv .run) t _ (sym (c .before .before .before .is-text .ensures) ∙ c .before .before .if1 .taken) (now (c .before .text .result)) (c .before .text .ensures) ∙ l .inv .same
+    c .first-word .ensures ∙ code-here (now (a .source)) (now (a .tape)) (l .i) (a .to) (l .inv .run) t _ (sym (c .before .before .before .is-kind .ensures) ∙ c .before .before .if1 .taken) (now (c .before .text .result)) (c .before .text .ensures) ∙ l .inv .same
 
 past-node-requires : tie.Need-past-node-requires Inv-loop μ-loop
 past-node-requires c κs = run-below _ _ _ _ (c .before .before .before .loop .inv .run) (c .before .before .loop-test .taken)
@@ -52,7 +52,7 @@ loop-again c =
     let a = c .before .before .before .before .before .before .before .args in
     let l = c .before .before .before .before .loop in
     let t = c .before .before .before .loop-test .taken in
-    along-next bookCode (now (a .source)) (now (a .tape)) (a .from) (a .to) (l .i) (l .inv) t (code-past (now (a .source)) (now (a .tape)) (l .i) (a .to) (l .inv .run) t (sym (c .before .before .is-text .ensures) ∙ c .before .if1 .left)) (c .past-node .result) (c .past-node .ensures)
+    along-next bookCode (now (a .source)) (now (a .tape)) (a .from) (a .to) (l .i) (l .inv) t (code-past (now (a .source)) (now (a .tape)) (l .i) (a .to) (l .inv .run) t (sym (c .before .before .is-kind .ensures) ∙ c .before .if1 .left)) (c .past-node .result) (c .past-node .ensures)
 
 slice-aggregate-result : tie.Need-slice-aggregate-result Inv-loop μ-loop
 slice-aggregate-result c = search needs
@@ -70,7 +70,7 @@ book-code-spec =
     Inv-loop
     μ-loop
     loop-holds
-    is-text-requires
+    is-kind-requires
     text-requires
     first-word-requires
     returns

@@ -25,25 +25,25 @@ all c = left-start (given (checks c)) (now (c .args .list)) (c .args .c)
 
 left-1 : (c : tie.After-push-for-node) → Due (c .before .before .before .before .before .before .before .before .before) 1 (c .push-for-node .last .1 .1 .1 .1 .1 .1 .0) (c .push-for-node .result)
 left-1 c =
-    let x = c .before .before .before .before .empty-figure in
+    let x = c .before .before .before .before .is-empty-figure in
     given-wrote _ _ _ _ (all (c .before .before .before .before .before .before .before .before .before)) (x .result) _ (x .ensures) refl _ _ (c .push-for-node .ensures)
 
 left-2 : (c : tie.After-push-for-node2) → Due (c .before .before .before .before .before .before .before .before .before .before .before .before .before) 2 (c .push-for-node2 .last .1 .1 .1 .1 .1 .1 .0) (c .push-for-node2 .result)
 left-2 c =
-    let x = c .before .before .before .before .before .before .before .empty-word in
+    let x = c .before .before .before .before .before .before .before .is-empty-word in
     given-wrote _ _ _ _ (left-1 (c .before .before .before .before)) (x .result) _ (x .ensures) refl _ _ (c .push-for-node2 .ensures)
 
-add-empty-figure : tie.Need-add-empty-figure
-add-empty-figure c = search needs
+add-is-empty-figure : tie.Need-add-is-empty-figure
+add-is-empty-figure c = search needs
 
-empty-figure-requires : tie.Need-empty-figure-requires
-empty-figure-requires c κs = c .before .before .before .before .pre .1
+is-empty-figure-requires : tie.Need-is-empty-figure-requires
+is-empty-figure-requires c κs = c .before .before .before .before .pre .1
 
-add-empty-word : tie.Need-add-empty-word
-add-empty-word c = search needs
+add-is-empty-word : tie.Need-add-is-empty-word
+add-is-empty-word c = search needs
 
-empty-word-requires : tie.Need-empty-word-requires
-empty-word-requires c κs = c .before .before .before .before .before .pre .1
+is-empty-word-requires : tie.Need-is-empty-word-requires
+is-empty-word-requires c κs = c .before .before .before .before .before .pre .1
 
 add-lacks-required-attributes : tie.Need-add-lacks-required-attributes
 add-lacks-required-attributes c = search needs
@@ -54,13 +54,13 @@ lacks-required-attributes-requires c κs = c .before .before .before .before .be
 push-for-node-requires : tie.Need-push-for-node-requires
 push-for-node-requires c κs =
     let p = c .before .before .before .before .before .before .before .before .pre in
-    let x = c .before .before .before .empty-figure in
+    let x = c .before .before .before .is-empty-figure in
     (p .0, given-room _ _ _ _ (all (c .before .before .before .before .before .before .before .before)) (x .result) _ (x .ensures) refl (p .2))
 
 push-for-node-requires-2 : tie.Need-push-for-node-requires-2
 push-for-node-requires-2 c κs =
     let p = c .before .before .before .before .before .before .before .before .before .before .before .before .pre in
-    let x = c .before .before .before .before .before .before .empty-word in
+    let x = c .before .before .before .before .before .before .is-empty-word in
     (p .0, given-room _ _ _ _ (left-1 (c .before .before .before)) (x .result) _ (x .ensures) refl (p .2))
 
 push-for-node-requires-3 : tie.Need-push-for-node-requires-3
@@ -81,10 +81,10 @@ pub content-findings-spec : {M : Type 1} → statement M
 content-findings-spec =
     tie.close
     (tie.spec
-    add-empty-figure
-    empty-figure-requires
-    add-empty-word
-    empty-word-requires
+    add-is-empty-figure
+    is-empty-figure-requires
+    add-is-empty-word
+    is-empty-word-requires
     add-lacks-required-attributes
     lacks-required-attributes-requires
     push-for-node-requires

@@ -10,29 +10,29 @@ use Rattle.marker_checks.proofs.is_book_upper.Tie as tie
 returns : tie.Need-returns
 returns c = no-upper-book (now (c .before .before .args .code)) (c .if1 .taken)
 
-shared-slice-read-upper-byte : tie.Need-shared-slice-read-upper-byte
-shared-slice-read-upper-byte c = search needs
+shared-slice-read-upper : tie.Need-shared-slice-read-upper
+shared-slice-read-upper c = search needs
 
-upper-byte-requires : tie.Need-upper-byte-requires
-upper-byte-requires c κs = search needs
+upper-requires : tie.Need-upper-requires
+upper-requires c κs = search needs
 
 array-write-bytes : tie.Need-array-write-bytes
 array-write-bytes c = search needs
 
-shared-slice-read-upper-byte-2 : tie.Need-shared-slice-read-upper-byte-2
-shared-slice-read-upper-byte-2 c = search needs
+shared-slice-read-upper-2 : tie.Need-shared-slice-read-upper-2
+shared-slice-read-upper-2 c = search needs
 
-upper-byte-requires-2 : tie.Need-upper-byte-requires-2
-upper-byte-requires-2 c κs = search needs
+upper-requires-2 : tie.Need-upper-requires-2
+upper-requires-2 c κs = search needs
 
 array-write-bytes-2 : tie.Need-array-write-bytes-2
 array-write-bytes-2 c = search needs
 
-shared-slice-read-upper-byte-3 : tie.Need-shared-slice-read-upper-byte-3
-shared-slice-read-upper-byte-3 c = search needs
+shared-slice-read-upper-3 : tie.Need-shared-slice-read-upper-3
+shared-slice-read-upper-3 c = search needs
 
-upper-byte-requires-3 : tie.Need-upper-byte-requires-3
-upper-byte-requires-3 c κs = search needs
+upper-requires-3 : tie.Need-upper-requires-3
+upper-requires-3 c κs = search needs
 
 array-write-bytes-3 : tie.Need-array-write-bytes-3
 array-write-bytes-3 c = search needs
@@ -45,9 +45,9 @@ is-book-requires c κs = search needs
 
 returns-2 : tie.Need-returns-2
 returns-2 c =
-    let a = c .before .before .before .before .before .before .upper-byte in
-    let b = c .before .before .before .before .upper-byte2 in
-    let d = c .before .before .upper-byte3 in
+    let a = c .before .before .before .before .before .before .upper in
+    let b = c .before .before .before .before .upper2 in
+    let d = c .before .before .upper3 in
     c .is-book .ensures ∙ upper-three (now (c .before .before .before .before .before .before .before .before .before .before .args .code)) (a .result) (b .result) (d .result) (c .before .before .before .before .before .before .before .before .if1 .left) (a .ensures) (b .ensures) (d .ensures)
 
 pub is-book-upper-spec : {M : Type 1} → statement M
@@ -55,14 +55,14 @@ is-book-upper-spec =
     tie.close
     (tie.spec
     returns
-    shared-slice-read-upper-byte
-    upper-byte-requires
+    shared-slice-read-upper
+    upper-requires
     array-write-bytes
-    shared-slice-read-upper-byte-2
-    upper-byte-requires-2
+    shared-slice-read-upper-2
+    upper-requires-2
     array-write-bytes-2
-    shared-slice-read-upper-byte-3
-    upper-byte-requires-3
+    shared-slice-read-upper-3
+    upper-requires-3
     array-write-bytes-3
     slice-aggregate-is-book
     is-book-requires

@@ -20,7 +20,7 @@ use Rattle.text.specs.Literal.{ascii}
 use Rattle.findings.specs.Inner.{Room}
 
 abbrev ids : tie.After-counts → List Check
-ids c = let a = c .before .before .before .before .before .before .before .before .before .before .args in idPart (now (a .source)) (now (a .tape)) (a .i) (a .rec) (c .before .before .before .before .link-at .result) (c .before .before .same .result)
+ids c = let a = c .before .before .before .before .before .before .before .before .before .before .args in idPart (now (a .source)) (now (a .tape)) (a .i) (a .rec) (c .before .before .before .before .link-at .result) (c .before .before .equal .result)
 
 abbrev placed : tie.After-counts → List Check
 placed c = let a = c .before .before .before .before .before .before .before .before .before .before .args in placePart (now (a .source)) (now (a .tape)) (a .i) (a .to) (contextOf (a .context)) (entryOfInfo (a .m)) (now (c .before .before .before .before .before .name .result)) (c .before .after-id .result)
@@ -40,7 +40,7 @@ room c =
     let a = c .before .before .before .before .before .before .before .before .before .before .args in
     let n = c .before .before .before .before .before .name in
     let k = c .before .before .before .before .link-at in
-    let d = c .before .before .same in
+    let d = c .before .before .equal in
     let f = c .before .after-id in
     own-room (now (a .table)) (now (a .source)) (now (a .tape)) (a .i) (a .to) (contextOf (a .context)) (entryOfInfo (a .m)) (a .rec) (now (n .result)) (k .result) (d .result) (f .result) (n .ensures) (k .ensures) (d .ensures) (f .ensures) (c .counts .result) (c .counts .ensures) (c .before .before .before .before .before .before .before .before .before .before .pre .5)
 
@@ -59,11 +59,11 @@ cast-link c = search needs
 add-from : tie.Need-add-from
 add-from c = search needs
 
-slice-aggregate-same : tie.Need-slice-aggregate-same
-slice-aggregate-same c = search needs
+slice-aggregate-equal : tie.Need-slice-aggregate-equal
+slice-aggregate-equal c = search needs
 
-same-requires : tie.Need-same-requires
-same-requires c κs = search needs
+equal-requires : tie.Need-equal-requires
+equal-requires c κs = search needs
 
 after-id-requires : tie.Need-after-id-requires
 after-id-requires c κs =
@@ -136,7 +136,7 @@ returns c =
     let a = c .before .before .before .before .before .before .before .before .before .before .before .before .before .before .before .before .before .before .before .before .before .before .before .before .before .before .before .before .before .before .before .args in
     let n = c .before .before .before .before .before .before .before .before .before .before .before .before .before .before .before .before .before .before .before .before .before .before .before .before .before .before .name in
     let k = c .before .before .before .before .before .before .before .before .before .before .before .before .before .before .before .before .before .before .before .before .before .before .before .before .before .link-at in
-    let d = c .before .before .before .before .before .before .before .before .before .before .before .before .before .before .before .before .before .before .before .before .before .before .before .same in
+    let d = c .before .before .before .before .before .before .before .before .before .before .before .before .before .before .before .before .before .before .before .before .before .before .before .equal in
     let f = c .before .before .before .before .before .before .before .before .before .before .before .before .before .before .before .before .before .before .before .before .before .before .after-id in
     let z = c .before .before .before .before .before .before .before .before .before .before .before .before .before .before .before .before .before .before .before .before .before .counts in
     let w₁ = c .before .before .before .before .before .before .before .before .before .before .before .before .before .before .before .before .before .before .before .id-findings in
@@ -156,8 +156,8 @@ visit-marker-spec =
     link-at-requires
     cast-link
     add-from
-    slice-aggregate-same
-    same-requires
+    slice-aggregate-equal
+    equal-requires
     after-id-requires
     counts-requires
     id-findings-requires

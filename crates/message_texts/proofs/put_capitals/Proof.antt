@@ -25,11 +25,11 @@ loop-holds c = writing-start _ _ _
 add-if1 : tie.Need-add-if1 Inv-loop μ-loop
 add-if1 c = search needs
 
-shared-slice-read-capital : tie.Need-shared-slice-read-capital Inv-loop μ-loop
-shared-slice-read-capital c = search needs
+shared-slice-read-upper : tie.Need-shared-slice-read-upper Inv-loop μ-loop
+shared-slice-read-upper c = search needs
 
-capital-requires : tie.Need-capital-requires Inv-loop μ-loop
-capital-requires c κs = search needs
+upper-requires : tie.Need-upper-requires Inv-loop μ-loop
+upper-requires c κs = search needs
 
 add-out : tie.Need-add-out Inv-loop μ-loop
 add-out c = search needs
@@ -46,7 +46,7 @@ loop-less c = search needs
 loop-again : tie.Need-loop-again Inv-loop μ-loop
 loop-again c =
     let v = c .before .before .before .before .loop .inv in
-    capitals-on _ _ _ _ _ _ v (c .before .before .before .loop-test .taken) (ltb-true _ _ (c .before .before .if1 .taken)) (c .capital .ensures)
+    capitals-on _ _ _ _ _ _ v (c .before .before .before .loop-test .taken) (ltb-true _ _ (c .before .before .if1 .taken)) (c .upper .ensures)
 
 add-result : tie.Need-add-result Inv-loop μ-loop
 add-result c = search needs
@@ -72,8 +72,8 @@ put-capitals-spec =
     μ-loop
     loop-holds
     add-if1
-    shared-slice-read-capital
-    capital-requires
+    shared-slice-read-upper
+    upper-requires
     add-out
     slice-write-out
     add-i

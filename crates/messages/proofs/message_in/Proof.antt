@@ -2,11 +2,11 @@
 -- Assumes nothing.
 use denote.Ref.{now}
 use native.Mathlib.Omega.{arith}
-use Rattle.messages.specs.Inner.{requestBy}
 use Rattle.messages.proofs.Nine.{off-tape, on-tape, answer-lack, answer-short, answer-written}
 use borrow.Author.Needs.{needs}
 use Rattle.messages.proofs.message_in.Statement.{statement}
 use Rattle.messages.proofs.message_in.Tie as tie
+use Rattle.messages.specs.Answer.{requestBy}
 
 returns : tie.Need-returns
 returns c =

@@ -29,7 +29,7 @@ name-requires c κs =
     let s = c .before .before .before .before .before .before .before .before .before .before in
     let a = s .args in
     let k = c .before .before .before .marker-info in
-    entry-sound (now (a .table)) (now (a .words)) (a .entries) (s .pre .0) (now (a .tape)) (a .i) (entryOfInfo (c .before .m .given .0 .0)) (sym (k .ensures) ∙ ap infoOf (c .before .m .given .1)) .inside
+    entry-sound (now (a .table)) (now (a .index)) (a .entries) (s .pre .0) (now (a .tape)) (a .i) (entryOfInfo (c .before .m .given .0 .0)) (sym (k .ensures) ∙ ap infoOf (c .before .m .given .1)) .inside
 
 enum-told : tie.Need-enum-told
 enum-told c = search needs

@@ -15,13 +15,14 @@ use Rattle.cursor.proofs.Around.{spanned}
 use Rattle.definition.specs.Milestones.{endsIn}
 use Rattle.milestones.specs.Inner.{baseIn}
 use Rattle.message_texts.specs.Texts as texts
-use Rattle.messages.specs.Inner.{requestBy, nameOr}
+use Rattle.messages.specs.Inner.{nameOr}
 use Rattle.messages.proofs.Values.{holes-16, written-with, written-lacks}
 use Rattle.messages.proofs.Shown.{root-base, no-base, base-shown}
 use Rattle.messages.proofs.Lengths.{by-source, take-short, name-fits}
 use borrow.Author.Needs.{needs}
 use Rattle.messages.proofs.write_base.Statement.{statement}
 use Rattle.messages.proofs.write_base.Tie as tie
+use Rattle.messages.specs.Answer.{requestBy}
 
 returns : tie.Need-returns
 returns c =
@@ -53,8 +54,8 @@ returns-2 c =
     (no-base (now (a .table)) (now (a .source)) (now (a .tape)) (requestBy (a .q)) (b .result) paired (not-true _ (c .if2 .taken)) (c .before .before .before .if1 .left))
     (now (a .out))
 
-base-requires : tie.Need-base-requires
-base-requires c κs = search needs
+milestone-base-requires : tie.Need-milestone-base-requires
+milestone-base-requires c κs = search needs
 
 slice-aggregate-write-text : tie.Need-slice-aggregate-write-text
 slice-aggregate-write-text c = search needs
@@ -68,7 +69,7 @@ write-text-requires c κs =
     let a = s .args in
     let n = c .before .before .before .before .before .before .name-shown in
     let is = by-source (a .q .code) (nameOr (now (a .table)) (infoAt (now (a .table)) (now (a .tape)) (a .q .node))) (nameOf (nodeAt (now (a .source)) (now (a .tape)) (a .q .node) .text)) (now (n .result)) (n .ensures) 16 refl (s .pre .1) in
-    let b = ap length (c .before .before .before .base .ensures) in
+    let b = ap length (c .before .before .before .milestone-base .ensures) in
     let k = take-short (length (now (n .result)) - 2) (now (n .result)) in
     let l = name-fits (now (a .source)) (now (a .tape)) (a .q .node) (s .pre .0 .short) (now (n .result)) is in
     record { a-short = omega (arith, b, k, l); b-short = omega arith; c-short = omega arith }
@@ -84,7 +85,7 @@ returns-3 c =
     let is = by-source (a .q .code) (nameOr (now (a .table)) (infoAt (now (a .table)) (now (a .tape)) (a .q .node))) (nameOf (nodeAt (now (a .source)) (now (a .tape)) (a .q .node) .text)) (now (n .result)) (n .ensures) 16 refl (s .pre .1) in
     let b = c .before .before .before .before .before .before .before .before .is-paired in
     let paired = b .ensures ∙ ap (λ (x : List ℕ). (endsIn 0x73 x || endsIn 0x65 x)) is in
-    let m = c .before .before .before .before .before .before .base in
+    let m = c .before .before .before .before .before .before .milestone-base in
     written-with (now (a .table)) (now (a .source)) (now (a .tape)) (requestBy (a .q)) texts.base texts.empty texts.empty (holes-16 (a .q .code) (s .pre .1))
     (now (m .result)) [] []
     (base-shown (now (a .table)) (now (a .source)) (now (a .tape)) (requestBy (a .q)) (b .result) (now (m .result)) paired (not-false _ (c .before .before .before .before .before .before .before .if2 .left)) (c .before .before .before .before .before .before .before .before .before .before .if1 .left) (m .ensures ∙ ap baseIn is))
@@ -98,7 +99,7 @@ write-base-spec =
     name-shown-requires
     is-paired-requires
     returns-2
-    base-requires
+    milestone-base-requires
     slice-aggregate-write-text
     slice-aggregate-write-text-2
     write-text-requires

@@ -12,12 +12,12 @@ use Rattle.tape.specs.Nodes.{kindAt, isOpen, markerOpenKind}
 use Rattle.cursor.specs.Inner.{Run}
 use Rattle.cursor.proofs.Runs.{run-inside}
 use Rattle.message_texts.specs.Texts as texts
-use Rattle.messages.specs.Inner.{requestBy}
 use Rattle.messages.proofs.Values.{holes-5, written-with, written-lacks}
 use Rattle.messages.proofs.Shown.{no-open, no-code, code-shown, open-later}
 use Rattle.messages.proofs.Parts.{code-inside}
 use Rattle.messages.proofs.write_book.Statement.{statement}
 use Rattle.messages.proofs.write_book.Tie as tie
+use Rattle.messages.specs.Answer.{requestBy}
 
 -- the node is open
 is-open : (c : tie.Else1) → isOpen (kindAt (now (c .before .before .before .before .before .args .tape)) (c .before .before .before .before .before .args .q .node)) ≡ true

@@ -10,13 +10,14 @@ use Rattle.cursor.specs.Names.{nameOf}
 use Rattle.cursor.specs.Info.{infoAt}
 use Rattle.cursor.proofs.Around.{spanned}
 use Rattle.message_texts.specs.Texts as texts
-use Rattle.messages.specs.Inner.{requestBy, nameOr}
+use Rattle.messages.specs.Inner.{nameOr}
 use Rattle.messages.proofs.Values.{holes-13, holes-24, written-with, written-lacks}
 use Rattle.messages.proofs.Shown.{entry-lacks, entry-there, entry-none, entry-shown, root-entry}
 use Rattle.messages.proofs.Lengths.{by-table, entry-fits}
 use borrow.Author.Needs.{needs}
 use Rattle.messages.proofs.write_entry.Statement.{statement}
 use Rattle.messages.proofs.write_entry.Tie as tie
+use Rattle.messages.specs.Answer.{requestBy}
 
 returns : tie.Need-returns
 returns c =

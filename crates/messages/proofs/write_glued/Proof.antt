@@ -13,13 +13,14 @@ use Rattle.cursor.specs.Names.{nameOf}
 use Rattle.cursor.specs.Info.{infoAt}
 use Rattle.numbers.specs.Label.{labelOf, isGlued, numbered}
 use Rattle.message_texts.specs.Texts as texts
-use Rattle.messages.specs.Inner.{requestBy, nameOr}
+use Rattle.messages.specs.Inner.{nameOr}
 use Rattle.messages.proofs.Values.{holes-34, written-with, written-lacks}
 use Rattle.messages.proofs.Shown.{numbered-spanned, not-numbered, not-glued, glued-shown}
 use Rattle.messages.proofs.Lengths.{by-source, name-fits, glued-fits}
 use borrow.Author.Needs.{needs}
 use Rattle.messages.proofs.write_glued.Statement.{statement}
 use Rattle.messages.proofs.write_glued.Tie as tie
+use Rattle.messages.specs.Answer.{requestBy}
 
 kind-at-requires : tie.Need-kind-at-requires
 kind-at-requires c κs = search needs

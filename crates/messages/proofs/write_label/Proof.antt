@@ -7,13 +7,13 @@ use Rattle.numbers.specs.Label.{numbered}
 use Rattle.tape.specs.Nodes.{kindAt}
 use Rattle.cursor.specs.Info.{infoAt}
 use Rattle.message_texts.specs.Texts as texts
-use Rattle.messages.specs.Inner.{requestBy}
 use Rattle.messages.proofs.Values.{holes-15, written-with, written-lacks}
 use Rattle.messages.proofs.Shown.{label-none, label-shown}
 use Rattle.messages.proofs.Lengths.{label-fits}
 use borrow.Author.Needs.{needs}
 use Rattle.messages.proofs.write_label.Statement.{statement}
 use Rattle.messages.proofs.write_label.Tie as tie
+use Rattle.messages.specs.Answer.{requestBy}
 
 label-shown-requires : tie.Need-label-shown-requires
 label-shown-requires c κs = search needs

@@ -3,13 +3,13 @@
 use denote.Ref.{now}
 use mathlib.Core.Logic.{inl, inr}
 use Rattle.message_texts.specs.Texts as texts
-use Rattle.messages.specs.Inner.{requestBy}
 use Rattle.messages.proofs.Values.{written-with, holes-9, holes-10, holes-27}
 use Rattle.messages.proofs.Plain.{written-plain}
 use Rattle.messages.proofs.Shown.{numbers-shown}
 use borrow.Author.Needs.{needs}
 use Rattle.messages.proofs.write_message.Statement.{statement}
 use Rattle.messages.proofs.write_message.Tie as tie
+use Rattle.messages.specs.Answer.{requestBy}
 
 write-book-requires : tie.Need-write-book-requires
 write-book-requires c κs = search needs

@@ -13,13 +13,14 @@ use Rattle.cursor.specs.Info.{infoAt}
 use Rattle.cursor.proofs.Around.{spanned}
 use Rattle.message_texts.specs.Texts as texts
 use Rattle.messages.specs.Message.{unitOf}
-use Rattle.messages.specs.Inner.{requestBy, nameOr}
+use Rattle.messages.specs.Inner.{nameOr}
 use Rattle.messages.proofs.Values.{holes-33, written-with, written-lacks}
 use Rattle.messages.proofs.Shown.{root-number, no-number, number-shown}
 use Rattle.messages.proofs.Lengths.{by-source, name-fits, four-named}
 use borrow.Author.Needs.{needs}
 use Rattle.messages.proofs.write_number.Statement.{statement}
 use Rattle.messages.proofs.write_number.Tie as tie
+use Rattle.messages.specs.Answer.{requestBy}
 
 returns : tie.Need-returns
 returns c =

@@ -10,13 +10,14 @@ use Rattle.cursor.specs.Names.{nameOf}
 use Rattle.cursor.specs.Info.{infoAt}
 use Rattle.cursor.proofs.Around.{spanned}
 use Rattle.message_texts.specs.Texts as texts
-use Rattle.messages.specs.Inner.{requestBy, nameOr}
+use Rattle.messages.specs.Inner.{nameOr}
 use Rattle.messages.proofs.Values.{holes-32, written-with, written-lacks}
 use Rattle.messages.proofs.Shown.{root-owner, far-owner, owner-shown}
 use Rattle.messages.proofs.Lengths.{by-source, name-fits}
 use borrow.Author.Needs.{needs}
 use Rattle.messages.proofs.write_owner.Statement.{statement}
 use Rattle.messages.proofs.write_owner.Tie as tie
+use Rattle.messages.specs.Answer.{requestBy}
 
 returns : tie.Need-returns
 returns c =

@@ -9,12 +9,12 @@ use Rattle.numbers.specs.Label.{numbered}
 use Rattle.buffer.specs.Decimal.{decimal}
 use Rattle.message_texts.specs.Texts as texts
 use Rattle.messages.specs.Message.{letterBytes}
-use Rattle.messages.specs.Inner.{requestBy}
 use Rattle.messages.proofs.Values.{holes-11, written-with, written-lacks}
 use Rattle.messages.proofs.Shown.{far-letter, verse-lacks, verse-shown}
 use Rattle.messages.proofs.Lengths.{label-fits}
 use Rattle.messages.proofs.write_verse.Statement.{statement}
 use Rattle.messages.proofs.write_verse.Tie as tie
+use Rattle.messages.specs.Answer.{requestBy}
 
 returns : tie.Need-returns
 returns c =

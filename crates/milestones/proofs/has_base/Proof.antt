@@ -47,26 +47,26 @@ add-end c = let h = inside c in search needs
 add-to : tie.Need-add-to
 add-to c = search needs
 
-sub-same : tie.Need-sub-same
-sub-same c = search needs
+sub-equal : tie.Need-sub-equal
+sub-equal c = search needs
 
-part-same-start : tie.Need-part-same-start
-part-same-start c = search needs
+part-equal-start : tie.Need-part-equal-start
+part-equal-start c = search needs
 
-part-same-end : tie.Need-part-same-end
-part-same-end c = inside c
+part-equal-end : tie.Need-part-equal-end
+part-equal-end c = inside c
 
-sub-same-2 : tie.Need-sub-same-2
-sub-same-2 c = search needs
+sub-equal-2 : tie.Need-sub-equal-2
+sub-equal-2 c = search needs
 
-part-same-start-2 : tie.Need-part-same-start-2
-part-same-start-2 c = search needs
+part-equal-start-2 : tie.Need-part-equal-start-2
+part-equal-start-2 c = search needs
 
-part-same-end-2 : tie.Need-part-same-end-2
-part-same-end-2 c = search needs
+part-equal-end-2 : tie.Need-part-equal-end-2
+part-equal-end-2 c = search needs
 
-same-requires : tie.Need-same-requires
-same-requires c κs = search needs
+equal-requires : tie.Need-equal-requires
+equal-requires c κs = search needs
 
 returns-3 : tie.Need-returns-3
 returns-3 c =
@@ -74,7 +74,7 @@ returns-3 c =
     let b = n .before .before .before .before .before .before .before in
     let a = b .args in
     let l : a .at + a .len - a .at ≡ a .len = omega arith in
-    own-base (now (a .source)) (now (a .tape)) (a .o .node) (a .o .«base_len») (b .pre .0) (n .name-at .result) (n .name-at .ensures) (n .before .before .if2 .left) (take (a .len) (drop (a .at) (now (a .source)))) (c .same .result) (rw l at (c .same .ensures))
+    own-base (now (a .source)) (now (a .tape)) (a .o .node) (a .o .«base_len») (b .pre .0) (n .name-at .result) (n .name-at .ensures) (n .before .before .if2 .left) (take (a .len) (drop (a .at) (now (a .source)))) (c .equal .result) (rw l at (c .equal .ensures))
 
 pub has-base-spec : {M : Type 1} → statement M
 has-base-spec =
@@ -87,11 +87,11 @@ has-base-spec =
     name-at-requires
     add-end
     add-to
-    sub-same
-    part-same-start
-    part-same-end
-    sub-same-2
-    part-same-start-2
-    part-same-end-2
-    same-requires
+    sub-equal
+    part-equal-start
+    part-equal-end
+    sub-equal-2
+    part-equal-start-2
+    part-equal-end-2
+    equal-requires
     returns-3)

@@ -27,7 +27,7 @@ slice-aggregate-info c = search needs
 
 info-requires : tie.Need-info-requires
 info-requires c κs =
-    let i = c .before .before .before .before .before .index in
+    let i = c .before .before .before .before .before .index2 in
     let n = c .before .before .n in
     good-index (now (c .before .before .before .before .before .before .before .before .args .table)) _ (i .result) (n .given .0 .0) (n .given .1) (i .ensures .1)
 

@@ -34,7 +34,7 @@ slice-aggregate-label-check c = search needs
 
 label-check-requires : tie.Need-label-check-requires
 label-check-requires c κs =
-    let i = c .before .before .before .before .before .before .before .index in
+    let i = c .before .before .before .before .before .before .before .index2 in
     let n = c .before .before .before .before .n in
     let h = good-index (now (c .before .before .before .before .before .before .before .before .before .before .before .before .args .table)) _ (i .result) (n .given .0 .0) (n .given .1) (i .ensures .1) in
     let a = c .before .before .accepted in

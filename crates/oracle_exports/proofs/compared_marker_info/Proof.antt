@@ -30,7 +30,7 @@ slice-aggregate-marker-info c = search needs
 
 marker-info-requires : tie.Need-marker-info-requires
 marker-info-requires c κs =
-    let i = c .before .before .before .before .before .before .index in
+    let i = c .before .before .before .before .before .before .index2 in
     let n = c .before .before .before .n in
     (good-index (now (c .before .before .before .before .before .before .before .before .before .before .args .table)) _ (i .result) (n .given .0 .0) (n .given .1) (i .ensures .1), omega (arith, c .before .if1 .left))
 

@@ -7,7 +7,7 @@ use lib.ListN.{length}
 use mathlib.Core.Path.{sym, _∙_}
 use native.Mathlib.Omega.{arith}
 use Rattle.text.proofs.Cuts.{rest-all}
-use Rattle.table.proofs.Words.{starts-long}
+use Rattle.text.proofs.Blocks.{starts-long}
 use Rattle.table.proofs.behind.Statement.{statement}
 use Rattle.table.proofs.behind.Tie as tie
 

@@ -10,7 +10,7 @@ use native.Mathlib.Omega.{arith}
 use Rattle.table.specs.Lines.{categories}
 use Rattle.table.specs.Books.{codeFrom}
 use Rattle.table.proofs.Words.{every}
-use Rattle.table.proofs.Blocks.{HeadIs, head-is}
+use Rattle.table.proofs.HeadBytes.{HeadIs, head-is}
 use Rattle.table.proofs.Heads.{front, front-there, line-there, words-absent}
 use Rattle.table.proofs.category_step.Statement.{statement}
 use Rattle.table.proofs.category_step.Tie as tie

@@ -25,22 +25,22 @@ mul-at c = search needs
 add-end : tie.Need-add-end Inv-loop μ-loop
 add-end c = search needs
 
-sub-same : tie.Need-sub-same Inv-loop μ-loop
-sub-same c = search needs
+sub-equal : tie.Need-sub-equal Inv-loop μ-loop
+sub-equal c = search needs
 
-part-same-start : tie.Need-part-same-start Inv-loop μ-loop
-part-same-start c = search needs
+part-equal-start : tie.Need-part-equal-start Inv-loop μ-loop
+part-equal-start c = search needs
 
-part-same-end : tie.Need-part-same-end Inv-loop μ-loop
-part-same-end c = search needs
+part-equal-end : tie.Need-part-equal-end Inv-loop μ-loop
+part-equal-end c = search needs
 
-same-requires : tie.Need-same-requires Inv-loop μ-loop
-same-requires c κs = search needs
+equal-requires : tie.Need-equal-requires Inv-loop μ-loop
+equal-requires c κs = search needs
 
 returns : tie.Need-returns Inv-loop μ-loop
 returns c =
     let l = c .before .before .before .before .loop in
-    sym (l .inv .2 ∙ code-hit (l .k) _ _ _ _ (code-at _ (l .k) (omega arith)) (sym (c .before .same .ensures) ∙ c .if1 .taken))
+    sym (l .inv .2 ∙ code-hit (l .k) _ _ _ _ (code-at _ (l .k) (omega arith)) (sym (c .before .equal .ensures) ∙ c .if1 .taken))
 
 add-k : tie.Need-add-k Inv-loop μ-loop
 add-k c = search needs
@@ -51,7 +51,7 @@ loop-less c = search needs
 loop-again : tie.Need-loop-again Inv-loop μ-loop
 loop-again c =
     let l = c .before .before .before .before .loop in
-    (l .inv .0, omega arith, l .inv .2 ∙ code-miss (l .k) _ _ _ _ (code-at _ (l .k) (omega arith)) (sym (c .before .same .ensures) ∙ c .if1 .left))
+    (l .inv .0, omega arith, l .inv .2 ∙ code-miss (l .k) _ _ _ _ (code-at _ (l .k) (omega arith)) (sym (c .before .equal .ensures) ∙ c .if1 .left))
 
 returns-2 : tie.Need-returns-2 Inv-loop μ-loop
 returns-2 c =
@@ -67,10 +67,10 @@ code-in-spec =
     loop-holds
     mul-at
     add-end
-    sub-same
-    part-same-start
-    part-same-end
-    same-requires
+    sub-equal
+    part-equal-start
+    part-equal-end
+    equal-requires
     returns
     add-k
     loop-less

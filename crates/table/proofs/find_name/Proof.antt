@@ -29,17 +29,17 @@ shared-slice-read-w c = omega (arith, c .before .before .loop .inv .1 .room)
 add-end : tie.Need-add-end Inv-loop μ-loop
 add-end c = search needs
 
-sub-same : tie.Need-sub-same Inv-loop μ-loop
-sub-same c = search needs
+sub-equal : tie.Need-sub-equal Inv-loop μ-loop
+sub-equal c = search needs
 
-part-same-start : tie.Need-part-same-start Inv-loop μ-loop
-part-same-start c = search needs
+part-equal-start : tie.Need-part-equal-start Inv-loop μ-loop
+part-equal-start c = search needs
 
-part-same-end : tie.Need-part-same-end Inv-loop μ-loop
-part-same-end c = let l = c .before .before .loop in inside _ _ _ (l .inv .1) (l .k) (omega arith)
+part-equal-end : tie.Need-part-equal-end Inv-loop μ-loop
+part-equal-end c = let l = c .before .before .loop in inside _ _ _ (l .inv .1) (l .k) (omega arith)
 
-same-requires : tie.Need-same-requires Inv-loop μ-loop
-same-requires c κs = search needs
+equal-requires : tie.Need-equal-requires Inv-loop μ-loop
+equal-requires c κs = search needs
 
 cast-t18 : tie.Need-cast-t18 Inv-loop μ-loop
 cast-t18 c = omega (arith, c .before .before .before .before .before .loop .inv .1 .few)
@@ -47,7 +47,7 @@ cast-t18 c = omega (arith, c .before .before .before .before .before .loop .inv 
 returns : tie.Need-returns Inv-loop μ-loop
 returns c =
     let l = c .before .before .before .before .before .loop in
-    sym (l .inv .2 ∙ name-hit _ _ _ (l .inv .1) (l .k) (omega arith) _ (sym (c .before .same .ensures) ∙ c .if1 .taken))
+    sym (l .inv .2 ∙ name-hit _ _ _ (l .inv .1) (l .k) (omega arith) _ (sym (c .before .equal .ensures) ∙ c .if1 .taken))
 
 add-k : tie.Need-add-k Inv-loop μ-loop
 add-k c = search needs
@@ -58,7 +58,7 @@ loop-less c = search needs
 loop-again : tie.Need-loop-again Inv-loop μ-loop
 loop-again c =
     let l = c .before .before .before .before .before .loop in
-    (omega arith, l .inv .1, l .inv .2 ∙ name-miss _ _ _ (l .inv .1) (l .k) (omega arith) _ (sym (c .before .same .ensures) ∙ c .if1 .left))
+    (omega arith, l .inv .1, l .inv .2 ∙ name-miss _ _ _ (l .inv .1) (l .k) (omega arith) _ (sym (c .before .equal .ensures) ∙ c .if1 .left))
 
 returns-2 : tie.Need-returns-2 Inv-loop μ-loop
 returns-2 c = let l = c .before .loop in sym (l .inv .2 ∙ name-none _ _ _ (l .inv .1) (l .k) _ (omega arith))
@@ -73,10 +73,10 @@ find-name-spec =
     mul-w
     shared-slice-read-w
     add-end
-    sub-same
-    part-same-start
-    part-same-end
-    same-requires
+    sub-equal
+    part-equal-start
+    part-equal-end
+    equal-requires
     cast-t18
     returns
     add-k

@@ -34,20 +34,20 @@ part-rest-end c = search needs
 find-byte-requires : tie.Need-find-byte-requires Inv-loop μ-loop
 find-byte-requires c κs = search needs
 
-slice-aggregate-same : tie.Need-slice-aggregate-same Inv-loop μ-loop
-slice-aggregate-same c =
+slice-aggregate-equal : tie.Need-slice-aggregate-equal Inv-loop μ-loop
+slice-aggregate-equal c =
     let a = c .before .before .before .before .before .before .before .args in
     sym (length-take-le _ _ (break-le (now (a .words)) (c .before .before .before .before .loop .at) _ (c .before .find-byte .ensures)))
 
-same-requires : tie.Need-same-requires Inv-loop μ-loop
-same-requires c κs = search needs
+equal-requires : tie.Need-equal-requires Inv-loop μ-loop
+equal-requires c κs = search needs
 
 returns : tie.Need-returns Inv-loop μ-loop
 returns c =
     let l = c .before .before .before .before .before .before .loop in
-    sym (l .inv .2 ∙ word-hit _ _ (l .k) (l .at) _ (c .before .before .before .find-byte .ensures) (omega arith) (sym (c .before .same .ensures) ∙ c .if1 .taken))
+    sym (l .inv .2 ∙ word-hit _ _ (l .k) (l .at) _ (c .before .before .before .find-byte .ensures) (omega arith) (sym (c .before .equal .ensures) ∙ c .if1 .taken))
 
-reached : (c : tie.After-same Inv-loop μ-loop) → c .before .before .before .before .before .loop .at + c .before .before .find-byte .result ≤ length (now (c .before .before .before .before .before .before .before .before .args .words))
+reached : (c : tie.After-equal Inv-loop μ-loop) → c .before .before .before .before .before .loop .at + c .before .before .find-byte .result ≤ length (now (c .before .before .before .before .before .before .before .before .args .words))
 reached c = break-inside (now (c .before .before .before .before .before .before .before .before .args .words)) (c .before .before .before .before .before .loop .at) _ (c .before .before .find-byte .ensures) (omega arith)
 
 add-at : tie.Need-add-at Inv-loop μ-loop
@@ -66,7 +66,7 @@ loop-again : tie.Need-loop-again Inv-loop μ-loop
 loop-again c =
     let l = c .before .before .before .before .before .before .loop in
     let n = reached (c .before) in
-    (omega arith, omega arith, l .inv .2 ∙ word-miss _ _ (l .k) (l .at) _ (c .before .before .before .find-byte .ensures) (omega arith) (sym (c .before .same .ensures) ∙ c .if1 .left))
+    (omega arith, omega arith, l .inv .2 ∙ word-miss _ _ (l .k) (l .at) _ (c .before .before .before .find-byte .ensures) (omega arith) (sym (c .before .equal .ensures) ∙ c .if1 .left))
 
 returns-2 : tie.Need-returns-2 Inv-loop μ-loop
 returns-2 c =
@@ -84,8 +84,8 @@ word-in-spec =
     part-rest-start
     part-rest-end
     find-byte-requires
-    slice-aggregate-same
-    same-requires
+    slice-aggregate-equal
+    equal-requires
     returns
     add-at
     add-at-2

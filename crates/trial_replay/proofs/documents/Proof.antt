@@ -18,8 +18,8 @@ loop-holds c = search needs
 document-requires : tie.Need-document-requires Inv-loop μ-loop
 document-requires c κs = search needs
 
-tell-requires : tie.Need-tell-requires Inv-loop μ-loop
-tell-requires c κs = search needs
+write-outcome-requires : tie.Need-write-outcome-requires Inv-loop μ-loop
+write-outcome-requires c κs = search needs
 
 ran-requires : tie.Need-ran-requires Inv-loop μ-loop
 ran-requires c κs = search needs
@@ -74,7 +74,7 @@ documents-spec =
     μ-loop
     loop-holds
     document-requires
-    tell-requires
+    write-outcome-requires
     ran-requires
     add-replayed
     add-findings

@@ -2,6 +2,8 @@
 -- The walk of `validate::check`.
 use Rattle.reference_laws.proofs.Walk.{_≡_, refl, _⊎_, inl, inr, ℕ, _≤_, [], _∷_, length, lit<, URA, w64, vint, Heap, Tables, Atoms, givenOf, tables, Given, _$_, !, move, keep, stop, from, lit, addr, of-opd, and-then, no-more, uint-lawful, uint-makes, agg, Is, u64, of-enum, Rule, rule-of, Knows, Facing, WalkFor, proves, ends, span, as-long, array, fills-array, cell, cell-field, cell-variant, cell-tag, sets, reslices, arm-of, calls-into, lends-array, backs-array, lends-array-shr, backs-array-shr, frees-array}
 use mathlib.Core.Option.{none}
+use Rattle.table.specs.Inner.{Indexed}
+use Rattle.validate.specs.Inner.{fromTable}
 use Rattle.validate.proofs.Through.{refused-so, accepted-so}
 use prog.Wp.{afterTurn}
 use contract.Running.{tablesOf}
@@ -21,8 +23,6 @@ use Rattle.validate.proofs.check.Statement as stated
 use Rattle.validate.proofs.check.Key as key
 use Rattle.validate.proofs.check_input as check-input-F
 use Rattle.validate.proofs.passed as passed-F
-use Rattle.table.specs.Inner.{Indexed}
-use Rattle.validate.specs.Inner.{fromTable}
 
 cases-InputCheck : (r : InputCheck) → (((a0 : ℕ) × (r ≡ InputCheck-V.Accepted a0)) ⊎ ((a0 : ℕ) × (a1 : ℕ) × (r ≡ InputCheck-V.Refused a0 a1)))
 cases-InputCheck (InputCheck-V.Accepted a0) = inl (a0, refl)

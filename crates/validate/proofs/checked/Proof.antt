@@ -3,6 +3,8 @@
 use Rattle.reference_laws.proofs.Walk.{refl, sym, ap, _∙_, ℕ, _≤_, _/_, [], _∷_, length, URA, Heap, Tables, Atoms, givenOf, tables, Given, _$_, !, move, keep, of-opd, and-then, no-more, Rule, rule-of, Knows, calls-any, Facing, WalkFor, proves, ends, span, cell, cell-field, sets, relands-at, reslices, calls-into}
 use Rattle.findings.specs.Written.{total}
 use Rattle.state.specs.Inner.{countsOf}
+use Rattle.findings.specs.Inner.{countLimit}
+use Rattle.validate.specs.Inner.{Fit}
 use Rattle.validate.proofs.Course.{seen-inside, opens-inside, finished-whole}
 use prog.Wp.{afterTurn}
 use contract.Running.{tablesOf}
@@ -20,15 +22,13 @@ use Rattle.validate.proofs.node_count as node-count-F
 use Rattle.closing.proofs.clear_seen as clear-seen-F
 use Rattle.closing.proofs.clear_opens as clear-opens-F
 use Rattle.validate.proofs.reported as reported-F
-use Rattle.findings.specs.Inner.{countLimit}
-use Rattle.validate.specs.Inner.{Fit}
 
 module _ {M : Type 1} (𝓤 : URA M) (H : Heap 𝓤) (A : Atoms 𝓤) (W : Given 𝓤 H A) (𝓣 : Tables 𝓤 H) (known-run : Knows 𝓤 H A (𝓣 .C) run-C.terms) (known-node-count : Knows 𝓤 H A (𝓣 .C) node-count-C.terms) (known-clear-seen : Knows 𝓤 H A (𝓣 .C) clear-seen-C.terms) (known-clear-opens : Knows 𝓤 H A (𝓣 .C) clear-opens-C.terms) (known-reported : Knows 𝓤 H A (𝓣 .C) reported-C.terms) where
   pub walk : Facing (checked-C.terms .sorts) (WalkFor 𝓤 H A W (𝓣 .C) (𝓣 .Λ) code.function checked-C.terms)
   unfolding afterTurn
-  walk table-at table₀ table-room table-n words-at words₀ words-room words-n entries₀ entries₀-is source-at source₀ source-room source-n tape-at tape₀ tape-room tape-n seen-at seen₀ seen-room seen-n opens-at opens₀ opens-room opens-n list-at list₀ list-room list-n req l0 l1 l2 l3 l4 l5 l6 l7 l8 l9 l10 l11 l12 l13 l14 l15 l16 l17 l18 l19 l20 l21 l22 =
-      let ρ : Rule = rule-of checked-C.terms ((table-at, table₀), ((words-at, words₀), (entries₀, ((source-at, source₀), ((tape-at, tape₀), ((seen-at, seen₀), ((opens-at, opens₀), ((list-at, list₀), tt)))))))) in
-      reslices ! 7 12 13 refl refl refl tt refl refl refl (tt, (tt, (record { fits = (seen-room .0) }, tt))) $ reslices ! 8 14 15 refl refl refl tt refl refl refl (tt, (tt, (record { fits = (opens-room .0) }, tt))) $ reslices ! 9 16 17 refl refl refl tt refl refl refl (tt, (tt, (record { fits = (list-room .0) }, tt))) $ move ! (24 ∷ 25 ∷ 26 ∷ 27 ∷ 28 ∷ 29 ∷ 30 ∷ []) $ let req-run : Fit table₀ words₀ entries₀ source₀ tape₀ seen₀ opens₀ = req in calls-into W 𝓣 run-C.terms ((table-at, table₀), ((words-at, words₀), (entries₀, ((source-at, source₀), ((tape-at, tape₀), ((seen-at, seen₀), ((opens-at, opens₀), ((list-at, list₀), tt)))))))) ! ((refl, entries₀-is), tt) req-run known-run (and-then ! (cell ! 3 refl) (and-then ! (cell ! 4 refl) (and-then ! (cell ! 5 refl) (and-then ! (cell ! 6 refl) (and-then ! (cell ! 7 refl) (and-then ! (cell ! 14 refl) (and-then ! (cell ! 16 refl) (and-then ! (cell ! 18 refl) (no-more !))))))))) 17 (λ _. refl) refl (λ z-run s-run.
+  walk table-at table₀ table-room table-n index-at index₀ index-room index-n entries₀ entries₀-is source-at source₀ source-room source-n tape-at tape₀ tape-room tape-n seen-at seen₀ seen-room seen-n opens-at opens₀ opens-room opens-n list-at list₀ list-room list-n req l0 l1 l2 l3 l4 l5 l6 l7 l8 l9 l10 l11 l12 l13 l14 l15 l16 l17 l18 l19 l20 l21 l22 =
+      let ρ : Rule = rule-of checked-C.terms ((table-at, table₀), ((index-at, index₀), (entries₀, ((source-at, source₀), ((tape-at, tape₀), ((seen-at, seen₀), ((opens-at, opens₀), ((list-at, list₀), tt)))))))) in
+      reslices ! 7 12 13 refl refl refl tt refl refl refl (tt, (tt, (record { fits = (seen-room .0) }, tt))) $ reslices ! 8 14 15 refl refl refl tt refl refl refl (tt, (tt, (record { fits = (opens-room .0) }, tt))) $ reslices ! 9 16 17 refl refl refl tt refl refl refl (tt, (tt, (record { fits = (list-room .0) }, tt))) $ move ! (24 ∷ 25 ∷ 26 ∷ 27 ∷ 28 ∷ 29 ∷ 30 ∷ []) $ let req-run : Fit table₀ index₀ entries₀ source₀ tape₀ seen₀ opens₀ = req in calls-into W 𝓣 run-C.terms ((table-at, table₀), ((index-at, index₀), (entries₀, ((source-at, source₀), ((tape-at, tape₀), ((seen-at, seen₀), ((opens-at, opens₀), ((list-at, list₀), tt)))))))) ! ((refl, entries₀-is), tt) req-run known-run (and-then ! (cell ! 3 refl) (and-then ! (cell ! 4 refl) (and-then ! (cell ! 5 refl) (and-then ! (cell ! 6 refl) (and-then ! (cell ! 7 refl) (and-then ! (cell ! 14 refl) (and-then ! (cell ! 16 refl) (and-then ! (cell ! 18 refl) (no-more !))))))))) 17 (λ _. refl) refl (λ z-run s-run.
       move ! (3 ∷ []) $ calls-into W 𝓣 node-count-C.terms ((tape-at, tape₀), tt) ! tt tt known-node-count (and-then ! (cell ! 13 refl) (no-more !)) 18 (λ _. refl) refl (λ z-node-count s-node-count.
       reslices ! 14 26 27 refl refl refl tt refl refl refl (tt, (tt, (record { fits = (seen-room .0) }, tt))) $ move ! (4 ∷ []) $ let req-clear-seen : (z-node-count .0) ≤ length (z-run .1 .0) = seen-inside req (z-run .1 .0) _ (s-run .1 .0) (s-node-count .1) in calls-into W 𝓣 clear-seen-C.terms ((seen-at, (z-run .1 .0)), (z-node-count .0, tt)) ! ((refl, ((s-node-count .0) .1)), tt) req-clear-seen known-clear-seen (and-then ! (cell ! 27 refl) (and-then ! (cell ! 18 refl) (no-more !))) 25 (λ _. refl) refl (λ z-clear-seen s-clear-seen.
       reslices ! 15 28 29 refl refl refl tt refl refl refl (tt, (tt, (record { fits = (opens-room .0) }, tt))) $ move ! (5 ∷ []) $ let req-clear-opens : (z-node-count .0) ≤ length (z-run .1 .1 .0) = opens-inside req (z-run .1 .1 .0) _ (s-run .1 .1 .0) (s-node-count .1) in calls-any W 𝓣 clear-opens-C.terms ((opens-at, (z-run .1 .1 .0)), (z-node-count .0, tt)) ! ((refl, ((s-node-count .0) .1)), tt) req-clear-opens known-clear-opens (and-then ! (cell ! 29 refl) (and-then ! (cell ! 18 refl) (no-more !))) (λ z-clear-opens s-clear-opens.

@@ -8,6 +8,7 @@ use Rattle.cursor.specs.Inner.{Run}
 use Rattle.attachment.specs.Attached.{startsOf}
 use Rattle.state.specs.Inner.{contextOf, anchorOf, startsFor, countsOf}
 use Rattle.walk.specs.Inner.{Ready, Visitable, walkAt, visitFindings, below}
+use Rattle.findings.specs.Inner.{Room}
 use Rattle.marker_checks.specs.InnerVisit.{ownAt}
 use Rattle.milestones.specs.InnerStep.{Steppable}
 use Rattle.walk.proofs.Visiting.{visit-run, visit-children, visit-below, own-room, visit-deep, visit-with, Entered, Inner, steppable, visited-skipped, enters, inner-run, visited-still, inner-asks, inner-less, visited-whole, next-fits}
@@ -39,25 +40,24 @@ use Rattle.walk.proofs.CallInside as inside-C
 use Rattle.walk.proofs.CallWalk as walk-C
 use Rattle.walk.proofs.+visit+walk.Code as code
 use Rattle.walk.proofs.+visit+walk.Code.visit as mir-of
-use Rattle.findings.specs.Inner.{Room}
 
 -- what is known of the cycle below what is passed
 abbrev pub Self : {M : Type 1} (𝓤 : URA M) (H : Heap 𝓤) (A : Atoms 𝓤) (C : Calls 𝓤 H) → Inputs (visit-C.terms .sorts) → Type 1
 Self 𝓤 H A C x = (x′ : Inputs (walk-C.terms .sorts)) → 2 * (x′ .1 .1 .1 .1 .1 .1 .1 .0) + 1 < 2 * (x .1 .1 .1 .1 .1 .1 .1 .0) → Met 𝓤 H A (rule-of walk-C.terms x′) C
 
 module _ {M : Type 1} (𝓤 : URA M) (H : Heap 𝓤) (A : Atoms 𝓤) (W : Given 𝓤 H A) (𝓣 : Tables 𝓤 H) (known-can-skip-marker : Knows 𝓤 H A (𝓣 .C) can-skip-marker-C.terms) (known-visit-marker : Knows 𝓤 H A (𝓣 .C) visit-marker-C.terms) (known-milestone : Knows 𝓤 H A (𝓣 .C) milestone-C.terms) (known-link-at : Knows 𝓤 H A (𝓣 .C) link-at-C.terms) (known-can-skip-children : Knows 𝓤 H A (𝓣 .C) can-skip-children-C.terms) (known-with-anchor : Knows 𝓤 H A (𝓣 .C) with-anchor-C.terms) (known-inside : Knows 𝓤 H A (𝓣 .C) inside-C.terms)
-    (table-at : At) (table₀ : List ℕ) (table-room : SizeOf u8 (table-at .n)) (table-n : table-at .n ≡ length table₀) (words-at : At) (words₀ : List ℕ) (words-room : SizeOf u64 (words-at .n)) (words-n : words-at .n ≡ length words₀) (count₀ : ℕ) (count₀-is : count₀ < 2 ^ 64) (source-at : At) (source₀ : List ℕ) (source-room : SizeOf u8 (source-at .n)) (source-n : source-at .n ≡ length source₀) (tape-at : At) (tape₀ : List ℕ) (tape-room : SizeOf u8 (tape-at .n)) (tape-n : tape-at .n ≡ length tape₀) (i₀ : ℕ) (i₀-is : i₀ < 2 ^ 64) (to₀ : ℕ) (to₀-is : to₀ < 2 ^ 64) (depth₀ : ℕ) (depth₀-is : depth₀ < 2 ^ 64) (m₀ : MarkerInfo) (m₀-is : Is MarkerInfo-T.the-row m₀ (LL.val MarkerInfo-T.the-type MarkerInfo-L.the-laws m₀ ∷ [])) (context₀ : Context) (context₀-is : Is Context-T.the-row context₀ (LL.val Context-T.the-type Context-L.the-laws context₀ ∷ [])) (numbers₀ : Attached) (numbers₀-is : Is Attached-T.the-row numbers₀ (LL.val Attached-T.the-type Attached-L.the-laws numbers₀ ∷ [])) (rec-at : At) (rec₀ : State) (seen-at : At) (seen₀ : List ℕ) (seen-room : SizeOf u32 (seen-at .n)) (seen-n : seen-at .n ≡ length seen₀) (opens-at : At) (opens₀ : List OpenStart) (opens-room : SizeOf OpenStart-T.the-row (opens-at .n)) (opens-n : opens-at .n ≡ length opens₀) (list-at : At) (list₀ : List ℕ) (list-room : SizeOf u64 (list-at .n)) (list-n : list-at .n ≡ length list₀) (self-walk : Self 𝓤 H A (𝓣 .C) ((table-at, table₀), ((words-at, words₀), (count₀, ((source-at, source₀), ((tape-at, tape₀), (i₀, (to₀, (depth₀, (m₀, (context₀, (numbers₀, ((rec-at, rec₀), ((seen-at, seen₀), ((opens-at, opens₀), ((list-at, list₀), tt)))))))))))))))) (req : ((Ready table₀ words₀ count₀ source₀ tape₀ depth₀ i₀ to₀ seen₀ opens₀ rec₀) × (Visitable source₀ tape₀ i₀ to₀ numbers₀ rec₀) × (m₀ .«name_start» + m₀ .«name_len» ≤ length table₀) × Room (countsOf rec₀) (visitFindings table₀ source₀ tape₀ (contextOf context₀) (entryOfInfo m₀) i₀ to₀ seen₀ opens₀ rec₀))) where
+    (table-at : At) (table₀ : List ℕ) (table-room : SizeOf u8 (table-at .n)) (table-n : table-at .n ≡ length table₀) (index-at : At) (index₀ : List ℕ) (index-room : SizeOf u64 (index-at .n)) (index-n : index-at .n ≡ length index₀) (entries₀ : ℕ) (entries₀-is : entries₀ < 2 ^ 64) (source-at : At) (source₀ : List ℕ) (source-room : SizeOf u8 (source-at .n)) (source-n : source-at .n ≡ length source₀) (tape-at : At) (tape₀ : List ℕ) (tape-room : SizeOf u8 (tape-at .n)) (tape-n : tape-at .n ≡ length tape₀) (i₀ : ℕ) (i₀-is : i₀ < 2 ^ 64) (to₀ : ℕ) (to₀-is : to₀ < 2 ^ 64) (depth₀ : ℕ) (depth₀-is : depth₀ < 2 ^ 64) (m₀ : MarkerInfo) (m₀-is : Is MarkerInfo-T.the-row m₀ (LL.val MarkerInfo-T.the-type MarkerInfo-L.the-laws m₀ ∷ [])) (context₀ : Context) (context₀-is : Is Context-T.the-row context₀ (LL.val Context-T.the-type Context-L.the-laws context₀ ∷ [])) (numbers₀ : Attached) (numbers₀-is : Is Attached-T.the-row numbers₀ (LL.val Attached-T.the-type Attached-L.the-laws numbers₀ ∷ [])) (rec-at : At) (rec₀ : State) (seen-at : At) (seen₀ : List ℕ) (seen-room : SizeOf u32 (seen-at .n)) (seen-n : seen-at .n ≡ length seen₀) (opens-at : At) (opens₀ : List OpenStart) (opens-room : SizeOf OpenStart-T.the-row (opens-at .n)) (opens-n : opens-at .n ≡ length opens₀) (list-at : At) (list₀ : List ℕ) (list-room : SizeOf u64 (list-at .n)) (list-n : list-at .n ≡ length list₀) (self-walk : Self 𝓤 H A (𝓣 .C) ((table-at, table₀), ((index-at, index₀), (entries₀, ((source-at, source₀), ((tape-at, tape₀), (i₀, (to₀, (depth₀, (m₀, (context₀, (numbers₀, ((rec-at, rec₀), ((seen-at, seen₀), ((opens-at, opens₀), ((list-at, list₀), tt)))))))))))))))) (req : ((Ready table₀ index₀ entries₀ source₀ tape₀ depth₀ i₀ to₀ seen₀ opens₀ rec₀) × (Visitable source₀ tape₀ i₀ to₀ numbers₀ rec₀) × (m₀ .«name_start» + m₀ .«name_len» ≤ length table₀) × Room (countsOf rec₀) (visitFindings table₀ source₀ tape₀ (contextOf context₀) (entryOfInfo m₀) i₀ to₀ seen₀ opens₀ rec₀))) where
   abbrev ρ : Rule
-  ρ = rule-of visit-C.terms ((table-at, table₀), ((words-at, words₀), (count₀, ((source-at, source₀), ((tape-at, tape₀), (i₀, (to₀, (depth₀, (m₀, (context₀, (numbers₀, ((rec-at, rec₀), ((seen-at, seen₀), ((opens-at, opens₀), ((list-at, list₀), tt)))))))))))))))
+  ρ = rule-of visit-C.terms ((table-at, table₀), ((index-at, index₀), (entries₀, ((source-at, source₀), ((tape-at, tape₀), (i₀, (to₀, (depth₀, (m₀, (context₀, (numbers₀, ((rec-at, rec₀), ((seen-at, seen₀), ((opens-at, opens₀), ((list-at, list₀), tt)))))))))))))))
 
   abbrev φ-after-inner : (State × (State × (ℕ × (ℕ × (ℕ × (Context × (State × ((List OpenStart) × ((List ℕ) × Unit {0}))))))))) → Type 0
-  φ-after-inner x-after-inner = (Is State-T.the-row (x-after-inner .0) (LL.val State-T.the-type State-L.the-laws (x-after-inner .0) ∷ [])) × ((Is State-T.the-row (x-after-inner .1 .0) (LL.val State-T.the-type State-L.the-laws (x-after-inner .1 .0) ∷ [])) × (((x-after-inner .1 .1 .0) < 2 ^ 64) × (((x-after-inner .1 .1 .1 .0) < 2 ^ 64) × (((x-after-inner .1 .1 .1 .1 .0) < 2 ^ 64) × ((Is Context-T.the-row (x-after-inner .1 .1 .1 .1 .1 .0) (LL.val Context-T.the-type Context-L.the-laws (x-after-inner .1 .1 .1 .1 .1 .0) ∷ [])) × ((length (x-after-inner .1 .1 .1 .1 .1 .1 .1 .0) ≡ length opens₀) × ((length (x-after-inner .1 .1 .1 .1 .1 .1 .1 .1 .0) ≡ length list₀) × ((Inner table₀ words₀ count₀ source₀ tape₀ depth₀ (contextOf context₀) i₀ to₀ (entryOfInfo m₀) numbers₀ seen₀ opens₀ list₀ rec₀ (x-after-inner .1 .1 .1 .1 .1 .1 .1 .1 .0) (x-after-inner .1 .1 .1 .1 .1 .1 .1 .0) (x-after-inner .1 .0) (x-after-inner .0) (x-after-inner .1 .1 .1 .1 .1 .1 .0) (x-after-inner .1 .1 .0) (x-after-inner .1 .1 .1 .0) (x-after-inner .1 .1 .1 .1 .0) (contextOf (x-after-inner .1 .1 .1 .1 .1 .0)))))))))))
+  φ-after-inner x-after-inner = (Is State-T.the-row (x-after-inner .0) (LL.val State-T.the-type State-L.the-laws (x-after-inner .0) ∷ [])) × ((Is State-T.the-row (x-after-inner .1 .0) (LL.val State-T.the-type State-L.the-laws (x-after-inner .1 .0) ∷ [])) × (((x-after-inner .1 .1 .0) < 2 ^ 64) × (((x-after-inner .1 .1 .1 .0) < 2 ^ 64) × (((x-after-inner .1 .1 .1 .1 .0) < 2 ^ 64) × ((Is Context-T.the-row (x-after-inner .1 .1 .1 .1 .1 .0) (LL.val Context-T.the-type Context-L.the-laws (x-after-inner .1 .1 .1 .1 .1 .0) ∷ [])) × ((length (x-after-inner .1 .1 .1 .1 .1 .1 .1 .0) ≡ length opens₀) × ((length (x-after-inner .1 .1 .1 .1 .1 .1 .1 .1 .0) ≡ length list₀) × ((Inner table₀ index₀ entries₀ source₀ tape₀ depth₀ (contextOf context₀) i₀ to₀ (entryOfInfo m₀) numbers₀ seen₀ opens₀ list₀ rec₀ (x-after-inner .1 .1 .1 .1 .1 .1 .1 .1 .0) (x-after-inner .1 .1 .1 .1 .1 .1 .1 .0) (x-after-inner .1 .0) (x-after-inner .0) (x-after-inner .1 .1 .1 .1 .1 .1 .0) (x-after-inner .1 .1 .0) (x-after-inner .1 .1 .1 .0) (x-after-inner .1 .1 .1 .1 .0) (contextOf (x-after-inner .1 .1 .1 .1 .1 .0)))))))))))
 
-  from-after-inner : (l0 l1 l2 l3 l4 l5 l6 l7 l8 l9 l10 l11 l12 l13 l14 l15 l16 l17 l18 l19 l20 l21 l22 l23 l24 l25 l26 l27 l28 l29 l30 l31 l32 l33 l34 l35 l36 l37 l38 l39 l40 l41 l42 l43 : ℕ) (x-after-inner : State × (State × (ℕ × (ℕ × (ℕ × (Context × (State × ((List OpenStart) × ((List ℕ) × Unit {0}))))))))) → Sq W (Stands 𝓤 H (φ-after-inner x-after-inner) (env-of (code.visit-function .locals) (l0 ∷ l1 ∷ l2 ∷ l3 ∷ l4 ∷ l5 ∷ l6 ∷ l7 ∷ l8 ∷ l9 ∷ l10 ∷ l11 ∷ l12 ∷ l13 ∷ l14 ∷ l15 ∷ l16 ∷ l17 ∷ l18 ∷ l19 ∷ l20 ∷ l21 ∷ l22 ∷ l23 ∷ l24 ∷ l25 ∷ l26 ∷ l27 ∷ l28 ∷ l29 ∷ l30 ∷ l31 ∷ l32 ∷ l33 ∷ l34 ∷ l35 ∷ l36 ∷ l37 ∷ l38 ∷ l39 ∷ l40 ∷ l41 ∷ l42 ∷ l43 ∷ [])) (empty ∷ full (fatVal table-at) ∷ full (fatVal words-at) ∷ full (vint w64 count₀) ∷ full (fatVal source-at) ∷ full (fatVal tape-at) ∷ full (vint w64 i₀) ∷ full (vint w64 to₀) ∷ full (vint w64 depth₀) ∷ full (LL.val MarkerInfo-T.the-type MarkerInfo-L.the-laws m₀) ∷ full (LL.val Context-T.the-type Context-L.the-laws context₀) ∷ full (LL.val Attached-T.the-type Attached-L.the-laws numbers₀) ∷ full (ptrVal rec-at) ∷ full (fatVal seen-at) ∷ full (fatVal opens-at) ∷ full (fatVal list-at) ∷ full (LL.val State-T.the-type State-L.the-laws (x-after-inner .0)) ∷ empty ∷ full (LL.val State-T.the-type State-L.the-laws (x-after-inner .1 .0)) ∷ full (vint w64 (x-after-inner .1 .1 .0)) ∷ full (vint w64 (x-after-inner .1 .1 .1 .0)) ∷ full (vint w64 (x-after-inner .1 .1 .1 .1 .0)) ∷ full (LL.val Context-T.the-type Context-L.the-laws (x-after-inner .1 .1 .1 .1 .1 .0)) ∷ []) (‵ (HasShr u8 table-at table₀) ∷ ‵ (HasShr u64 words-at words₀) ∷ ‵ (HasShr u8 source-at source₀) ∷ ‵ (HasShr u8 tape-at tape₀) ∷ ‵ (HasRef State-T.the-row rec-at (x-after-inner .1 .1 .1 .1 .1 .1 .0)) ∷ ‵ (HasMut u32 seen-at seen₀) ∷ ‵ (HasMut OpenStart-T.the-row opens-at (x-after-inner .1 .1 .1 .1 .1 .1 .1 .0)) ∷ ‵ (HasMut u64 list-at (x-after-inner .1 .1 .1 .1 .1 .1 .1 .1 .0)) ∷ [])) (runs (𝓣 .C) (𝓣 .Λ) (env-of (code.visit-function .locals) (l0 ∷ l1 ∷ l2 ∷ l3 ∷ l4 ∷ l5 ∷ l6 ∷ l7 ∷ l8 ∷ l9 ∷ l10 ∷ l11 ∷ l12 ∷ l13 ∷ l14 ∷ l15 ∷ l16 ∷ l17 ∷ l18 ∷ l19 ∷ l20 ∷ l21 ∷ l22 ∷ l23 ∷ l24 ∷ l25 ∷ l26 ∷ l27 ∷ l28 ∷ l29 ∷ l30 ∷ l31 ∷ l32 ∷ l33 ∷ l34 ∷ l35 ∷ l36 ∷ l37 ∷ l38 ∷ l39 ∷ l40 ∷ l41 ∷ l42 ∷ l43 ∷ [])) mir-of.t-22 (atRet (env-of (code.visit-function .locals) (l0 ∷ l1 ∷ l2 ∷ l3 ∷ l4 ∷ l5 ∷ l6 ∷ l7 ∷ l8 ∷ l9 ∷ l10 ∷ l11 ∷ l12 ∷ l13 ∷ l14 ∷ l15 ∷ l16 ∷ l17 ∷ l18 ∷ l19 ∷ l20 ∷ l21 ∷ l22 ∷ l23 ∷ l24 ∷ l25 ∷ l26 ∷ l27 ∷ l28 ∷ l29 ∷ l30 ∷ l31 ∷ l32 ∷ l33 ∷ l34 ∷ l35 ∷ l36 ∷ l37 ∷ l38 ∷ l39 ∷ l40 ∷ l41 ∷ l42 ∷ l43 ∷ [])) (Leaves 𝓤 H A ρ)))
+  from-after-inner : (l0 l1 l2 l3 l4 l5 l6 l7 l8 l9 l10 l11 l12 l13 l14 l15 l16 l17 l18 l19 l20 l21 l22 l23 l24 l25 l26 l27 l28 l29 l30 l31 l32 l33 l34 l35 l36 l37 l38 l39 l40 l41 l42 l43 : ℕ) (x-after-inner : State × (State × (ℕ × (ℕ × (ℕ × (Context × (State × ((List OpenStart) × ((List ℕ) × Unit {0}))))))))) → Sq W (Stands 𝓤 H (φ-after-inner x-after-inner) (env-of (code.visit-function .locals) (l0 ∷ l1 ∷ l2 ∷ l3 ∷ l4 ∷ l5 ∷ l6 ∷ l7 ∷ l8 ∷ l9 ∷ l10 ∷ l11 ∷ l12 ∷ l13 ∷ l14 ∷ l15 ∷ l16 ∷ l17 ∷ l18 ∷ l19 ∷ l20 ∷ l21 ∷ l22 ∷ l23 ∷ l24 ∷ l25 ∷ l26 ∷ l27 ∷ l28 ∷ l29 ∷ l30 ∷ l31 ∷ l32 ∷ l33 ∷ l34 ∷ l35 ∷ l36 ∷ l37 ∷ l38 ∷ l39 ∷ l40 ∷ l41 ∷ l42 ∷ l43 ∷ [])) (empty ∷ full (fatVal table-at) ∷ full (fatVal index-at) ∷ full (vint w64 entries₀) ∷ full (fatVal source-at) ∷ full (fatVal tape-at) ∷ full (vint w64 i₀) ∷ full (vint w64 to₀) ∷ full (vint w64 depth₀) ∷ full (LL.val MarkerInfo-T.the-type MarkerInfo-L.the-laws m₀) ∷ full (LL.val Context-T.the-type Context-L.the-laws context₀) ∷ full (LL.val Attached-T.the-type Attached-L.the-laws numbers₀) ∷ full (ptrVal rec-at) ∷ full (fatVal seen-at) ∷ full (fatVal opens-at) ∷ full (fatVal list-at) ∷ full (LL.val State-T.the-type State-L.the-laws (x-after-inner .0)) ∷ empty ∷ full (LL.val State-T.the-type State-L.the-laws (x-after-inner .1 .0)) ∷ full (vint w64 (x-after-inner .1 .1 .0)) ∷ full (vint w64 (x-after-inner .1 .1 .1 .0)) ∷ full (vint w64 (x-after-inner .1 .1 .1 .1 .0)) ∷ full (LL.val Context-T.the-type Context-L.the-laws (x-after-inner .1 .1 .1 .1 .1 .0)) ∷ []) (‵ (HasShr u8 table-at table₀) ∷ ‵ (HasShr u64 index-at index₀) ∷ ‵ (HasShr u8 source-at source₀) ∷ ‵ (HasShr u8 tape-at tape₀) ∷ ‵ (HasRef State-T.the-row rec-at (x-after-inner .1 .1 .1 .1 .1 .1 .0)) ∷ ‵ (HasMut u32 seen-at seen₀) ∷ ‵ (HasMut OpenStart-T.the-row opens-at (x-after-inner .1 .1 .1 .1 .1 .1 .1 .0)) ∷ ‵ (HasMut u64 list-at (x-after-inner .1 .1 .1 .1 .1 .1 .1 .1 .0)) ∷ [])) (runs (𝓣 .C) (𝓣 .Λ) (env-of (code.visit-function .locals) (l0 ∷ l1 ∷ l2 ∷ l3 ∷ l4 ∷ l5 ∷ l6 ∷ l7 ∷ l8 ∷ l9 ∷ l10 ∷ l11 ∷ l12 ∷ l13 ∷ l14 ∷ l15 ∷ l16 ∷ l17 ∷ l18 ∷ l19 ∷ l20 ∷ l21 ∷ l22 ∷ l23 ∷ l24 ∷ l25 ∷ l26 ∷ l27 ∷ l28 ∷ l29 ∷ l30 ∷ l31 ∷ l32 ∷ l33 ∷ l34 ∷ l35 ∷ l36 ∷ l37 ∷ l38 ∷ l39 ∷ l40 ∷ l41 ∷ l42 ∷ l43 ∷ [])) mir-of.t-22 (atRet (env-of (code.visit-function .locals) (l0 ∷ l1 ∷ l2 ∷ l3 ∷ l4 ∷ l5 ∷ l6 ∷ l7 ∷ l8 ∷ l9 ∷ l10 ∷ l11 ∷ l12 ∷ l13 ∷ l14 ∷ l15 ∷ l16 ∷ l17 ∷ l18 ∷ l19 ∷ l20 ∷ l21 ∷ l22 ∷ l23 ∷ l24 ∷ l25 ∷ l26 ∷ l27 ∷ l28 ∷ l29 ∷ l30 ∷ l31 ∷ l32 ∷ l33 ∷ l34 ∷ l35 ∷ l36 ∷ l37 ∷ l38 ∷ l39 ∷ l40 ∷ l41 ∷ l42 ∷ l43 ∷ [])) (Leaves 𝓤 H A ρ)))
   unfolding afterTurn
   from-after-inner l0 l1 l2 l3 l4 l5 l6 l7 l8 l9 l10 l11 l12 l13 l14 l15 l16 l17 l18 l19 l20 l21 l22 l23 l24 l25 l26 l27 l28 l29 l30 l31 l32 l33 l34 l35 l36 l37 l38 l39 l40 l41 l42 l43 x-after-inner =
       heard ! (φ-after-inner x-after-inner) (λ j-after-inner.
-      sets ! (addr ! (from ! (hop ! (look ! 13 refl) (stop !)))) 37 refl (tt, tt) $ reslices ! 14 38 39 refl refl refl tt refl refl refl (tt, (tt, (record { fits = (seen-room .0) }, tt))) $ reslices ! 15 40 41 refl refl refl tt refl refl refl (tt, (tt, (record { fits = (opens-room .0) }, tt))) $ reslices ! 16 42 43 refl refl refl tt refl refl refl (tt, (tt, (record { fits = (list-room .0) }, tt))) $ move ! (45 ∷ 46 ∷ 47 ∷ 48 ∷ 49 ∷ 50 ∷ 51 ∷ 52 ∷ []) $ let req-walk : (Ready table₀ words₀ count₀ source₀ tape₀ (x-after-inner .1 .1 .1 .1 .0) (x-after-inner .1 .1 .0) (x-after-inner .1 .1 .1 .0) seen₀ (x-after-inner .1 .1 .1 .1 .1 .1 .1 .0) (x-after-inner .1 .1 .1 .1 .1 .1 .0)) × Room (countsOf (x-after-inner .1 .1 .1 .1 .1 .1 .0)) (walkAt table₀ source₀ tape₀ (contextOf (x-after-inner .1 .1 .1 .1 .1 .0)) (x-after-inner .1 .1 .0) (x-after-inner .1 .1 .1 .0) seen₀ (x-after-inner .1 .1 .1 .1 .1 .1 .1 .0) (x-after-inner .1 .1 .1 .1 .1 .1 .0) .findings) = inner-asks (j-after-inner .1 .1 .1 .1 .1 .1 .1 .1) in let less-walk : 2 * (x-after-inner .1 .1 .1 .1 .0) + 1 < 2 * depth₀ = inner-less (j-after-inner .1 .1 .1 .1 .1 .1 .1 .1) in let x-walk : Inputs (walk-C.terms .sorts) = ((table-at, table₀), ((words-at, words₀), (count₀, ((source-at, source₀), ((tape-at, tape₀), ((x-after-inner .1 .1 .0), ((x-after-inner .1 .1 .1 .0), ((x-after-inner .1 .1 .1 .1 .0), ((x-after-inner .1 .1 .1 .1 .1 .0), ((rec-at, (x-after-inner .1 .1 .1 .1 .1 .1 .0)), ((seen-at, seen₀), ((opens-at, (x-after-inner .1 .1 .1 .1 .1 .1 .1 .0)), ((list-at, (x-after-inner .1 .1 .1 .1 .1 .1 .1 .1 .0)), tt))))))))))))) in calls-into-met W 𝓣 walk-C.terms x-walk ! ((refl, count₀-is), ((refl, (j-after-inner .1 .1 .0)), ((refl, (j-after-inner .1 .1 .1 .0)), ((refl, (j-after-inner .1 .1 .1 .1 .0)), ((j-after-inner .1 .1 .1 .1 .1 .0), tt))))) req-walk (self-walk x-walk less-walk) (and-then ! (cell ! 3 refl) (and-then ! (cell ! 4 refl) (and-then ! (cell ! 5 refl) (and-then ! (cell ! 6 refl) (and-then ! (cell ! 7 refl) (and-then ! (cell ! 21 refl) (and-then ! (cell ! 22 refl) (and-then ! (cell ! 23 refl) (and-then ! (cell ! 24 refl) (and-then ! (cell ! 38 refl) (and-then ! (cell ! 40 refl) (and-then ! (cell ! 42 refl) (and-then ! (cell ! 44 refl) (no-more !)))))))))))))) 44 (λ _. refl) refl (λ z-walk s-walk.
+      sets ! (addr ! (from ! (hop ! (look ! 13 refl) (stop !)))) 37 refl (tt, tt) $ reslices ! 14 38 39 refl refl refl tt refl refl refl (tt, (tt, (record { fits = (seen-room .0) }, tt))) $ reslices ! 15 40 41 refl refl refl tt refl refl refl (tt, (tt, (record { fits = (opens-room .0) }, tt))) $ reslices ! 16 42 43 refl refl refl tt refl refl refl (tt, (tt, (record { fits = (list-room .0) }, tt))) $ move ! (45 ∷ 46 ∷ 47 ∷ 48 ∷ 49 ∷ 50 ∷ 51 ∷ 52 ∷ []) $ let req-walk : (Ready table₀ index₀ entries₀ source₀ tape₀ (x-after-inner .1 .1 .1 .1 .0) (x-after-inner .1 .1 .0) (x-after-inner .1 .1 .1 .0) seen₀ (x-after-inner .1 .1 .1 .1 .1 .1 .1 .0) (x-after-inner .1 .1 .1 .1 .1 .1 .0)) × Room (countsOf (x-after-inner .1 .1 .1 .1 .1 .1 .0)) (walkAt table₀ source₀ tape₀ (contextOf (x-after-inner .1 .1 .1 .1 .1 .0)) (x-after-inner .1 .1 .0) (x-after-inner .1 .1 .1 .0) seen₀ (x-after-inner .1 .1 .1 .1 .1 .1 .1 .0) (x-after-inner .1 .1 .1 .1 .1 .1 .0) .findings) = inner-asks (j-after-inner .1 .1 .1 .1 .1 .1 .1 .1) in let less-walk : 2 * (x-after-inner .1 .1 .1 .1 .0) + 1 < 2 * depth₀ = inner-less (j-after-inner .1 .1 .1 .1 .1 .1 .1 .1) in let x-walk : Inputs (walk-C.terms .sorts) = ((table-at, table₀), ((index-at, index₀), (entries₀, ((source-at, source₀), ((tape-at, tape₀), ((x-after-inner .1 .1 .0), ((x-after-inner .1 .1 .1 .0), ((x-after-inner .1 .1 .1 .1 .0), ((x-after-inner .1 .1 .1 .1 .1 .0), ((rec-at, (x-after-inner .1 .1 .1 .1 .1 .1 .0)), ((seen-at, seen₀), ((opens-at, (x-after-inner .1 .1 .1 .1 .1 .1 .1 .0)), ((list-at, (x-after-inner .1 .1 .1 .1 .1 .1 .1 .1 .0)), tt))))))))))))) in calls-into-met W 𝓣 walk-C.terms x-walk ! ((refl, entries₀-is), ((refl, (j-after-inner .1 .1 .0)), ((refl, (j-after-inner .1 .1 .1 .0)), ((refl, (j-after-inner .1 .1 .1 .1 .0)), ((j-after-inner .1 .1 .1 .1 .1 .0), tt))))) req-walk (self-walk x-walk less-walk) (and-then ! (cell ! 3 refl) (and-then ! (cell ! 4 refl) (and-then ! (cell ! 5 refl) (and-then ! (cell ! 6 refl) (and-then ! (cell ! 7 refl) (and-then ! (cell ! 21 refl) (and-then ! (cell ! 22 refl) (and-then ! (cell ! 23 refl) (and-then ! (cell ! 24 refl) (and-then ! (cell ! 38 refl) (and-then ! (cell ! 40 refl) (and-then ! (cell ! 42 refl) (and-then ! (cell ! 44 refl) (no-more !)))))))))))))) 44 (λ _. refl) refl (λ z-walk s-walk.
       move ! (4 ∷ []) $ opens-ref ! tt (of-struct State-T.the-type State-T.Laws.the-laws State-T.Laws.the-plain) rec-at (z-walk .1 .0) (λ open-5. assigns ! (of-opd ! (load ! (from ! (hop ! (look ! 22 refl) (stop !))) (look-raw ! 0 refl))) (from ! (stop !)) (init ! 53 refl (LL.lawful State-T.the-type State-L.the-laws 𝓤 H A W .typed (z-walk .1 .0) _ open-5 .0)) $ shuts-ref ! tt (of-struct State-T.the-type State-T.Laws.the-laws State-T.Laws.the-plain) rec-at (z-walk .1 .0) (z-walk .1 .0) open-5 $
       calls-into W 𝓣 with-anchor-C.terms ((z-walk .1 .0), ((x-after-inner .0) .anchor, tt)) ! (open-5, ((refl, (LL.lawful State-T.the-type State-L.the-laws 𝓤 H A W .typed (x-after-inner .0) _ (j-after-inner .0) .0) .1 .1 .1 .1 .1 .1 .1 .1 .1 .1 .1 .0 .fits), tt)) tt known-with-anchor (and-then ! (cell ! 53 refl) (and-then ! (cell-field ! 26 10 refl refl refl) (no-more !))) 43 (λ _. refl) refl (λ z-with-anchor-3 s-with-anchor-3.
       opens-ref ! tt (of-struct State-T.the-type State-T.Laws.the-laws State-T.Laws.the-plain) rec-at (z-walk .1 .0) (λ open-6. assigns ! (of-opd ! (cell ! 44 refl)) (from ! (hop ! (look ! 22 refl) (stop !))) (store-raw ! 0 refl (LL.lawful State-T.the-type State-L.the-laws 𝓤 H A W .typed (z-with-anchor-3 .0) _ (s-with-anchor-3 .0) .0)) $ shuts-ref ! tt (of-struct State-T.the-type State-T.Laws.the-laws State-T.Laws.the-plain) rec-at (z-walk .1 .0) (z-with-anchor-3 .0) (s-with-anchor-3 .0) $
@@ -65,9 +65,9 @@ module _ {M : Type 1} (𝓤 : URA M) (H : Heap 𝓤) (A : Atoms 𝓤) (W : Given
       keep ! (span 8 45 (span 1 4 (0 ∷ 5 ∷ 6 ∷ 7 ∷ []))) $ ends ! ρ refl tt tt refl (z-with-anchor-3 .0, ((z-walk .1 .1 .0), ((z-walk .1 .1 .1 .0), ((z-walk .1 .1 .1 .1 .0), tt)))) ((s-walk .1 .0), (((s-walk .1 .1 .0) ∙ (j-after-inner .1 .1 .1 .1 .1 .1 .0)), (((s-walk .1 .1 .1 .0) ∙ (j-after-inner .1 .1 .1 .1 .1 .1 .1 .0)), tt))) (visited-whole (j-after-inner .1 .1 .1 .1 .1 .1 .1 .1) _ _ _ _ (s-walk .1 .1 .1 .1) _ (s-with-anchor-3 .1)) refl)))))
 
   abbrev φ-after-can-skip-children : (State × (State × (ℕ × (ℕ × ((List OpenStart) × ((List ℕ) × Unit {0})))))) → Type 0
-  φ-after-can-skip-children x-after-can-skip-children = (Is State-T.the-row (x-after-can-skip-children .0) (LL.val State-T.the-type State-L.the-laws (x-after-can-skip-children .0) ∷ [])) × ((Is State-T.the-row (x-after-can-skip-children .1 .0) (LL.val State-T.the-type State-L.the-laws (x-after-can-skip-children .1 .0) ∷ [])) × (((x-after-can-skip-children .1 .1 .0) < 2 ^ 64) × (((x-after-can-skip-children .1 .1 .1 .0) < 2 ^ 64) × ((length (x-after-can-skip-children .1 .1 .1 .1 .0) ≡ length opens₀) × ((length (x-after-can-skip-children .1 .1 .1 .1 .1 .0) ≡ length list₀) × ((((x-after-can-skip-children .0) ≡ rec₀) × ((x-after-can-skip-children .1 .1 .0) ≡ i₀ + 1) × ((x-after-can-skip-children .1 .1 .1 .0) ≡ linkAt tape₀ i₀) × (Entered table₀ words₀ count₀ source₀ tape₀ depth₀ (contextOf context₀) i₀ to₀ (entryOfInfo m₀) numbers₀ seen₀ opens₀ list₀ rec₀ (x-after-can-skip-children .1 .1 .1 .1 .1 .0) (x-after-can-skip-children .1 .1 .1 .1 .0) (x-after-can-skip-children .1 .0)))))))))
+  φ-after-can-skip-children x-after-can-skip-children = (Is State-T.the-row (x-after-can-skip-children .0) (LL.val State-T.the-type State-L.the-laws (x-after-can-skip-children .0) ∷ [])) × ((Is State-T.the-row (x-after-can-skip-children .1 .0) (LL.val State-T.the-type State-L.the-laws (x-after-can-skip-children .1 .0) ∷ [])) × (((x-after-can-skip-children .1 .1 .0) < 2 ^ 64) × (((x-after-can-skip-children .1 .1 .1 .0) < 2 ^ 64) × ((length (x-after-can-skip-children .1 .1 .1 .1 .0) ≡ length opens₀) × ((length (x-after-can-skip-children .1 .1 .1 .1 .1 .0) ≡ length list₀) × ((((x-after-can-skip-children .0) ≡ rec₀) × ((x-after-can-skip-children .1 .1 .0) ≡ i₀ + 1) × ((x-after-can-skip-children .1 .1 .1 .0) ≡ linkAt tape₀ i₀) × (Entered table₀ index₀ entries₀ source₀ tape₀ depth₀ (contextOf context₀) i₀ to₀ (entryOfInfo m₀) numbers₀ seen₀ opens₀ list₀ rec₀ (x-after-can-skip-children .1 .1 .1 .1 .1 .0) (x-after-can-skip-children .1 .1 .1 .1 .0) (x-after-can-skip-children .1 .0)))))))))
 
-  from-after-can-skip-children : (l0 l1 l2 l3 l4 l5 l6 l7 l8 l9 l10 l11 l12 l13 l14 l15 l16 l17 l18 l19 l20 l21 l22 l23 l24 l25 l26 l27 l28 l29 l30 l31 l32 l33 l34 l35 l36 l37 l38 l39 l40 l41 l42 l43 : ℕ) (x-after-can-skip-children : State × (State × (ℕ × (ℕ × ((List OpenStart) × ((List ℕ) × Unit {0})))))) → Sq W (Stands 𝓤 H (φ-after-can-skip-children x-after-can-skip-children) (env-of (code.visit-function .locals) (l0 ∷ l1 ∷ l2 ∷ l3 ∷ l4 ∷ l5 ∷ l6 ∷ l7 ∷ l8 ∷ l9 ∷ l10 ∷ l11 ∷ l12 ∷ l13 ∷ l14 ∷ l15 ∷ l16 ∷ l17 ∷ l18 ∷ l19 ∷ l20 ∷ l21 ∷ l22 ∷ l23 ∷ l24 ∷ l25 ∷ l26 ∷ l27 ∷ l28 ∷ l29 ∷ l30 ∷ l31 ∷ l32 ∷ l33 ∷ l34 ∷ l35 ∷ l36 ∷ l37 ∷ l38 ∷ l39 ∷ l40 ∷ l41 ∷ l42 ∷ l43 ∷ [])) (empty ∷ full (fatVal table-at) ∷ full (fatVal words-at) ∷ full (vint w64 count₀) ∷ full (fatVal source-at) ∷ full (fatVal tape-at) ∷ full (vint w64 i₀) ∷ full (vint w64 to₀) ∷ full (vint w64 depth₀) ∷ full (LL.val MarkerInfo-T.the-type MarkerInfo-L.the-laws m₀) ∷ full (LL.val Context-T.the-type Context-L.the-laws context₀) ∷ full (LL.val Attached-T.the-type Attached-L.the-laws numbers₀) ∷ full (ptrVal rec-at) ∷ full (fatVal seen-at) ∷ full (fatVal opens-at) ∷ full (fatVal list-at) ∷ full (LL.val State-T.the-type State-L.the-laws (x-after-can-skip-children .0)) ∷ empty ∷ full (LL.val State-T.the-type State-L.the-laws (x-after-can-skip-children .1 .0)) ∷ full (vint w64 (x-after-can-skip-children .1 .1 .0)) ∷ full (vint w64 (x-after-can-skip-children .1 .1 .1 .0)) ∷ []) (‵ (HasShr u8 table-at table₀) ∷ ‵ (HasShr u64 words-at words₀) ∷ ‵ (HasShr u8 source-at source₀) ∷ ‵ (HasShr u8 tape-at tape₀) ∷ ‵ (HasRef State-T.the-row rec-at rec₀) ∷ ‵ (HasMut u32 seen-at seen₀) ∷ ‵ (HasMut OpenStart-T.the-row opens-at (x-after-can-skip-children .1 .1 .1 .1 .0)) ∷ ‵ (HasMut u64 list-at (x-after-can-skip-children .1 .1 .1 .1 .1 .0)) ∷ [])) (runs (𝓣 .C) (𝓣 .Λ) (env-of (code.visit-function .locals) (l0 ∷ l1 ∷ l2 ∷ l3 ∷ l4 ∷ l5 ∷ l6 ∷ l7 ∷ l8 ∷ l9 ∷ l10 ∷ l11 ∷ l12 ∷ l13 ∷ l14 ∷ l15 ∷ l16 ∷ l17 ∷ l18 ∷ l19 ∷ l20 ∷ l21 ∷ l22 ∷ l23 ∷ l24 ∷ l25 ∷ l26 ∷ l27 ∷ l28 ∷ l29 ∷ l30 ∷ l31 ∷ l32 ∷ l33 ∷ l34 ∷ l35 ∷ l36 ∷ l37 ∷ l38 ∷ l39 ∷ l40 ∷ l41 ∷ l42 ∷ l43 ∷ [])) mir-of.t-18 (atRet (env-of (code.visit-function .locals) (l0 ∷ l1 ∷ l2 ∷ l3 ∷ l4 ∷ l5 ∷ l6 ∷ l7 ∷ l8 ∷ l9 ∷ l10 ∷ l11 ∷ l12 ∷ l13 ∷ l14 ∷ l15 ∷ l16 ∷ l17 ∷ l18 ∷ l19 ∷ l20 ∷ l21 ∷ l22 ∷ l23 ∷ l24 ∷ l25 ∷ l26 ∷ l27 ∷ l28 ∷ l29 ∷ l30 ∷ l31 ∷ l32 ∷ l33 ∷ l34 ∷ l35 ∷ l36 ∷ l37 ∷ l38 ∷ l39 ∷ l40 ∷ l41 ∷ l42 ∷ l43 ∷ [])) (Leaves 𝓤 H A ρ)))
+  from-after-can-skip-children : (l0 l1 l2 l3 l4 l5 l6 l7 l8 l9 l10 l11 l12 l13 l14 l15 l16 l17 l18 l19 l20 l21 l22 l23 l24 l25 l26 l27 l28 l29 l30 l31 l32 l33 l34 l35 l36 l37 l38 l39 l40 l41 l42 l43 : ℕ) (x-after-can-skip-children : State × (State × (ℕ × (ℕ × ((List OpenStart) × ((List ℕ) × Unit {0})))))) → Sq W (Stands 𝓤 H (φ-after-can-skip-children x-after-can-skip-children) (env-of (code.visit-function .locals) (l0 ∷ l1 ∷ l2 ∷ l3 ∷ l4 ∷ l5 ∷ l6 ∷ l7 ∷ l8 ∷ l9 ∷ l10 ∷ l11 ∷ l12 ∷ l13 ∷ l14 ∷ l15 ∷ l16 ∷ l17 ∷ l18 ∷ l19 ∷ l20 ∷ l21 ∷ l22 ∷ l23 ∷ l24 ∷ l25 ∷ l26 ∷ l27 ∷ l28 ∷ l29 ∷ l30 ∷ l31 ∷ l32 ∷ l33 ∷ l34 ∷ l35 ∷ l36 ∷ l37 ∷ l38 ∷ l39 ∷ l40 ∷ l41 ∷ l42 ∷ l43 ∷ [])) (empty ∷ full (fatVal table-at) ∷ full (fatVal index-at) ∷ full (vint w64 entries₀) ∷ full (fatVal source-at) ∷ full (fatVal tape-at) ∷ full (vint w64 i₀) ∷ full (vint w64 to₀) ∷ full (vint w64 depth₀) ∷ full (LL.val MarkerInfo-T.the-type MarkerInfo-L.the-laws m₀) ∷ full (LL.val Context-T.the-type Context-L.the-laws context₀) ∷ full (LL.val Attached-T.the-type Attached-L.the-laws numbers₀) ∷ full (ptrVal rec-at) ∷ full (fatVal seen-at) ∷ full (fatVal opens-at) ∷ full (fatVal list-at) ∷ full (LL.val State-T.the-type State-L.the-laws (x-after-can-skip-children .0)) ∷ empty ∷ full (LL.val State-T.the-type State-L.the-laws (x-after-can-skip-children .1 .0)) ∷ full (vint w64 (x-after-can-skip-children .1 .1 .0)) ∷ full (vint w64 (x-after-can-skip-children .1 .1 .1 .0)) ∷ []) (‵ (HasShr u8 table-at table₀) ∷ ‵ (HasShr u64 index-at index₀) ∷ ‵ (HasShr u8 source-at source₀) ∷ ‵ (HasShr u8 tape-at tape₀) ∷ ‵ (HasRef State-T.the-row rec-at rec₀) ∷ ‵ (HasMut u32 seen-at seen₀) ∷ ‵ (HasMut OpenStart-T.the-row opens-at (x-after-can-skip-children .1 .1 .1 .1 .0)) ∷ ‵ (HasMut u64 list-at (x-after-can-skip-children .1 .1 .1 .1 .1 .0)) ∷ [])) (runs (𝓣 .C) (𝓣 .Λ) (env-of (code.visit-function .locals) (l0 ∷ l1 ∷ l2 ∷ l3 ∷ l4 ∷ l5 ∷ l6 ∷ l7 ∷ l8 ∷ l9 ∷ l10 ∷ l11 ∷ l12 ∷ l13 ∷ l14 ∷ l15 ∷ l16 ∷ l17 ∷ l18 ∷ l19 ∷ l20 ∷ l21 ∷ l22 ∷ l23 ∷ l24 ∷ l25 ∷ l26 ∷ l27 ∷ l28 ∷ l29 ∷ l30 ∷ l31 ∷ l32 ∷ l33 ∷ l34 ∷ l35 ∷ l36 ∷ l37 ∷ l38 ∷ l39 ∷ l40 ∷ l41 ∷ l42 ∷ l43 ∷ [])) mir-of.t-18 (atRet (env-of (code.visit-function .locals) (l0 ∷ l1 ∷ l2 ∷ l3 ∷ l4 ∷ l5 ∷ l6 ∷ l7 ∷ l8 ∷ l9 ∷ l10 ∷ l11 ∷ l12 ∷ l13 ∷ l14 ∷ l15 ∷ l16 ∷ l17 ∷ l18 ∷ l19 ∷ l20 ∷ l21 ∷ l22 ∷ l23 ∷ l24 ∷ l25 ∷ l26 ∷ l27 ∷ l28 ∷ l29 ∷ l30 ∷ l31 ∷ l32 ∷ l33 ∷ l34 ∷ l35 ∷ l36 ∷ l37 ∷ l38 ∷ l39 ∷ l40 ∷ l41 ∷ l42 ∷ l43 ∷ [])) (Leaves 𝓤 H A ρ)))
   unfolding afterTurn
   from-after-can-skip-children l0 l1 l2 l3 l4 l5 l6 l7 l8 l9 l10 l11 l12 l13 l14 l15 l16 l17 l18 l19 l20 l21 l22 l23 l24 l25 l26 l27 l28 l29 l30 l31 l32 l33 l34 l35 l36 l37 l38 l39 l40 l41 l42 l43 x-after-can-skip-children =
       heard ! (φ-after-can-skip-children x-after-can-skip-children) (λ j-after-can-skip-children.
@@ -78,9 +78,9 @@ module _ {M : Type 1} (𝓤 : URA M) (H : Heap 𝓤) (A : Atoms 𝓤) (W : Given
       forget ! 36 refl $ say ! (φ-after-inner ((x-after-can-skip-children .0), ((x-after-can-skip-children .1 .0), ((x-after-can-skip-children .1 .1 .0), ((x-after-can-skip-children .1 .1 .1 .0), (depth₀ - 1, (z-inside .0, (z-with-anchor-2 .0, ((x-after-can-skip-children .1 .1 .1 .1 .0), ((x-after-can-skip-children .1 .1 .1 .1 .1 .0), tt)))))))))) ((j-after-can-skip-children .0), ((j-after-can-skip-children .1 .0), ((j-after-can-skip-children .1 .1 .0), ((j-after-can-skip-children .1 .1 .1 .0), (fits-3, ((s-inside .0), ((j-after-can-skip-children .1 .1 .1 .1 .0), ((j-after-can-skip-children .1 .1 .1 .1 .1 .0), (record { whole = (j-after-can-skip-children .1 .1 .1 .1 .1 .1) .3; before = (j-after-can-skip-children .1 .1 .1 .1 .1 .1) .0; now-is = (s-with-anchor-2 .1); from-is = (j-after-can-skip-children .1 .1 .1 .1 .1 .1) .1; link-is = (j-after-can-skip-children .1 .1 .1 .1 .1 .1) .2; deeper = refl; context = (s-inside .1) }))))))))) $ keep ! (0 ∷ span 2 49 (1 ∷ 51 ∷ 52 ∷ 53 ∷ [])) $ from-after-inner l0 l1 l2 l3 l4 l5 l6 l7 l8 l9 l10 l11 l12 l13 l14 l15 l16 l17 l18 l19 l20 l21 l22 l23 l24 l25 l26 l27 l28 l29 l30 l31 l32 l33 l34 l35 l36 l37 l38 l39 l40 l41 l42 l43 ((x-after-can-skip-children .0), ((x-after-can-skip-children .1 .0), ((x-after-can-skip-children .1 .1 .0), ((x-after-can-skip-children .1 .1 .1 .0), (depth₀ - 1, (z-inside .0, (z-with-anchor-2 .0, ((x-after-can-skip-children .1 .1 .1 .1 .0), ((x-after-can-skip-children .1 .1 .1 .1 .1 .0), tt)))))))))))))
 
   abbrev φ-after-paired : (State × (State × ((List OpenStart) × ((List ℕ) × Unit {0})))) → Type 0
-  φ-after-paired x-after-paired = (Is State-T.the-row (x-after-paired .0) (LL.val State-T.the-type State-L.the-laws (x-after-paired .0) ∷ [])) × ((Is State-T.the-row (x-after-paired .1 .0) (LL.val State-T.the-type State-L.the-laws (x-after-paired .1 .0) ∷ [])) × ((length (x-after-paired .1 .1 .0) ≡ length opens₀) × ((length (x-after-paired .1 .1 .1 .0) ≡ length list₀) × ((((x-after-paired .0) ≡ rec₀) × (Entered table₀ words₀ count₀ source₀ tape₀ depth₀ (contextOf context₀) i₀ to₀ (entryOfInfo m₀) numbers₀ seen₀ opens₀ list₀ rec₀ (x-after-paired .1 .1 .1 .0) (x-after-paired .1 .1 .0) (x-after-paired .1 .0)))))))
+  φ-after-paired x-after-paired = (Is State-T.the-row (x-after-paired .0) (LL.val State-T.the-type State-L.the-laws (x-after-paired .0) ∷ [])) × ((Is State-T.the-row (x-after-paired .1 .0) (LL.val State-T.the-type State-L.the-laws (x-after-paired .1 .0) ∷ [])) × ((length (x-after-paired .1 .1 .0) ≡ length opens₀) × ((length (x-after-paired .1 .1 .1 .0) ≡ length list₀) × ((((x-after-paired .0) ≡ rec₀) × (Entered table₀ index₀ entries₀ source₀ tape₀ depth₀ (contextOf context₀) i₀ to₀ (entryOfInfo m₀) numbers₀ seen₀ opens₀ list₀ rec₀ (x-after-paired .1 .1 .1 .0) (x-after-paired .1 .1 .0) (x-after-paired .1 .0)))))))
 
-  from-after-paired : (l0 l1 l2 l3 l4 l5 l6 l7 l8 l9 l10 l11 l12 l13 l14 l15 l16 l17 l18 l19 l20 l21 l22 l23 l24 l25 l26 l27 l28 l29 l30 l31 l32 l33 l34 l35 l36 l37 l38 l39 l40 l41 l42 l43 : ℕ) (x-after-paired : State × (State × ((List OpenStart) × ((List ℕ) × Unit {0})))) → Sq W (Stands 𝓤 H (φ-after-paired x-after-paired) (env-of (code.visit-function .locals) (l0 ∷ l1 ∷ l2 ∷ l3 ∷ l4 ∷ l5 ∷ l6 ∷ l7 ∷ l8 ∷ l9 ∷ l10 ∷ l11 ∷ l12 ∷ l13 ∷ l14 ∷ l15 ∷ l16 ∷ l17 ∷ l18 ∷ l19 ∷ l20 ∷ l21 ∷ l22 ∷ l23 ∷ l24 ∷ l25 ∷ l26 ∷ l27 ∷ l28 ∷ l29 ∷ l30 ∷ l31 ∷ l32 ∷ l33 ∷ l34 ∷ l35 ∷ l36 ∷ l37 ∷ l38 ∷ l39 ∷ l40 ∷ l41 ∷ l42 ∷ l43 ∷ [])) (empty ∷ full (fatVal table-at) ∷ full (fatVal words-at) ∷ full (vint w64 count₀) ∷ full (fatVal source-at) ∷ full (fatVal tape-at) ∷ full (vint w64 i₀) ∷ full (vint w64 to₀) ∷ full (vint w64 depth₀) ∷ full (LL.val MarkerInfo-T.the-type MarkerInfo-L.the-laws m₀) ∷ full (LL.val Context-T.the-type Context-L.the-laws context₀) ∷ full (LL.val Attached-T.the-type Attached-L.the-laws numbers₀) ∷ full (ptrVal rec-at) ∷ full (fatVal seen-at) ∷ full (fatVal opens-at) ∷ full (fatVal list-at) ∷ full (LL.val State-T.the-type State-L.the-laws (x-after-paired .0)) ∷ empty ∷ full (LL.val State-T.the-type State-L.the-laws (x-after-paired .1 .0)) ∷ []) (‵ (HasShr u8 table-at table₀) ∷ ‵ (HasShr u64 words-at words₀) ∷ ‵ (HasShr u8 source-at source₀) ∷ ‵ (HasShr u8 tape-at tape₀) ∷ ‵ (HasRef State-T.the-row rec-at rec₀) ∷ ‵ (HasMut u32 seen-at seen₀) ∷ ‵ (HasMut OpenStart-T.the-row opens-at (x-after-paired .1 .1 .0)) ∷ ‵ (HasMut u64 list-at (x-after-paired .1 .1 .1 .0)) ∷ [])) (runs (𝓣 .C) (𝓣 .Λ) (env-of (code.visit-function .locals) (l0 ∷ l1 ∷ l2 ∷ l3 ∷ l4 ∷ l5 ∷ l6 ∷ l7 ∷ l8 ∷ l9 ∷ l10 ∷ l11 ∷ l12 ∷ l13 ∷ l14 ∷ l15 ∷ l16 ∷ l17 ∷ l18 ∷ l19 ∷ l20 ∷ l21 ∷ l22 ∷ l23 ∷ l24 ∷ l25 ∷ l26 ∷ l27 ∷ l28 ∷ l29 ∷ l30 ∷ l31 ∷ l32 ∷ l33 ∷ l34 ∷ l35 ∷ l36 ∷ l37 ∷ l38 ∷ l39 ∷ l40 ∷ l41 ∷ l42 ∷ l43 ∷ [])) mir-of.t-13 (atRet (env-of (code.visit-function .locals) (l0 ∷ l1 ∷ l2 ∷ l3 ∷ l4 ∷ l5 ∷ l6 ∷ l7 ∷ l8 ∷ l9 ∷ l10 ∷ l11 ∷ l12 ∷ l13 ∷ l14 ∷ l15 ∷ l16 ∷ l17 ∷ l18 ∷ l19 ∷ l20 ∷ l21 ∷ l22 ∷ l23 ∷ l24 ∷ l25 ∷ l26 ∷ l27 ∷ l28 ∷ l29 ∷ l30 ∷ l31 ∷ l32 ∷ l33 ∷ l34 ∷ l35 ∷ l36 ∷ l37 ∷ l38 ∷ l39 ∷ l40 ∷ l41 ∷ l42 ∷ l43 ∷ [])) (Leaves 𝓤 H A ρ)))
+  from-after-paired : (l0 l1 l2 l3 l4 l5 l6 l7 l8 l9 l10 l11 l12 l13 l14 l15 l16 l17 l18 l19 l20 l21 l22 l23 l24 l25 l26 l27 l28 l29 l30 l31 l32 l33 l34 l35 l36 l37 l38 l39 l40 l41 l42 l43 : ℕ) (x-after-paired : State × (State × ((List OpenStart) × ((List ℕ) × Unit {0})))) → Sq W (Stands 𝓤 H (φ-after-paired x-after-paired) (env-of (code.visit-function .locals) (l0 ∷ l1 ∷ l2 ∷ l3 ∷ l4 ∷ l5 ∷ l6 ∷ l7 ∷ l8 ∷ l9 ∷ l10 ∷ l11 ∷ l12 ∷ l13 ∷ l14 ∷ l15 ∷ l16 ∷ l17 ∷ l18 ∷ l19 ∷ l20 ∷ l21 ∷ l22 ∷ l23 ∷ l24 ∷ l25 ∷ l26 ∷ l27 ∷ l28 ∷ l29 ∷ l30 ∷ l31 ∷ l32 ∷ l33 ∷ l34 ∷ l35 ∷ l36 ∷ l37 ∷ l38 ∷ l39 ∷ l40 ∷ l41 ∷ l42 ∷ l43 ∷ [])) (empty ∷ full (fatVal table-at) ∷ full (fatVal index-at) ∷ full (vint w64 entries₀) ∷ full (fatVal source-at) ∷ full (fatVal tape-at) ∷ full (vint w64 i₀) ∷ full (vint w64 to₀) ∷ full (vint w64 depth₀) ∷ full (LL.val MarkerInfo-T.the-type MarkerInfo-L.the-laws m₀) ∷ full (LL.val Context-T.the-type Context-L.the-laws context₀) ∷ full (LL.val Attached-T.the-type Attached-L.the-laws numbers₀) ∷ full (ptrVal rec-at) ∷ full (fatVal seen-at) ∷ full (fatVal opens-at) ∷ full (fatVal list-at) ∷ full (LL.val State-T.the-type State-L.the-laws (x-after-paired .0)) ∷ empty ∷ full (LL.val State-T.the-type State-L.the-laws (x-after-paired .1 .0)) ∷ []) (‵ (HasShr u8 table-at table₀) ∷ ‵ (HasShr u64 index-at index₀) ∷ ‵ (HasShr u8 source-at source₀) ∷ ‵ (HasShr u8 tape-at tape₀) ∷ ‵ (HasRef State-T.the-row rec-at rec₀) ∷ ‵ (HasMut u32 seen-at seen₀) ∷ ‵ (HasMut OpenStart-T.the-row opens-at (x-after-paired .1 .1 .0)) ∷ ‵ (HasMut u64 list-at (x-after-paired .1 .1 .1 .0)) ∷ [])) (runs (𝓣 .C) (𝓣 .Λ) (env-of (code.visit-function .locals) (l0 ∷ l1 ∷ l2 ∷ l3 ∷ l4 ∷ l5 ∷ l6 ∷ l7 ∷ l8 ∷ l9 ∷ l10 ∷ l11 ∷ l12 ∷ l13 ∷ l14 ∷ l15 ∷ l16 ∷ l17 ∷ l18 ∷ l19 ∷ l20 ∷ l21 ∷ l22 ∷ l23 ∷ l24 ∷ l25 ∷ l26 ∷ l27 ∷ l28 ∷ l29 ∷ l30 ∷ l31 ∷ l32 ∷ l33 ∷ l34 ∷ l35 ∷ l36 ∷ l37 ∷ l38 ∷ l39 ∷ l40 ∷ l41 ∷ l42 ∷ l43 ∷ [])) mir-of.t-13 (atRet (env-of (code.visit-function .locals) (l0 ∷ l1 ∷ l2 ∷ l3 ∷ l4 ∷ l5 ∷ l6 ∷ l7 ∷ l8 ∷ l9 ∷ l10 ∷ l11 ∷ l12 ∷ l13 ∷ l14 ∷ l15 ∷ l16 ∷ l17 ∷ l18 ∷ l19 ∷ l20 ∷ l21 ∷ l22 ∷ l23 ∷ l24 ∷ l25 ∷ l26 ∷ l27 ∷ l28 ∷ l29 ∷ l30 ∷ l31 ∷ l32 ∷ l33 ∷ l34 ∷ l35 ∷ l36 ∷ l37 ∷ l38 ∷ l39 ∷ l40 ∷ l41 ∷ l42 ∷ l43 ∷ [])) (Leaves 𝓤 H A ρ)))
   unfolding afterTurn
   from-after-paired l0 l1 l2 l3 l4 l5 l6 l7 l8 l9 l10 l11 l12 l13 l14 l15 l16 l17 l18 l19 l20 l21 l22 l23 l24 l25 l26 l27 l28 l29 l30 l31 l32 l33 l34 l35 l36 l37 l38 l39 l40 l41 l42 l43 x-after-paired =
       heard ! (φ-after-paired x-after-paired) (λ j-after-paired.
@@ -96,7 +96,7 @@ module _ {M : Type 1} (𝓤 : URA M) (H : Heap 𝓤) (A : Atoms 𝓤) (W : Given
       (λ h-can-skip-children. skip-then ! $
       forget ! 34 refl $ forget ! 35 refl $ say ! (φ-after-can-skip-children ((x-after-paired .0), ((x-after-paired .1 .0), (i₀ + 1, (z-link-at .0, ((x-after-paired .1 .1 .0), ((x-after-paired .1 .1 .1 .0), tt))))))) ((j-after-paired .0), ((j-after-paired .1 .0), (fits-1, (fits-2, ((j-after-paired .1 .1 .0), ((j-after-paired .1 .1 .1 .0), ((j-after-paired .1 .1 .1 .1) .0, refl, (s-link-at .1), (j-after-paired .1 .1 .1 .1) .1))))))) $ keep ! (0 ∷ span 3 47 (1 ∷ 2 ∷ span 50 4 [])) $ from-after-can-skip-children l0 l1 l2 l3 l4 l5 l6 l7 l8 l9 l10 l11 l12 l13 l14 l15 l16 l17 l18 l19 l20 l21 l22 l23 l24 l25 l26 l27 l28 l29 l30 l31 l32 l33 l34 l35 l36 l37 l38 l39 l40 l41 l42 l43 ((x-after-paired .0), ((x-after-paired .1 .0), (i₀ + 1, (z-link-at .0, ((x-after-paired .1 .1 .0), ((x-after-paired .1 .1 .1 .0), tt))))))))))
 
-  pub walk : WalkIn 𝓤 H A W (𝓣 .C) (𝓣 .Λ) code.visit-function visit-C.terms ((table-at, table₀), ((words-at, words₀), (count₀, ((source-at, source₀), ((tape-at, tape₀), (i₀, (to₀, (depth₀, (m₀, (context₀, (numbers₀, ((rec-at, rec₀), ((seen-at, seen₀), ((opens-at, opens₀), ((list-at, list₀), tt)))))))))))))))
+  pub walk : WalkIn 𝓤 H A W (𝓣 .C) (𝓣 .Λ) code.visit-function visit-C.terms ((table-at, table₀), ((index-at, index₀), (entries₀, ((source-at, source₀), ((tape-at, tape₀), (i₀, (to₀, (depth₀, (m₀, (context₀, (numbers₀, ((rec-at, rec₀), ((seen-at, seen₀), ((opens-at, opens₀), ((list-at, list₀), tt)))))))))))))))
   unfolding afterTurn
   walk l0 l1 l2 l3 l4 l5 l6 l7 l8 l9 l10 l11 l12 l13 l14 l15 l16 l17 l18 l19 l20 l21 l22 l23 l24 l25 l26 l27 l28 l29 l30 l31 l32 l33 l34 l35 l36 l37 l38 l39 l40 l41 l42 l43 =
       move ! (49 ∷ []) $ opens-ref ! tt (of-struct State-T.the-type State-T.Laws.the-laws State-T.Laws.the-plain) rec-at rec₀ (λ open-1. assigns ! (of-opd ! (load ! (from ! (hop ! (look ! 15 refl) (fld ! refl (stop !)))) (look-in ! 0 (sub ! 1 refl (whole !))))) (from ! (stop !)) (init ! 27 refl (tt, tt)) $ shuts-ref ! tt (of-struct State-T.the-type State-T.Laws.the-laws State-T.Laws.the-plain) rec-at rec₀ rec₀ open-1 $

@@ -1,0 +1,125 @@
+-- Line and column of every place, written to two lists.
+-- Assumes nothing.
+use Prim.Native.Nat.{ℕ, zero, suc, _+_, _-_, _<_, _≤_}
+use native.Mathlib.Omega.{arith}
+use native.Mathlib.Nat.{add-zero, zero-add}
+use native.Mathlib.Numerals.{add-one}
+use mathlib.Core.Path.{_≡_, refl, sym, ap, _∙_}
+use mathlib.Core.List.{List, [], _∷_}
+use lib.ListN.{length, set, getD, length-set}
+use borrow.Author.Tests.{eq-eqb, ne-eqb}
+use Rattle.buffer.specs.Over.{over}
+use Rattle.buffer.proofs.Over.{over-none, over-set}
+use Rattle.listing.specs.Lines.{Place, afterByte, placeFrom, lineAndColumn}
+use Rattle.listing.specs.LinesAndColumns.{eachFrom, linesFrom, columnsFrom}
+
+-- one byte further
+place-on : (p : Place) (s : List ℕ) (i : ℕ) → i < length s → placeFrom p s (suc i) ≡ afterByte (getD s i 0) (placeFrom p s i)
+unfolding placeFrom
+place-on p [] i h = absurd (omega arith)
+place-on p (b ∷ s) zero h = refl
+place-on p (b ∷ s) (suc i) h = place-on (afterByte b p) s i (omega arith)
+
+-- what is left to write of the first n places gives what the whole gives
+pub record WritingEach (f : ℕ → ℕ) (n : ℕ) (l₀ l : List ℕ) (i : ℕ) : Type 0 where
+  pub whole : over l i (eachFrom f i (n - i)) ≡ over l₀ 0 (eachFrom f 0 n)
+  pub same : length l ≡ length l₀
+
+module _ (f : ℕ → ℕ) (n : ℕ) (l₀ : List ℕ) where
+  writing-start : WritingEach f n l₀ l₀ 0
+  writing-start = let e : n - 0 ≡ n = omega arith in record { whole = rw e; same = refl }
+
+  module _ (l : List ℕ) (i : ℕ) (t : WritingEach f n l₀ l i) where
+    writing-on : i < n → n ≤ length l₀ → WritingEach f n l₀ (set l i (f i)) (i + 1)
+    unfolding eachFrom
+    writing-on h k =
+        let e : n - i ≡ suc (n - (i + 1)) = omega arith in
+        let room : i < length l = rw (t .same) (omega arith) in
+        record {
+          whole = sym (over-set l i (f i) (eachFrom f (i + 1) (n - (i + 1))) room) ∙ rw add-one (rw (e, add-one) at (t .whole));
+          same = length-set l i (f i) ∙ t .same;
+        }
+
+    writing-all : n ≤ i → l ≡ over l₀ 0 (eachFrom f 0 n)
+    unfolding eachFrom
+    writing-all h =
+        let e : n - i ≡ 0 = omega arith in
+        sym (over-none l i) ∙ rw e at (t .whole)
+
+-- the places before one are written, and line and column are those of that place
+pub record PlacesSoFar (s l₀ m₀ l m : List ℕ) (line column i : ℕ) : Type 0 where
+  pub left : i ≤ length s
+  pub is : lineAndColumn s i ≡ record { line = line; column = column }
+  pub low : line ≤ i + 1
+  pub near : column ≤ i + 1
+  pub lines : WritingEach (λ k. lineAndColumn s k .line) (length s + 1) l₀ l i
+  pub columns : WritingEach (λ k. lineAndColumn s k .column) (length s + 1) m₀ m i
+
+pub places-start : (s l m : List ℕ) → PlacesSoFar s l m l m 1 1 0
+unfolding placeFrom
+places-start s l m = record { left = omega arith; is = refl; low = omega arith; near = omega arith; lines = writing-start _ _ _; columns = writing-start _ _ _ }
+
+module _ (s l₀ m₀ l m : List ℕ) (line column i : ℕ) (y : PlacesSoFar s l₀ m₀ l m line column i) (h : length s < length l₀) (k : length s < length m₀) where
+  writing-line : WritingEach (λ k. lineAndColumn s k .line) (length s + 1) l₀ (set l i line) (i + 1)
+  writing-line =
+      let v = y .left in
+      let e : lineAndColumn s i .line ≡ line = ap (λ (p : Place). p .line) (y .is) in
+      rw e at (writing-on _ _ _ l i (y .lines) (omega arith) (omega arith))
+
+  writing-column : WritingEach (λ k. lineAndColumn s k .column) (length s + 1) m₀ (set m i column) (i + 1)
+  writing-column =
+      let v = y .left in
+      let e : lineAndColumn s i .column ≡ column = ap (λ (p : Place). p .column) (y .is) in
+      rw e at (writing-on _ _ _ m i (y .columns) (omega arith) (omega arith))
+
+  next : i < length s → lineAndColumn s (i + 1) ≡ afterByte (getD s i 0) (record { line = line; column = column })
+  next g = rw (add-one i, place-on (record { line = 1; column = 1 }) s i g, y .is)
+
+  pub places-break : i < length s → getD s i 0 ≡ 10 → PlacesSoFar s l₀ m₀ (set l i line) (set m i column) (line + 1) 1 (i + 1)
+  places-break g e =
+      let v = y .low in
+      record { left = omega arith; is = next g ∙ rw (eq-eqb (getD s i 0) 10 e); low = omega arith; near = omega arith; lines = writing-line; columns = writing-column }
+
+  pub places-byte : i < length s → (getD s i 0 ≡ 10 → ⊥) → PlacesSoFar s l₀ m₀ (set l i line) (set m i column) line (column + 1) (i + 1)
+  places-byte g e =
+      let v = y .low in
+      let w = y .near in
+      record { left = omega arith; is = next g ∙ rw (ne-eqb (getD s i 0) 10 e); low = omega arith; near = omega arith; lines = writing-line; columns = writing-column }
+
+  module _ (g : length s ≤ i) where
+    pub lines-written : set l i line ≡ over l₀ 0 (linesFrom s 0 (length s + 1))
+    lines-written = writing-all _ _ _ _ (i + 1) writing-line (omega arith)
+
+    pub columns-written : set m i column ≡ over m₀ 0 (columnsFrom s 0 (length s + 1))
+    columns-written = writing-all _ _ _ _ (i + 1) writing-column (omega arith)
+
+-- an element of a list from its start on, and the i-th of the places from one on
+getD-over : (l w : List ℕ) (i : ℕ) → i < length l → i < length w → getD (over l 0 w) i 0 ≡ getD w i 0
+unfolding over
+getD-over [] w i h k = absurd (omega arith)
+getD-over (x ∷ l) [] i h k = absurd (omega arith)
+getD-over (x ∷ l) (b ∷ w) zero h k = refl
+getD-over (x ∷ l) (b ∷ w) (suc i) h k = getD-over l w i (omega arith) (omega arith)
+
+module _ (f : ℕ → ℕ) where
+  each-length : (i n : ℕ) → length (eachFrom f i n) ≡ n
+  unfolding eachFrom
+  each-length i zero = refl
+  each-length i (suc n) = ap suc (each-length (suc i) n)
+
+  each-at : (i n k : ℕ) → k < n → getD (eachFrom f i n) k 0 ≡ f (i + k)
+  unfolding eachFrom
+  each-at i zero k h = absurd (omega arith)
+  each-at i (suc n) zero h = rw add-zero
+  each-at i (suc n) (suc k) h = let e : suc i + k ≡ i + suc k = omega arith in rw (← e) (each-at (suc i) n k (omega arith))
+
+  at-place : (l : List ℕ) (n i : ℕ) → i < n → n ≤ length l → getD (over l 0 (eachFrom f 0 n)) i 0 ≡ f i
+  at-place l n i h k = getD-over l (eachFrom f 0 n) i (omega arith) (rw (each-length 0 n) h) ∙ rw zero-add at (each-at 0 n i h)
+
+-- what stands at a place of the two lists after `lines_and_columns`
+module _ (s l : List ℕ) (i : ℕ) (h : i ≤ length s) (k : length s < length l) where
+  pub line-at : getD (over l 0 (linesFrom s 0 (length s + 1))) i 0 ≡ lineAndColumn s i .line
+  line-at = at-place (λ k. lineAndColumn s k .line) l (length s + 1) i (omega arith) (omega arith)
+
+  pub column-at : getD (over l 0 (columnsFrom s 0 (length s + 1))) i 0 ≡ lineAndColumn s i .column
+  column-at = at-place (λ k. lineAndColumn s k .column) l (length s + 1) i (omega arith) (omega arith)
