@@ -129,7 +129,7 @@ prove() { # NAME
     program=$repository/target/proved/$sum/$1
 }
 
-# Sets `program` to a program of the sources as they are, and says so where it isn't proved. PROVED_ONLY=1 asks for a proved one.
+# Sets `program` to a program of the sources as they are, and says so where it isn't proved. PROVED_ONLY=1 requires a proved one.
 find_program() { # NAME
     local sum
     sum=$(sum_of_sources "$repository")

@@ -63,7 +63,7 @@ static int try_call(int function, unsigned empty)
         return 0;
     }
     if (empty == 0 && function == 3 && with_null.out[HARKOXIN_REPORT_MESSAGES] != HARKOXIN_DONE) {
-        printf("the texts of a report aren't told\n");
+        printf("the texts of a report aren't written\n");
         return 0;
     }
     if (memcmp(&with_pointer, &with_null, sizeof with_null) != 0) {

@@ -9,10 +9,10 @@
  *   tape    1 to 65,535 nodes of 16 bytes, little-endian: kind (1 byte), flags (1), marker (2), start, len, link (4 each)
  *
  * Each list is passed as a pointer and the number of its elements. A list that is written must not overlap another one, and
- * each must be aligned as its type is. Nothing else is asked: lists may be of any length and hold anything, and the pointer of a
- * list of length 0 isn't read, so that it may be NULL.
+ * each must be aligned as its type is. Nothing else is required: lists may be of any length and hold anything, and the pointer
+ * of a list of length 0 isn't read, so that it may be NULL.
  *
- * Each function lays its answer over `out`, as far as that has room. Its first word is the verdict; a refusal says by a number
+ * Each function writes its answer over `out`, as far as that has room. Its first word is the verdict; a refusal says by a number
  * what turned the call back, and by a place where. Nothing is kept between calls, so that threads may call at the same time.
  */
 #ifndef HARKOXIN_H
@@ -27,7 +27,7 @@ extern "C" {
 
 /* Verdicts. */
 enum {
-    HARKOXIN_DONE = 0,   /* all that was asked for is done */
+    HARKOXIN_DONE = 0,   /* all that was requested is done */
     HARKOXIN_CUT = 1,    /* the findings list of a check is cut, or the texts stop before one */
     HARKOXIN_REFUSED = 2 /* turned back */
 };
@@ -137,7 +137,7 @@ typedef struct harkoxin_open_start {
 typedef char harkoxin_open_start_has_8_bytes[sizeof(harkoxin_open_start) == 8 ? 1 : -1];
 
 /*
- * Checks a document: its findings are laid over `list`, as far as that has room for whole ones. Numbers 1 to 10.
+ * Checks a document: its findings are written over `list`, as far as that has room for whole ones. Numbers 1 to 10.
  *
  * The working lists `seen` and `opens` need an entry for each node. What they hold doesn't matter. After a checked document the
  * entries of the nodes are zero, both fields of an open start, and the rest of each list is as it was. After a refusal every list
@@ -162,7 +162,7 @@ enum {
 };
 
 /*
- * Lays the text of one finding over `text`: UTF-8, without a byte 0 at its end. The finding is given by five of its words.
+ * Writes the text of one finding over `text`: UTF-8, without a byte 0 at its end. The finding is given by five of its words.
  * Numbers 1 to 9, 12 and 13; after a refusal `text` is as it was.
  */
 void harkoxin_message(
@@ -178,13 +178,13 @@ enum {
     HARKOXIN_MESSAGES_VERDICT = 0, /* done, cut or refused */
     HARKOXIN_MESSAGES_NUMBER = 1,  /* cut: what turns the next text back, 12 or 13 */
     HARKOXIN_MESSAGES_PLACE = 2,   /* cut by 13: the bytes that the next text needs */
-    HARKOXIN_MESSAGES_TOLD = 3,    /* how many texts were laid */
+    HARKOXIN_MESSAGES_WRITTEN = 3, /* how many texts were written */
     HARKOXIN_MESSAGES_LEN = 4,     /* the bytes that they take */
     HARKOXIN_MESSAGES_WORDS = 5
 };
 
 /*
- * Lays the texts of a list's findings over `text`, one behind another, up to the first that has none or no room; `ends` says
+ * Writes the texts of a list's findings over `text`, one behind another, up to the first that has none or no room; `ends` says
  * where each ends, as far as it has room. A rest of fewer than HARKOXIN_FINDING_WORDS words isn't looked at. It reads the document
  * once, where harkoxin_message reads it for each text. Refused by numbers 1 to 9, when nothing is written.
  */
@@ -204,8 +204,9 @@ enum {
 };
 
 /*
- * Checks a document as harkoxin_check does, and lays the texts of the findings that `list` then holds as harkoxin_messages does,
- * by one reading of the document. Refused by numbers 1 to 10, which both answers say; then every list but `out` is as it was.
+ * Checks a document as harkoxin_check does, and writes the texts of the findings that `list` then holds as harkoxin_messages
+ * does, by one reading of the document. Refused by numbers 1 to 10, which both answers say; then every list but `out` is as it
+ * was.
  */
 void harkoxin_report(
     const uint8_t *table, size_t table_len,
@@ -227,8 +228,8 @@ enum {
 };
 
 /*
- * Counts the findings of a list by code; the HARKOXIN_CODES counts are laid over `counts`, as far as that has room. Number 11;
- * after a refusal `counts` is as it was.
+ * Counts the findings of a list by code; the HARKOXIN_CODES counts are written over `counts`, as far as that has room. Number
+ * 11; after a refusal `counts` is as it was.
  */
 void harkoxin_tally(
     const uint64_t *list, size_t list_len,

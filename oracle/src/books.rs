@@ -39,15 +39,15 @@ pub fn filled(style: Style, manner: Manner, nodes: usize) -> Document {
 #[cfg(test)]
 mod tests {
     use super::*;
-    use crate::judge::{Judged, judge};
+    use crate::published::{Validated, validate};
     use crate::refusals::{LARGEST_SOURCE, MOST_NODES, refusal};
 
     pub fn findings(document: &Document) -> usize {
         let n = document.node_count();
         assert_eq!(refusal(document, n, n), None);
-        match judge(document) {
-            Judged::Findings(list) => list.len(),
-            Judged::Overflowed => panic!("no sum of a book leaves 32 bits"),
+        match validate(document) {
+            Validated::Findings(list) => list.len(),
+            Validated::Overflowed => panic!("no sum of a book leaves 32 bits"),
         }
     }
 

@@ -5,8 +5,8 @@ use std::fmt::Write;
 use crate::diagnostic::DiagnosticCode;
 use crate::document::{Document, kind};
 use crate::forms::{FORMS, form_and_numbers};
-use crate::judge::{Found, Judged, try_judge};
 use crate::parts::attached_at_top;
+use crate::published::{Found, Validated, try_validate};
 use crate::refusals::refusal;
 
 /// Refusals by number run from 1 to this.
@@ -34,8 +34,8 @@ pub struct Coverage {
 }
 
 impl Coverage {
-    /// Refuses or judges a document and counts it. An unforeseen panic of the published code and
-    /// a message that no form has are errors.
+    /// Refuses a document or runs the published `validate` on it, and counts it. An unforeseen
+    /// panic of the published code and a message that no form has are errors.
     pub fn add(&mut self, document: &Document, lengths: (usize, usize)) -> Result<(), String> {
         self.documents += 1;
         if let Some((number, _)) = refusal(document, lengths.0, lengths.1) {
@@ -46,9 +46,9 @@ impl Coverage {
         self.most_nodes = self.most_nodes.max(document.node_count());
         self.deepest = self.deepest.max(depth(document));
         self.attached += attached_at_top(document) as u64;
-        match try_judge(document)? {
-            Judged::Overflowed => self.overflowed += 1,
-            Judged::Findings(list) => self.add_findings(&list)?,
+        match try_validate(document)? {
+            Validated::Overflowed => self.overflowed += 1,
+            Validated::Findings(list) => self.add_findings(&list)?,
         }
         Ok(())
     }
@@ -102,26 +102,26 @@ impl Coverage {
     }
 
     /// What was never reached.
-    pub fn holes(&self) -> Vec<String> {
-        let mut holes = Vec::new();
+    pub fn unreached(&self) -> Vec<String> {
+        let mut unreached = Vec::new();
         for (&(code, form), &count) in FORMS.iter().zip(&self.forms) {
             if count == 0 {
-                holes.push(format!("code {code} {} form {form}", code_name(code)));
+                unreached.push(format!("code {code} {} form {form}", code_name(code)));
             }
         }
         for number in 1..=LAST_REFUSAL {
             if self.refused[number] == 0 {
-                holes.push(format!("refusal {number}"));
+                unreached.push(format!("refusal {number}"));
             }
         }
-        let quiet = [
+        let others = [
             ("overflow", self.overflowed),
             ("document without a finding", self.clean),
             ("attached number", self.attached),
         ];
-        let unreached = quiet.iter().filter(|(_, count)| *count == 0);
-        holes.extend(unreached.map(|(name, _)| name.to_string()));
-        holes
+        let missing = others.iter().filter(|(_, count)| *count == 0);
+        unreached.extend(missing.map(|(name, _)| name.to_string()));
+        unreached
     }
 }
 
@@ -199,10 +199,10 @@ mod tests {
         assert_eq!(coverage.refused[10], 1);
         assert_eq!(coverage.severities, [0, 1, 0]);
         assert_eq!((coverage.most_nodes, coverage.deepest), (9, 1));
-        let holes = coverage.holes();
-        assert!(!holes.contains(&"code 11 InvalidVerseSequence form 0".to_string()));
-        assert!(!holes.contains(&"refusal 10".to_string()));
-        assert_eq!(holes.len(), 31 + 9 + 3);
+        let unreached = coverage.unreached();
+        assert!(!unreached.contains(&"code 11 InvalidVerseSequence form 0".to_string()));
+        assert!(!unreached.contains(&"refusal 10".to_string()));
+        assert_eq!(unreached.len(), 31 + 9 + 3);
     }
 
     #[test]

@@ -11,13 +11,13 @@ pub fn same<T: PartialEq + Debug>(what: &str, input: &dyn Debug, ours: T, theirs
     }
 }
 
-/// An error unless the library's answer is the one that is owed.
-pub fn agree<T: PartialEq + Debug>(what: &str, ours: T, owed: T) -> Result<(), String> {
-    if ours == owed {
+/// An error unless the library's answer is the expected one.
+pub fn agree<T: PartialEq + Debug>(what: &str, ours: T, expected: T) -> Result<(), String> {
+    if ours == expected {
         return Ok(());
     }
     Err(format!(
-        "{what}: the library has {ours:?}, owed is {owed:?}"
+        "{what}: the library has {ours:?}, owed is {expected:?}"
     ))
 }
 
@@ -26,9 +26,9 @@ mod tests {
     use super::*;
 
     #[test]
-    fn answers_agree_or_both_are_told() {
+    fn answers_agree_or_both_are_shown() {
         assert_eq!(agree("total", 3, 3), Ok(()));
-        let told = agree("total", 3, 4).unwrap_err();
-        assert_eq!(told, "total: the library has 3, owed is 4");
+        let message = agree("total", 3, 4).unwrap_err();
+        assert_eq!(message, "total: the library has 3, owed is 4");
     }
 }

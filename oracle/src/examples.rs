@@ -2,12 +2,12 @@
 
 use crate::document::{Document, NODE_BYTES, Node, kind};
 use crate::refusals::DEEPEST;
-use crate::samples::{self, Sketch, entry, listing, read};
+use crate::samples::{self, Builder, entry, listing, read};
 
 /// A passage in several scripts, each check of a whole book somewhere in it.
 const GREEK: &str = "\\id JHN Κατὰ Ἰωάννην\n\\c 1\n\\p \\v 1 Ἐν ἀρχῇ ἦν ὁ λόγος, \\nd θεὸς\\nd*\n\\v 3 πάντα δι’ αὐτοῦ \\ft ἐγένετο\\ft* \\w λόγος|lemma=λόγος\\w*\n\\c 2\n\\v 01 Καὶ τῇ ἡμέρᾳ\n\\p \\v2 καὶ \\qt-s |who=\"Ἰησοῦς\"\\*τί ἐμοὶ\n";
 const ARABIC: &str = "\\id GEN سفر التكوين\n\\c 1\n\\p \\v 1 فِي ٱلْبَدْءِ \\add خلق\\add* \\v ٢ ٱللهُ\n\\v 2 وَكَانَتِ ٱلْأَرْضُ \\w خَرِبَةً|\\w* \\qt-e\\* \\va ٣\\va*\n";
-const TELLING: &str = "text \\id gen\n\\p early\n\\c 01\n\\s \\v 1 a\n\\p \\nd \\v 3 b\\nd* \\ft out\\ft*\n\\b full\n\\c\n\\c 5\n\\c 5\n\\p \\v \n\\fig |src=\"a\"\\fig* \\w \\w* \\rb word\\rb* \\w a|\\w* \\w b|x=\"\\w* \\w c|k v=\"1\"\\w* \\w d|v=\"\"\\w* \\w e|v=w\\w* \\nd f|g\\nd*\n\\tr \\tc2 h\n\\p \\cp 3\\cp* \\qt-s\\* \\zaln-e\\*\n\\id XYZ\n";
+const EACH_CODE: &str = "text \\id gen\n\\p early\n\\c 01\n\\s \\v 1 a\n\\p \\nd \\v 3 b\\nd* \\ft out\\ft*\n\\b full\n\\c\n\\c 5\n\\c 5\n\\p \\v \n\\fig |src=\"a\"\\fig* \\w \\w* \\rb word\\rb* \\w a|\\w* \\w b|x=\"\\w* \\w c|k v=\"1\"\\w* \\w d|v=\"\"\\w* \\w e|v=w\\w* \\nd f|g\\nd*\n\\tr \\tc2 h\n\\p \\cp 3\\cp* \\qt-s\\* \\zaln-e\\*\n\\id XYZ\n";
 
 /// The document of document 01's listing with another node at a place.
 fn with_node(place: usize, change: impl FnOnce(&mut Node)) -> Document {
@@ -25,11 +25,11 @@ fn refused() -> Vec<(&'static str, Document)> {
     source.source[23] = 0xE9;
     let mut tape = listing();
     tape.tape.pop();
-    let mut deep = Sketch::default();
+    let mut deep = Builder::default();
     for _ in 0..=DEEPEST {
         deep.open(0, "\\p ");
     }
-    let mut split = Sketch::default();
+    let mut split = Builder::default();
     split.leaf(kind::VERSE, 0, "\\vé1 ", 1);
     vec![
         ("refused-1", table),
@@ -45,12 +45,12 @@ fn refused() -> Vec<(&'static str, Document)> {
 
 /// More findings than the listing holds.
 fn many() -> Document {
-    let mut sketch = Sketch::default();
+    let mut builder = Builder::default();
     for verse in 0..1_030 {
         let text = format!("\\v {} \n", 3 * verse + 2);
-        sketch.leaf(kind::VERSE, 0, &text, 0);
+        builder.leaf(kind::VERSE, 0, &text, 0);
     }
-    sketch.under(&[entry("v", 2, 0)])
+    builder.under(&[entry("v", 2, 0)])
 }
 
 /// A book code that fills the source, so that its message is longer than the listing's room.
@@ -61,15 +61,15 @@ fn long_message() -> Document {
 
 /// Files of the largest size: blank text, and texts without a byte.
 fn full(extra: usize) -> Document {
-    let mut sketch = Sketch::default();
-    sketch.open(0, "\\id").text(" GEN").end();
-    while sketch.nodes.len() < 65_536 / NODE_BYTES {
-        sketch.text("");
+    let mut builder = Builder::default();
+    builder.open(0, "\\id").text(" GEN").end();
+    while builder.nodes.len() < 65_536 / NODE_BYTES {
+        builder.text("");
     }
-    sketch
+    builder
         .source
-        .push_str(&" ".repeat(65_536 + extra - sketch.source.len()));
-    sketch.under(&[entry("id", 0, 1)])
+        .push_str(&" ".repeat(65_536 + extra - builder.source.len()));
+    builder.under(&[entry("id", 0, 1)])
 }
 
 /// Every example by its name.
@@ -79,7 +79,7 @@ pub fn examples() -> Vec<(&'static str, Document)> {
         ("listing", listing()),
         ("greek", read(GREEK)),
         ("arabic", read(ARABIC)),
-        ("telling", read(TELLING)),
+        ("each-code", read(EACH_CODE)),
         ("many", many()),
         ("long-message", long_message()),
         ("full", full(0)),

@@ -5,7 +5,7 @@ mod pairs;
 pub use pairs::{every_pair_of_bases, every_pair_of_labels, every_pair_of_spans};
 
 use crate::document::{Document, Node, kind, table_text};
-use crate::samples::{Sketch, entry, node};
+use crate::samples::{Builder, entry, node};
 
 /// Calls `visit` with every tape of up to `most` nodes over the kinds 0 to 9 and the links 0 to
 /// n + 1. Every node has the whole source as its span and marker 0.
@@ -95,7 +95,7 @@ const MARKERS: [(&str, usize, usize); 16] = [
     ("s", 3, 1),
 ];
 
-/// Markers past the table are passed over.
+/// Markers past the table are skipped.
 const PAST: u16 = MARKERS.len() as u16;
 
 /// The last token closes the innermost open; an open token leaves its marker open.
@@ -137,7 +137,7 @@ const TOKENS: [&[Step]; 24] = [
 const CLOSING: usize = TOKENS.len() - 1;
 
 struct Tokens<F> {
-    sketch: Sketch,
+    builder: Builder,
     document: Document,
     visit: F,
 }
@@ -146,7 +146,7 @@ struct Tokens<F> {
 pub fn every_nesting(most: usize, visit: impl FnMut(&Document)) {
     let entries = MARKERS.map(|(name, category, role)| entry(name, category, role));
     let mut tokens = Tokens {
-        sketch: Sketch::default(),
+        builder: Builder::default(),
         document: Document {
             table: table_text(&entries),
             ..Document::default()
@@ -157,7 +157,7 @@ pub fn every_nesting(most: usize, visit: impl FnMut(&Document)) {
     tokens.extend(most);
 }
 
-/// What brings a sketch back to an earlier state.
+/// What brings a builder back to an earlier state.
 struct Mark {
     source: usize,
     nodes: usize,
@@ -171,7 +171,7 @@ impl<F: FnMut(&Document)> Tokens<F> {
         }
         for (place, token) in TOKENS.iter().enumerate() {
             let closing = place == CLOSING;
-            if closing && self.sketch.open.is_empty() {
+            if closing && self.builder.open.is_empty() {
                 continue;
             }
             let mark = self.mark();
@@ -188,30 +188,30 @@ impl<F: FnMut(&Document)> Tokens<F> {
     fn put(&mut self, steps: &[Step]) {
         for &step in steps {
             match step {
-                Leaf(kind, marker, text, link) => self.sketch.leaf(kind, marker, text, link),
-                Open(marker, text) => self.sketch.open(marker, text),
-                Close(kind, text) => self.sketch.close(kind, text),
+                Leaf(kind, marker, text, link) => self.builder.leaf(kind, marker, text, link),
+                Open(marker, text) => self.builder.open(marker, text),
+                Close(kind, text) => self.builder.close(kind, text),
             };
         }
     }
 
     fn mark(&self) -> Mark {
         Mark {
-            source: self.sketch.source.len(),
-            nodes: self.sketch.nodes.len(),
-            open: self.sketch.open.clone(),
+            source: self.builder.source.len(),
+            nodes: self.builder.nodes.len(),
+            open: self.builder.open.clone(),
         }
     }
 
     fn go_back(&mut self, mark: Mark) {
-        self.sketch.source.truncate(mark.source);
-        self.sketch.nodes.truncate(mark.nodes);
-        self.sketch.open = mark.open;
+        self.builder.source.truncate(mark.source);
+        self.builder.nodes.truncate(mark.nodes);
+        self.builder.open = mark.open;
     }
 
     fn visit_closed(&mut self) {
         let mark = self.mark();
-        self.sketch.finish(&mut self.document);
+        self.builder.finish(&mut self.document);
         (self.visit)(&self.document);
         self.go_back(mark);
     }

@@ -22,10 +22,10 @@ pub fn at_seed(seed: u64) {
 }
 
 /// From now on a fault of any thread prints its seed and ends the program with status 1.
-pub fn tell_seeds() {
+pub fn report_seeds() {
     for fault in FAULTS {
         // SAFETY: the handler calls nothing that a handler must not call.
-        unsafe { signal(fault, tell) };
+        unsafe { signal(fault, report_seed) };
     }
 }
 
@@ -43,7 +43,7 @@ fn digits(mut number: u64, room: &mut [u8; 20]) -> &[u8] {
 }
 
 /// Neither allocates nor locks, since a fault may come at any time.
-extern "C" fn tell(_: c_int) {
+extern "C" fn report_seed(_: c_int) {
     let mut room = [0; 20];
     let parts = [
         b"a read or a write outside of what was lent, seed ".as_slice(),

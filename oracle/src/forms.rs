@@ -69,7 +69,7 @@ pub(crate) const CONSTANT: &[(u32, u64, &str)] = &[
     (25, 0, r"\w has no text content or attributes"),
 ];
 
-/// A finding's form and its two numbers as document 01 lays them down.
+/// A finding's form and its two numbers as document 01 defines them.
 ///
 /// DefaultAttributeNotDefined's number is its owner's node, which no message shows: it is given
 /// as 0. A message that is no known text of its code is an error.
@@ -210,7 +210,7 @@ mod tests {
     use super::*;
 
     /// One message of each text with what document 01 says of it.
-    const TELLING: &[(u32, &str, (u64, u64, u64))] = &[
+    const FILLED: &[(u32, &str, (u64, u64, u64))] = &[
         (
             5,
             r#"book code "gen" should be uppercase: "GEN""#,
@@ -265,7 +265,7 @@ mod tests {
 
     #[test]
     fn each_filled_text_is_read_back() {
-        for &(code, message, expected) in TELLING {
+        for &(code, message, expected) in FILLED {
             assert_eq!(form_and_numbers(code, message), Ok(expected), "{message}");
         }
     }
@@ -280,7 +280,7 @@ mod tests {
     #[test]
     fn the_texts_cover_the_list_of_forms() {
         let mut reached: Vec<(u32, u64)> = CONSTANT.iter().map(|&(c, f, _)| (c, f)).collect();
-        reached.extend(TELLING.iter().map(|&(code, _, (form, _, _))| (code, form)));
+        reached.extend(FILLED.iter().map(|&(code, _, (form, _, _))| (code, form)));
         reached.sort();
         reached.dedup();
         assert_eq!(reached, FORMS);

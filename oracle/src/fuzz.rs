@@ -53,7 +53,7 @@ fn noise(rng: &mut Rng) -> Document {
         bytes::any(rng, len)
     };
     let (table, source, tape) = (list(), list(), list());
-    // Most noise is turned back by number 1, and hides what lies behind it.
+    // Number 1 turns most noise back before the other numbers are tried, so that some of it has an empty table.
     match rng.below(3) {
         0 => Document {
             table,
@@ -76,7 +76,7 @@ fn noise(rng: &mut Rng) -> Document {
 fn by_hand(rng: &mut Rng) -> Document {
     match rng.below(8) {
         0 => samples::listing(),
-        _ => samples::read(rng.pick(samples::TELLING)),
+        _ => samples::read(rng.pick(samples::TEXTS)),
     }
 }
 
@@ -107,7 +107,7 @@ fn change(rng: &mut Rng, document: &mut Document) {
 #[cfg(test)]
 mod tests {
     use super::*;
-    use crate::judge::try_judge;
+    use crate::published::try_validate;
     use crate::refusals::refusal;
 
     #[test]
@@ -127,7 +127,7 @@ mod tests {
                 Some((number, _)) => refused[number as usize] += 1,
                 None => {
                     refused[0] += 1;
-                    try_judge(&document).unwrap();
+                    try_validate(&document).unwrap();
                 }
             }
         }

@@ -1,5 +1,5 @@
-//! Documents from a seed: text and tape laid out together as a parser would, then, part of the
-//! time, filled with what nobody reads and damaged.
+//! Documents from a seed: text and tape written together as a parser would, then, part of the
+//! time, filled with what the check never reads, and damaged.
 
 mod attributes;
 mod damage;
@@ -19,7 +19,7 @@ pub use tables::STANDARD;
 pub fn generate(seed: u64) -> Document {
     let mut rng = Rng::new(seed);
     let entries = tables::choose(&mut rng);
-    let mut document = layout::lay_out(&mut rng, entries);
+    let mut document = layout::document(&mut rng, entries);
     if rng.percent(40) {
         fill_unread(&mut rng, &mut document);
     }
@@ -75,7 +75,7 @@ fn with_unread(rng: &mut Rng, node: Node) -> Node {
 #[cfg(test)]
 mod tests {
     use super::*;
-    use crate::judge::try_judge;
+    use crate::published::try_validate;
     use crate::refusals::refusal;
 
     /// FNV-1a over all bytes of a document, lengths included.
@@ -104,14 +104,14 @@ mod tests {
     }
 
     #[test]
-    fn the_first_documents_are_refused_or_judged() {
+    fn the_first_documents_are_refused_or_validated() {
         let mut accepted = 0;
         for seed in 0..2000 {
             let document = generate(seed);
             let n = document.node_count();
             if refusal(&document, n, n).is_none() {
                 accepted += 1;
-                try_judge(&document).unwrap();
+                try_validate(&document).unwrap();
             }
         }
         assert!((1000..1900).contains(&accepted), "{accepted}");

@@ -98,7 +98,7 @@ impl<T: Element> Slot<T> {
     pub fn put(&mut self, content: &[T], rng: &mut Rng) {
         self.before.clear();
         self.before.extend_from_slice(content);
-        self.lay(rng);
+        self.place(rng);
     }
 
     /// Lends a list of this length that holds anything.
@@ -106,10 +106,11 @@ impl<T: Element> Slot<T> {
         self.before.clear();
         let any = (0..len).map(|_| T::of_word(rng.word()));
         self.before.extend(any);
-        self.lay(rng);
+        self.place(rng);
     }
 
-    fn lay(&mut self, rng: &mut Rng) {
+    /// Writes the list at a place by the seed.
+    fn place(&mut self, rng: &mut Rng) {
         let place = match rng.below(8) {
             0..4 => Place::Between,
             4..7 => Place::Last,
@@ -117,11 +118,11 @@ impl<T: Element> Slot<T> {
         };
         let by = rng.below(MARGIN);
         self.mark = rng.word() as u8;
-        self.lay_at(place, by);
+        self.place_at(place, by);
     }
 
     /// The start moves up by at most so many bytes where both margins are there.
-    fn lay_at(&mut self, place: Place, by: usize) {
+    fn place_at(&mut self, place: Place, by: usize) {
         let bytes = self.before.len() * Self::SIZE;
         let room = bytes + 3 * MARGIN;
         if self.pages.len() < room {
@@ -162,20 +163,20 @@ impl<T: Element> Slot<T> {
         self.before.is_empty()
     }
 
-    /// Makes a write of the list or beside it end the program, until `unseal`.
-    pub fn seal(&mut self) {
-        self.pages.seal();
+    /// Makes a write of the list or beside it end the program, until `allow_writes`.
+    pub fn write_protect(&mut self) {
+        self.pages.write_protect();
     }
 
-    pub fn unseal(&mut self) {
-        self.pages.unseal();
+    pub fn allow_writes(&mut self) {
+        self.pages.allow_writes();
     }
 
     /// An error unless the list is as it was lent but for these elements at its beginning, and the margins are as they were.
-    pub fn expect(&self, what: &str, laid: &[T]) -> Result<(), String> {
-        let (first, rest) = self.list().split_at(laid.len());
-        if first != laid || rest != &self.before[laid.len()..] {
-            return Err(self.difference(what, laid));
+    pub fn expect(&self, what: &str, written: &[T]) -> Result<(), String> {
+        let (first, rest) = self.list().split_at(written.len());
+        if first != written || rest != &self.before[written.len()..] {
+            return Err(self.difference(what, written));
         }
         if !self.margins_are_whole() {
             return Err(format!("{what}: bytes beside the list are written"));
@@ -190,13 +191,13 @@ impl<T: Element> Slot<T> {
         before.iter().chain(after).all(|&byte| byte == self.mark)
     }
 
-    fn difference(&self, what: &str, laid: &[T]) -> String {
-        let expected = |place: usize| *laid.get(place).unwrap_or(&self.before[place]);
+    fn difference(&self, what: &str, written: &[T]) -> String {
+        let expected = |place: usize| *written.get(place).unwrap_or(&self.before[place]);
         let list = self.list();
         let place = (0..list.len()).find(|&place| list[place] != expected(place));
         let place = place.expect("the lists differ");
-        let (is, owed, len) = (list[place], expected(place), list.len());
-        format!("{what}: element {place} of {len} is {is:?} instead of {owed:?}")
+        let (is, expected, len) = (list[place], expected(place), list.len());
+        format!("{what}: element {place} of {len} is {is:?} instead of {expected:?}")
     }
 }
 
@@ -239,7 +240,7 @@ mod tests {
         for place in PLACES {
             for by in 0..MARGIN {
                 slot.put(&[1, 2, 3, 4, 5].map(T::of_word), &mut Rng::new(by as u64));
-                slot.lay_at(place, by);
+                slot.place_at(place, by);
                 test(place, &mut slot);
             }
         }
@@ -297,7 +298,7 @@ mod tests {
     }
 
     #[test]
-    fn what_is_laid_over_the_beginning_is_owed() {
+    fn what_is_written_over_the_beginning_is_expected() {
         each_place::<u64>(|_, slot| {
             slot.list_mut()[..2].copy_from_slice(&[8, 9]);
             assert_eq!(slot.expect("list", &[8, 9]), Ok(()));
@@ -329,7 +330,7 @@ mod tests {
         slot.fill(100_000, rng);
         assert_eq!((slot.len(), slot.list().len()), (100_000, 100_000));
         slot.list_mut()[99_999] ^= 1;
-        let told = slot.expect("list", &[]).unwrap_err();
-        assert!(told.starts_with("list: element 99999 of 100000 is "));
+        let message = slot.expect("list", &[]).unwrap_err();
+        assert!(message.starts_with("list: element 99999 of 100000 is "));
     }
 }

@@ -1,4 +1,4 @@
-//! The published usfm3 validator as the judge of a port, with documents to judge.
+//! The published usfm3 validator as the reference that a port is compared with, and documents to compare.
 //!
 //! The published modules stand at the root of this crate, since their own paths begin with
 //! `crate::`. The build assembles them (see `build.rs`); the modules named here are ours.
@@ -21,13 +21,13 @@ pub mod features;
 pub mod forms;
 pub mod fuzz;
 pub mod generate;
-pub mod judge;
 pub mod lent;
 #[cfg(feature = "library")]
 pub mod library;
 pub mod listing;
 pub mod pages;
 pub mod parts;
+pub mod published;
 pub mod reached;
 pub mod recorded;
 pub mod refusals;

@@ -229,9 +229,9 @@ fn place(word: u64) -> Option<usize> {
 
 /// The number that turns a tape back, with its place.
 pub fn tape_check(source: &[u8], tape: &[u8]) -> Option<(u32, u64)> {
-    let told =
+    let answer =
         unsafe { compared_tape_check(source.as_ptr(), source.len(), tape.as_ptr(), tape.len()) };
-    (told != 0).then_some(((told >> 32) as u32, told & 0xFFFF_FFFF))
+    (answer != 0).then_some(((answer >> 32) as u32, answer & 0xFFFF_FFFF))
 }
 
 pub fn text(source: &[u8], tape: &[u8], i: usize) -> Vec<u8> {
@@ -289,19 +289,19 @@ pub fn number(tape: &[u8], i: usize) -> Option<u32> {
 
 /// The number of a table's entries, or the place that number 1 gives.
 pub fn table(table: &[u8]) -> Result<usize, u64> {
-    let told = unsafe { compared_table(table.as_ptr(), table.len()) };
-    place(told).ok_or(told & 0xFFFF_FFFF)
+    let answer = unsafe { compared_table(table.as_ptr(), table.len()) };
+    place(answer).ok_or(answer & 0xFFFF_FFFF)
 }
 
 pub fn lookup(table: &[u8], name: &[u8]) -> Option<u16> {
     let (t, n) = (table.as_ptr(), name.as_ptr());
-    let told = unsafe { compared_lookup(t, table.len(), n, name.len()) };
-    u16::try_from(told).ok()
+    let answer = unsafe { compared_lookup(t, table.len(), n, name.len()) };
+    u16::try_from(answer).ok()
 }
 
 /// Category and role of an entry.
-fn entry(told: u64) -> Option<(u8, u8)> {
-    small(told).map(|told| ((told % 8) as u8, (told / 8) as u8))
+fn entry(answer: u64) -> Option<(u8, u8)> {
+    small(answer).map(|word| ((word % 8) as u8, (word / 8) as u8))
 }
 
 pub fn info(table: &[u8], k: u16) -> Option<(u8, u8)> {
@@ -315,8 +315,8 @@ pub fn marker_info(table: &[u8], tape: &[u8], i: usize) -> Option<(u8, u8)> {
 
 pub fn default_attribute(name: &[u8]) -> Option<&'static str> {
     const NAMES: [&str; 7] = ["lemma", "gloss", "href", "loc", "link-href", "id", "who"];
-    let told = unsafe { compared_default_attribute(name.as_ptr(), name.len()) };
-    NAMES.get(told as usize).copied()
+    let answer = unsafe { compared_default_attribute(name.as_ptr(), name.len()) };
+    NAMES.get(answer as usize).copied()
 }
 
 pub fn book(code: &[u8]) -> Option<u8> {
@@ -461,8 +461,8 @@ pub fn attached_numbers(
     let mut list = vec![0u64; 2];
     let (s, t) = (source.as_ptr(), tape.as_ptr());
     let (l, room) = (list.as_mut_ptr(), list.len());
-    let told = unsafe { compared_attached(s, source.len(), t, tape.len(), parent, i, l, room) };
-    list.truncate(place(told)?);
+    let answer = unsafe { compared_attached(s, source.len(), t, tape.len(), parent, i, l, room) };
+    list.truncate(place(answer)?);
     Some(list)
 }
 
@@ -472,7 +472,7 @@ pub fn is_attached(source: &[u8], tape: &[u8], (parent, i): (usize, usize), at: 
     unsafe { compared_is_attached(s, source.len(), t, tape.len(), parent, i, at) }
 }
 
-/// The lists that a caller lends to the check, and the one that its answer is laid over.
+/// The lists that a caller lends to the check, and the one that its answer is written over.
 pub struct Lent<'a> {
     pub seen: &'a mut [u32],
     pub opens: &'a mut [OpenStart],

@@ -4,7 +4,7 @@ use std::fmt::Write;
 
 use crate::coverage::code_name;
 use crate::document::Document;
-use crate::judge::{Found, Judged, judge};
+use crate::published::{Found, Validated, validate};
 use crate::refusals::refusal;
 
 const LARGEST_FILE: usize = 65_536;
@@ -43,7 +43,7 @@ pub fn listing(document: &Document) -> String {
     if let Some((number, place)) = refusal(document, usize::MAX, usize::MAX) {
         return format!("verdict=refused\nrefusal={number}\nplace={place}\n");
     }
-    let Judged::Findings(list) = judge(document) else {
+    let Validated::Findings(list) = validate(document) else {
         panic!("no sum of an example leaves 32 bits");
     };
     let count = |severity: u32| list.iter().filter(|f| f.severity == severity).count();

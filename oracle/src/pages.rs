@@ -49,7 +49,7 @@ impl Pages {
         assert_ne!(whole as isize, -1, "no memory for {len} bytes");
         let start = whole.cast::<u8>().wrapping_add(STEP);
         let pages = Pages { start, len };
-        pages.protect(READ | WRITE);
+        pages.set_protection(READ | WRITE);
         pages
     }
 
@@ -61,19 +61,19 @@ impl Pages {
         self.len == 0
     }
 
-    fn protect(&self, protection: c_int) {
+    fn set_protection(&self, protection: c_int) {
         // SAFETY: the bytes are this mapping's own.
         let failed = unsafe { mprotect(self.start.cast(), self.len, protection) };
         assert_eq!(failed, 0, "the protection can't be set");
     }
 
-    /// Makes a write end the program by a fault too, until `unseal`.
-    pub fn seal(&mut self) {
-        self.protect(READ);
+    /// Makes a write end the program by a fault too, until `allow_writes`.
+    pub fn write_protect(&mut self) {
+        self.set_protection(READ);
     }
 
-    pub fn unseal(&mut self) {
-        self.protect(READ | WRITE);
+    pub fn allow_writes(&mut self) {
+        self.set_protection(READ | WRITE);
     }
 
     pub fn bytes(&self) -> &[u8] {
@@ -81,7 +81,7 @@ impl Pages {
         unsafe { std::slice::from_raw_parts(self.start, self.len) }
     }
 
-    /// Not to be written while sealed.
+    /// Not to be written while write-protected.
     pub fn bytes_mut(&mut self) -> &mut [u8] {
         // SAFETY: as in `bytes`.
         unsafe { std::slice::from_raw_parts_mut(self.start, self.len) }
@@ -130,9 +130,9 @@ mod tests {
         ] {
             assert_eq!(access(address), expected);
         }
-        pages.seal();
+        pages.write_protect();
         assert_eq!(access(start), "r--p");
-        pages.unseal();
+        pages.allow_writes();
         pages.bytes_mut()[0] = 7;
         assert_eq!(access(start), "rw-p");
     }

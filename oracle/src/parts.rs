@@ -2,7 +2,7 @@
 
 use crate::cst::Cursor;
 use crate::document::{Document, kind};
-use crate::judge::{Found, form_and_numbers, found, with_published, with_table};
+use crate::published::{Found, form_and_numbers, found, with_published, with_table};
 use crate::serialize::attached_numbers;
 use crate::serialize::vref::BookId;
 use crate::validate::VersePart;
@@ -136,8 +136,8 @@ pub fn labels(document: &Document) -> Vec<(usize, (Vec<u8>, bool))> {
     })
 }
 
-/// A finding's severity, code, start, length, form and two numbers.
-pub type Told = [u64; 7];
+/// A finding's severity, code, start, length, form and two numbers: its words but for its node.
+pub type WordsWithoutNode = [u64; 7];
 
 /// An open node taken as a row, whatever its name is.
 pub struct Row {
@@ -146,7 +146,7 @@ pub struct Row {
     pub cells: usize,
     /// `None` where a cell's last column is 4,294,967,295, after which the published sum leaves 32
     /// bits.
-    pub findings: Option<Vec<Told>>,
+    pub findings: Option<Vec<WordsWithoutNode>>,
 }
 
 /// What a function says of each open node.
@@ -176,13 +176,15 @@ fn row(tr: Cursor<'_>) -> Row {
     }
 }
 
-fn row_findings(tr: Cursor<'_>) -> Vec<Told> {
+fn row_findings(tr: Cursor<'_>) -> Vec<WordsWithoutNode> {
     let mut list = Vec::new();
     validate::validate_table_row(tr, &mut list);
-    list.into_iter().map(|one| told(found(one))).collect()
+    list.into_iter()
+        .map(|one| words_without_node(found(one)))
+        .collect()
 }
 
-fn told(it: Found) -> Told {
+fn words_without_node(it: Found) -> WordsWithoutNode {
     let (form, first, second) = form_and_numbers(it.code, &it.message).expect("a known message");
     let [severity, code, start, len] = [it.severity, it.code, it.start, it.len].map(u64::from);
     [severity, code, start, len, form, first, second]
@@ -193,7 +195,7 @@ pub struct Attributes {
     pub node: usize,
     /// The children that are Attributes.
     pub children: Vec<usize>,
-    pub findings: Vec<Told>,
+    pub findings: Vec<WordsWithoutNode>,
 }
 
 /// The attributes of each open node.
@@ -214,13 +216,16 @@ fn attributes_of(owner: Cursor<'_>) -> Attributes {
             .collect(),
         findings: list
             .into_iter()
-            .map(|one| with_owner(told(found(one)), owner))
+            .map(|one| with_owner(words_without_node(found(one)), owner))
             .collect(),
     }
 }
 
 /// Code 32's first number is the owner's node, which the published code doesn't say.
-fn with_owner([severity, code, start, len, form, first, second]: Told, owner: Cursor<'_>) -> Told {
+fn with_owner(
+    [severity, code, start, len, form, first, second]: WordsWithoutNode,
+    owner: Cursor<'_>,
+) -> WordsWithoutNode {
     let first = if code == 32 { owner.idx.into() } else { first };
     [severity, code, start, len, form, first, second]
 }

@@ -60,8 +60,8 @@ pub struct Reached {
     codes: [u64; CODES],
     /// Findings, beside `FORMS`.
     forms: [u64; FORMS.len()],
-    /// Texts that are there and were asked for one by one, beside `FORMS`: into a list that is too short, exact, longer.
-    told: [[u64; ROOMS.len()]; FORMS.len()],
+    /// Texts that are there and were requested one by one, beside `FORMS`: into a list that is too short, exact, longer.
+    texts: [[u64; ROOMS.len()]; FORMS.len()],
     /// By function and number; number 0 stands for calls that weren't turned back.
     answers: [[u64; LAST_REFUSAL + 1]; FUNCTIONS],
 }
@@ -71,7 +71,7 @@ impl Default for Reached {
         Reached {
             codes: [0; CODES],
             forms: [0; FORMS.len()],
-            told: [[0; ROOMS.len()]; FORMS.len()],
+            texts: [[0; ROOMS.len()]; FORMS.len()],
             answers: [[0; LAST_REFUSAL + 1]; FUNCTIONS],
         }
     }
@@ -96,10 +96,10 @@ impl Reached {
         }
     }
 
-    /// A text of this code and form is there and was asked for; its list's length compares so with the text's.
+    /// A text of this code and form is there and was requested; its list's length compares so with the text's.
     pub fn text(&mut self, code: u64, form: u64, room: Ordering) {
         if let Some(place) = form_place(code, form) {
-            self.told[place][(room as i8 + 1) as usize] += 1;
+            self.texts[place][(room as i8 + 1) as usize] += 1;
         }
     }
 
@@ -111,7 +111,7 @@ impl Reached {
     pub fn add(&mut self, other: &Reached) {
         sum(&mut self.codes, &other.codes);
         sum(&mut self.forms, &other.forms);
-        for (ours, theirs) in self.told.iter_mut().zip(&other.told) {
+        for (ours, theirs) in self.texts.iter_mut().zip(&other.texts) {
             sum(ours, theirs);
         }
         for (ours, theirs) in self.answers.iter_mut().zip(&other.answers) {
@@ -131,7 +131,7 @@ impl Reached {
             out.push_str(&row(&name, &[self.codes[code].to_string()]));
             for (place, (_, form)) in forms_of(code) {
                 let mut counts = vec![self.forms[place].to_string()];
-                counts.extend(self.told[place].iter().map(u64::to_string));
+                counts.extend(self.texts[place].iter().map(u64::to_string));
                 out.push_str(&row(&format!("     form {form}"), &counts));
             }
         }
@@ -147,26 +147,26 @@ impl Reached {
     }
 
     /// What was never reached though it can be.
-    pub fn holes(&self) -> Vec<String> {
-        let mut holes = Vec::new();
+    pub fn unreached(&self) -> Vec<String> {
+        let mut unreached = Vec::new();
         for (place, (code, form)) in FORMS.iter().enumerate() {
             let name = format!("code {code} {} form {form}", code_name(*code));
             if self.forms[place] == 0 {
-                holes.push(format!("{name} among the findings"));
+                unreached.push(format!("{name} among the findings"));
             }
-            for (told, room) in self.told[place].iter().zip(ROOMS) {
-                if *told == 0 {
-                    holes.push(format!("{name}, its text into a list that is {room}"));
+            for (count, room) in self.texts[place].iter().zip(ROOMS) {
+                if *count == 0 {
+                    unreached.push(format!("{name}, its text into a list that is {room}"));
                 }
             }
         }
         for function in Function::ALL {
             let missing = |&&number: &&usize| self.answers[function as usize][number] == 0;
             let numbers = [0].iter().chain(function.numbers()).filter(missing);
-            let hole = |number: &usize| format!("{}, number {number}", function.name());
-            holes.extend(numbers.map(hole));
+            let named = |number: &usize| format!("{}, number {number}", function.name());
+            unreached.extend(numbers.map(named));
         }
-        holes
+        unreached
     }
 }
 
@@ -188,26 +188,26 @@ mod tests {
     use super::*;
 
     #[test]
-    fn each_hole_is_told_until_it_is_reached() {
+    fn everything_is_unreached_until_it_is_reached() {
         let mut reached = Reached::default();
         let calls = 1 + 10 + 1 + 9 + 3 * (1 + 11) + 1 + 1;
-        assert_eq!(reached.holes().len(), 4 * FORMS.len() + calls);
+        assert_eq!(reached.unreached().len(), 4 * FORMS.len() + calls);
         for (code, form) in FORMS {
             reached.finding(code.into(), form);
         }
-        assert_eq!(reached.holes().len(), 3 * FORMS.len() + calls);
+        assert_eq!(reached.unreached().len(), 3 * FORMS.len() + calls);
         for (code, form) in FORMS {
             for room in [1, 2, 3] {
                 reached.text(code.into(), form, room.cmp(&2));
             }
         }
-        assert_eq!(reached.holes().len(), calls);
+        assert_eq!(reached.unreached().len(), calls);
         for function in Function::ALL {
             for &number in [0].iter().chain(function.numbers()) {
                 reached.answer(function, number as u64);
             }
         }
-        assert_eq!(reached.holes(), [""; 0]);
+        assert_eq!(reached.unreached(), [""; 0]);
     }
 
     #[test]
@@ -218,8 +218,8 @@ mod tests {
         one.answer(Function::Tally, 11);
         let mut two = one.clone();
         two.add(&one);
-        assert_eq!((two.codes[17], two.told[31]), (2, [2, 0, 0]));
-        assert_eq!(two.holes(), one.holes());
+        assert_eq!((two.codes[17], two.texts[31]), (2, [2, 0, 0]));
+        assert_eq!(two.unreached(), one.unreached());
         assert!(two.report().contains("tally: 0 answered, 11: 2\n"));
     }
 }

@@ -1,8 +1,8 @@
-//! The file of recorded answers; `recorded/README.md` lays down its format.
+//! The file of recorded answers; `recorded/README.md` defines its format.
 
 use crate::document::Document;
 use crate::forms::form_and_numbers;
-use crate::judge::{Judged, try_judge};
+use crate::published::{Validated, try_validate};
 use crate::refusals::refusal;
 
 pub const MAGIC: &[u8; 8] = b"USFM3ANS";
@@ -41,7 +41,7 @@ pub fn answer(document: &Document) -> Result<Option<Answer>, String> {
         let place = u32::try_from(place).map_err(|_| "a place past 32 bits")?;
         return Ok(Some(Answer::Refused(number, place)));
     }
-    let Judged::Findings(list) = try_judge(document)? else {
+    let Validated::Findings(list) = try_validate(document)? else {
         return Ok(None);
     };
     let mut findings = Vec::new();

@@ -1,7 +1,7 @@
 //! Requests for texts, and lists of findings, that no check gave: those of a check with something changed, and any words.
 
 use crate::rng::Rng;
-use crate::texts::Asked;
+use crate::texts::Request;
 
 const WORDS: usize = 8;
 
@@ -60,29 +60,29 @@ fn changed(rng: &mut Rng, word: u64, n: u64) -> u64 {
 }
 
 /// The request with a word or two changed, on a tape of `n` nodes.
-pub fn damaged(rng: &mut Rng, asked: Asked, n: u64) -> Asked {
-    let mut asked = asked;
+pub fn damaged(rng: &mut Rng, request: Request, n: u64) -> Request {
+    let mut request = request;
     for _ in 0..rng.from_to(1, 2) {
         let word = match rng.weighted(&[1, 1, 4, 2, 2]) {
-            0 => &mut asked.code,
-            1 => &mut asked.form,
-            2 => &mut asked.node,
-            3 => &mut asked.first,
-            _ => &mut asked.second,
+            0 => &mut request.code,
+            1 => &mut request.form,
+            2 => &mut request.node,
+            3 => &mut request.first,
+            _ => &mut request.second,
         };
         *word = changed(rng, *word, n);
     }
-    asked
+    request
 }
 
 /// A request of any code that is known, or just isn't, about any node.
-pub fn any(rng: &mut Rng, n: u64) -> Asked {
+pub fn any(rng: &mut Rng, n: u64) -> Request {
     let code = match rng.percent(60) {
         true => rng.pick(&[5, 11, 13, 15, 16, 24, 32, 33, 34]),
         false => rng.below(37) as u64,
     };
     let node = |rng: &mut Rng| rng.below(n as usize + 1) as u64;
-    Asked {
+    Request {
         code,
         form: rng.weighted(&[70, 20, 6, 4]) as u64,
         node: node(rng),
@@ -94,14 +94,14 @@ pub fn any(rng: &mut Rng, n: u64) -> Asked {
     }
 }
 
-/// A request that a list of findings leads to, or none.
-pub fn request(rng: &mut Rng, list: &[u64], n: u64) -> Asked {
+/// A request for a finding of the list with something changed, or any request.
+pub fn request(rng: &mut Rng, list: &[u64], n: u64) -> Request {
     let (records, _) = list.as_chunks();
     if records.is_empty() || rng.percent(40) {
         return any(rng, n);
     }
-    let asked = Asked::from(&records[rng.below(records.len())]);
-    damaged(rng, asked, n)
+    let request = Request::from(&records[rng.below(records.len())]);
+    damaged(rng, request, n)
 }
 
 /// A list of findings made of some of these, with something changed, or of any words.
@@ -138,7 +138,7 @@ fn any_list(rng: &mut Rng, n: u64) -> Vec<u64> {
 }
 
 fn record(rng: &mut Rng, n: u64) -> [u64; WORDS] {
-    let Asked {
+    let Request {
         code,
         form,
         node,

@@ -2,13 +2,13 @@
 
 mod reader;
 mod shaped;
-mod telling;
+mod texts;
 
 use crate::document::{Document, Entry, Node, kind, table_text};
 
 pub use reader::read;
 pub use shaped::shaped;
-pub use telling::TELLING;
+pub use texts::TEXTS;
 
 /// A document of these parts.
 pub fn document(entries: &[Entry<'_>], source: &str, nodes: &[Node]) -> Document {
@@ -42,17 +42,17 @@ pub const fn entry(name: &str, category: usize, role: usize) -> Entry<'_> {
     }
 }
 
-/// A document in the making: text and tape grow together.
-pub struct Sketch {
+/// Builds a document: text and tape grow together.
+pub struct Builder {
     pub source: String,
     pub nodes: Vec<Node>,
     /// The opens that aren't closed yet.
     pub open: Vec<usize>,
 }
 
-impl Default for Sketch {
-    fn default() -> Sketch {
-        Sketch {
+impl Default for Builder {
+    fn default() -> Builder {
+        Builder {
             source: String::new(),
             nodes: vec![node(kind::ROOT, 0, 0, 0, 0)],
             open: Vec::new(),
@@ -60,8 +60,8 @@ impl Default for Sketch {
     }
 }
 
-impl Sketch {
-    pub fn leaf(&mut self, kind: u8, marker: u16, text: &str, link: u32) -> &mut Sketch {
+impl Builder {
+    pub fn leaf(&mut self, kind: u8, marker: u16, text: &str, link: u32) -> &mut Builder {
         let start = self.source.len() as u32;
         self.source.push_str(text);
         self.nodes
@@ -69,24 +69,24 @@ impl Sketch {
         self
     }
 
-    pub fn open(&mut self, marker: u16, text: &str) -> &mut Sketch {
+    pub fn open(&mut self, marker: u16, text: &str) -> &mut Builder {
         self.open.push(self.nodes.len());
         self.leaf(kind::MARKER_OPEN, marker, text, 0)
     }
 
     /// Closes the innermost open.
-    pub fn close(&mut self, kind: u8, text: &str) -> &mut Sketch {
+    pub fn close(&mut self, kind: u8, text: &str) -> &mut Builder {
         let open = self.open.pop().expect("a close follows its open");
         self.nodes[open].link = self.nodes.len() as u32;
         self.leaf(kind, 0, text, 0)
     }
 
     /// Closes the innermost open by a BlockEnd.
-    pub fn end(&mut self) -> &mut Sketch {
+    pub fn end(&mut self) -> &mut Builder {
         self.close(kind::BLOCK_END, "")
     }
 
-    pub fn text(&mut self, text: &str) -> &mut Sketch {
+    pub fn text(&mut self, text: &str) -> &mut Builder {
         self.leaf(kind::TEXT, 0, text, 0)
     }
 

@@ -5,9 +5,9 @@ use crate::document::{Document, Entry, Node, entries, kind};
 use crate::forms::CONSTANT;
 use crate::refusals::{is_blank, marker_name};
 
-/// Of a finding's words, those that its text is asked for with.
+/// Of a finding's words, those that its text depends on.
 #[derive(Clone, Copy, Debug, Default, PartialEq, Eq)]
-pub struct Asked {
+pub struct Request {
     pub code: u64,
     pub form: u64,
     pub node: u64,
@@ -15,9 +15,9 @@ pub struct Asked {
     pub second: u64,
 }
 
-impl From<&[u64; 8]> for Asked {
-    fn from(&[_, code, _, _, node, form, first, second]: &[u64; 8]) -> Asked {
-        Asked {
+impl From<&[u64; 8]> for Request {
+    fn from(&[_, code, _, _, node, form, first, second]: &[u64; 8]) -> Request {
+        Request {
             code,
             form,
             node,
@@ -27,9 +27,9 @@ impl From<&[u64; 8]> for Asked {
     }
 }
 
-/// What the records of a list ask for; a rest of words is no record.
-pub fn requests(list: &[u64]) -> impl Iterator<Item = Asked> {
-    list.as_chunks().0.iter().map(Asked::from)
+/// A request for each record of a list; a rest of words is no record.
+pub fn requests(list: &[u64]) -> impl Iterator<Item = Request> {
+    list.as_chunks().0.iter().map(Request::from)
 }
 
 /// An accepted document, for its texts.
@@ -44,32 +44,32 @@ impl<'a> Reader<'a> {
         Reader {
             document,
             source: std::str::from_utf8(&document.source).expect("an accepted source is UTF-8"),
-            entries: entries(&document.table).expect("an accepted table is laid out"),
+            entries: entries(&document.table).expect("an accepted table has its layout"),
         }
     }
 
     /// The text, or `None` where number 12 turns it back.
-    pub fn text(&self, asked: Asked) -> Option<String> {
-        let Asked { code, form, .. } = asked;
-        self.node(asked.node)?;
+    pub fn text(&self, request: Request) -> Option<String> {
+        let Request { code, form, .. } = request;
+        self.node(request.node)?;
         let known = |&&(its_code, its_form, _): &&(u32, u64, &str)| {
             (u64::from(its_code), its_form) == (code, form)
         };
         match CONSTANT.iter().find(known) {
             Some((_, _, text)) => Some(text.to_string()),
-            None => self.filled(asked),
+            None => self.filled(request),
         }
     }
 
     /// A text that shows something of the document or of the finding.
-    fn filled(&self, asked: Asked) -> Option<String> {
-        let Asked {
+    fn filled(&self, request: Request) -> Option<String> {
+        let Request {
             code,
             form,
             node,
             first,
             second,
-        } = asked;
+        } = request;
         Some(match (code, form) {
             (5, 0) => should_be_uppercase(self.book_code(node)?),
             (5, 1) => format!(
@@ -215,9 +215,9 @@ fn misplaced(name: &str) -> Option<String> {
     ))
 }
 
-/// The texts of a list, laid one behind another over a list of bytes: up to the first that has none or no room.
+/// The texts of a list, written one behind another over a list of bytes: up to the first that has none or no room.
 #[derive(Clone, Debug, Default, PartialEq, Eq)]
-pub struct Together {
+pub struct WrittenTexts {
     pub bytes: Vec<u8>,
     /// Where each text ends.
     pub ends: Vec<u64>,
@@ -225,22 +225,25 @@ pub struct Together {
     pub stopped: Option<(u64, u64)>,
 }
 
-pub fn together<T: AsRef<str>>(texts: impl Iterator<Item = Option<T>>, room: usize) -> Together {
-    let mut laid = Together::default();
+pub fn written_texts<T: AsRef<str>>(
+    texts: impl Iterator<Item = Option<T>>,
+    room: usize,
+) -> WrittenTexts {
+    let mut written = WrittenTexts::default();
     for text in texts {
         let Some(text) = text else {
-            laid.stopped = Some((12, 0));
+            written.stopped = Some((12, 0));
             break;
         };
         let text = text.as_ref().as_bytes();
-        if laid.bytes.len() + text.len() > room {
-            laid.stopped = Some((13, text.len() as u64));
+        if written.bytes.len() + text.len() > room {
+            written.stopped = Some((13, text.len() as u64));
             break;
         }
-        laid.bytes.extend_from_slice(text);
-        laid.ends.push(laid.bytes.len() as u64);
+        written.bytes.extend_from_slice(text);
+        written.ends.push(written.bytes.len() as u64);
     }
-    laid
+    written
 }
 
 #[cfg(test)]

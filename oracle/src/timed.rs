@@ -1,23 +1,23 @@
 //! The whole check beside the published `validate`, by the clock: both over the same documents, taken in turn.
 
 #[cfg(feature = "library")]
-mod beside;
+mod measured;
 mod sheet;
-mod watch;
+mod timer;
 
 use std::hint::black_box;
 
 use crate::cst::Cursor;
 use crate::document::Document;
-use crate::judge::{published_node, with_table};
+use crate::published::{published_node, with_table};
 use crate::tape::Tape;
 use crate::validate::validate;
 
 #[cfg(feature = "library")]
-pub use beside::{Best, Measured, Texts};
+pub use measured::{Best, Measured, Texts};
 pub use sheet::{Sheet, grouped, seconds};
 
-use watch::Watch;
+use timer::Timer;
 
 /// Documents under one table, with the nodes that the published code reads.
 pub struct Published<'a> {
@@ -56,10 +56,10 @@ impl Published<'_> {
     pub fn run(&self) -> (f64, u64) {
         let (mut seconds, mut total) = (0.0, 0);
         for (document, &cursor) in self.documents.iter().zip(&self.cursors) {
-            let watch = Watch::start();
+            let timer = Timer::start();
             let read = black_box(std::str::from_utf8(black_box(&document.source)));
             let found = black_box(validate(black_box(cursor)));
-            seconds += watch.seconds();
+            seconds += timer.seconds();
             assert!(read.is_ok());
             total += found.len() as u64;
         }

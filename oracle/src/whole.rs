@@ -1,12 +1,12 @@
-//! The whole check, its texts and its tally beside what document 01 and the published code owe: answers, findings, texts, and
+//! The whole check, its texts and its tally beside what document 01 and the published code give: answers, findings, texts, and
 //! every element of every lent list with the bytes around it.
 
 mod counts;
 mod findings;
 mod limits;
+mod messages;
 mod reports;
 mod slots;
-mod told;
 mod workers;
 
 use harkoxin::raw::OpenStart;
@@ -15,7 +15,7 @@ use harkoxin::{Checker, Report, Table, Tape};
 use crate::differ::agree;
 use crate::document::Document;
 use crate::faults;
-use crate::judge::{Judged, try_judge};
+use crate::published::{Validated, try_validate};
 use crate::reached::Function;
 use crate::refusals::{refusal, verses_visited, working_list_refusal};
 use crate::rng::Rng;
@@ -24,7 +24,7 @@ use crate::texts::{Reader, requests};
 pub use counts::Counts;
 use findings::{same_counts, same_findings, same_nodes, severities, words_of};
 use slots::Slots;
-pub use workers::{Source, all_threads, compare_seeds, told, without_holes};
+pub use workers::{Source, all_threads, compare_seeds, expect_all_reached, failure_message};
 
 /// Words of an answer: verdict, number, place, total, written, verses, errors, warnings, infos.
 pub const ANSWER_WORDS: usize = 9;
@@ -37,8 +37,8 @@ const REFUSED: u64 = 2;
 const NODE: usize = 4;
 const FIRST: usize = 6;
 
-/// What an accepted document owes.
-struct Owed<'a> {
+/// What a check of an accepted document must give.
+struct Expected<'a> {
     document: &'a Document,
     reader: Reader<'a>,
     /// Its findings, eight words each, and their texts.
@@ -47,7 +47,7 @@ struct Owed<'a> {
     verses: u64,
 }
 
-impl Owed<'_> {
+impl Expected<'_> {
     fn nodes(&self) -> u64 {
         self.document.node_count() as u64
     }
@@ -97,8 +97,8 @@ impl Comparison {
     ) -> Result<(), String> {
         let number = u64::from(number);
         let report = self.report();
-        let told = report.err().map(|refusal| (refusal.number, refusal.place));
-        agree("a report's refusal", told, Some((number, place)))?;
+        let refused = report.err().map(|refusal| (refusal.number, refusal.place));
+        agree("a report's refusal", refused, Some((number, place)))?;
         self.counts.reached.answer(Function::Checker, number);
         let findings = rng.below(4);
         self.lend_lists(lengths, findings, ANSWER_WORDS, rng);
@@ -115,8 +115,8 @@ impl Comparison {
         lengths: (usize, usize),
         rng: &mut Rng,
     ) -> Result<(), String> {
-        let owed = self.reported(document)?;
-        self.lend_lists(lengths, owed.texts.len(), ANSWER_WORDS, rng);
+        let expected = self.reported(document)?;
+        self.lend_lists(lengths, expected.texts.len(), ANSWER_WORDS, rng);
         let (seen, opens) = lengths;
         match working_list_refusal(document.node_count(), seen, opens) {
             Some((number, place)) => {
@@ -124,15 +124,15 @@ impl Comparison {
                 self.report_refused((number.into(), place), lengths, rng)?;
             }
             None => {
-                self.check(&owed)?;
-                self.report_checked(&owed, lengths, rng)?;
+                self.check(&expected)?;
+                self.report_checked(&expected, lengths, rng)?;
             }
         }
         if rng.one_in(16) {
-            self.limits(&owed, rng)?;
+            self.limits(&expected, rng)?;
         }
-        self.texts(&owed, rng)?;
-        self.tallies(&owed.list, owed.nodes(), rng)
+        self.texts(&expected, rng)?;
+        self.tallies(&expected.list, expected.nodes(), rng)
     }
 
     /// The check through the binding, with lists of its own.
@@ -145,16 +145,16 @@ impl Comparison {
 
     /// The report of an accepted document beside the published findings. Where a sum of the published code leaves 32 bits,
     /// the texts are those that document 01 has for the report's findings.
-    fn reported<'a>(&mut self, document: &'a Document) -> Result<Owed<'a>, String> {
+    fn reported<'a>(&mut self, document: &'a Document) -> Result<Expected<'a>, String> {
         let report = self.report().map_err(|refusal| refusal.to_string())?;
         self.counts.reached.answer(Function::Checker, 0);
         let (list, reader) = (words_of(&report), Reader::new(document));
-        let plain = requests(&list).map(|asked| reader.text(asked));
+        let plain = requests(&list).map(|request| reader.text(request));
         let plain: Option<Vec<String>> = plain.collect();
         let texts = plain.ok_or("a finding has no text")?;
-        match try_judge(document)? {
-            Judged::Findings(found) => same_findings(&report, &list, &found)?,
-            Judged::Overflowed => self.counts.past_32_bits += 1,
+        match try_validate(document)? {
+            Validated::Findings(found) => same_findings(&report, &list, &found)?,
+            Validated::Overflowed => self.counts.past_32_bits += 1,
         }
         for (finding, text) in report.findings().zip(&texts) {
             agree("a text", finding.message(), text)?;
@@ -163,7 +163,7 @@ impl Comparison {
         let verses = verses_visited(document);
         same_counts(&report, &list, verses)?;
         self.counts.accepted(document.node_count(), &list);
-        Ok(Owed {
+        Ok(Expected {
             document,
             reader,
             list,
@@ -205,29 +205,29 @@ impl Comparison {
         self.expect_lists(0, &[], &refused_words(number, place))
     }
 
-    fn check(&mut self, owed: &Owed<'_>) -> Result<(), String> {
+    fn check(&mut self, expected: &Expected<'_>) -> Result<(), String> {
         self.slots.check();
-        let (written, answer) = self.owed_answer(owed);
+        let (written, answer) = self.expected_answer(expected);
         let is_cut = answer[0] == CUT;
         self.counts.checked(is_cut, written as u64);
         self.counts.reached.answer(Function::Check, 0);
-        let list = &owed.list[..written * FINDING_WORDS];
-        self.expect_lists(owed.document.node_count(), list, &answer)
+        let list = &expected.list[..written * FINDING_WORDS];
+        self.expect_lists(expected.document.node_count(), list, &answer)
     }
 
     /// How many findings the lent list can hold, and the answer of a check.
-    fn owed_answer(&self, owed: &Owed<'_>) -> (usize, [u64; ANSWER_WORDS]) {
-        let total = owed.texts.len();
+    fn expected_answer(&self, expected: &Expected<'_>) -> (usize, [u64; ANSWER_WORDS]) {
+        let total = expected.texts.len();
         let written = total.min(self.slots.list.len() / FINDING_WORDS);
         let verdict = if written < total { CUT } else { CHECKED };
-        let [errors, warnings, infos] = severities(&owed.list);
+        let [errors, warnings, infos] = severities(&expected.list);
         let answer = [
             verdict,
             0,
             0,
             total as u64,
             written as u64,
-            owed.verses,
+            expected.verses,
             errors,
             warnings,
             infos,
@@ -235,7 +235,7 @@ impl Comparison {
         (written, answer)
     }
 
-    /// The lists after a check: so many entries of the working lists are zero, these words and the answer are laid.
+    /// The lists after a check: so many entries of the working lists are zero, these words and the answer are written.
     fn expect_lists(&self, n: usize, words: &[u64], answer: &[u64]) -> Result<(), String> {
         self.slots.seen.expect("the chapters seen", &vec![0; n])?;
         let cleared = vec![OpenStart::default(); n];

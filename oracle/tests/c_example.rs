@@ -5,12 +5,12 @@ use std::fmt::Write;
 use oracle::coverage::code_name;
 use oracle::document::Document;
 use oracle::examples::examples;
-use oracle::judge::{Judged, judge};
+use oracle::published::{Validated, validate};
 use oracle::refusals::{refusal, verses_visited};
 
 const FOLDERS: [&str; 7] = [
     "listing",
-    "telling",
+    "each-code",
     "greek",
     "arabic",
     "clean",
@@ -26,7 +26,7 @@ fn printed(out: &mut String, name: &str, document: &Document) {
         writeln!(out, "{name}: refused by number {number}, place {place}").unwrap();
         return;
     }
-    let Judged::Findings(findings) = judge(document) else {
+    let Validated::Findings(findings) = validate(document) else {
         panic!("no sum of an example leaves 32 bits");
     };
     let count = |severity| findings.iter().filter(|f| f.severity == severity).count();

@@ -1,23 +1,23 @@
 //! What `crates/trial_limits` prints of trial items 13 to 15, by the published code and the plain refusals.
 
 use oracle::document::{Document, kind};
-use oracle::judge::{Judged, judge};
+use oracle::published::{Validated, validate};
 use oracle::refusals::{refusal, verses_visited};
-use oracle::samples::{Sketch, entry, node};
+use oracle::samples::{Builder, entry, node};
 
 /// Total and verses of an accepted document, or number and place.
 fn outcome(document: &Document) -> Result<(usize, u64), (u32, u64)> {
     if let Some(refused) = refusal(document, usize::MAX, usize::MAX) {
         return Err(refused);
     }
-    match judge(document) {
-        Judged::Findings(list) => Ok((list.len(), verses_visited(document))),
-        Judged::Overflowed => panic!("no sum leaves 32 bits here"),
+    match validate(document) {
+        Validated::Findings(list) => Ok((list.len(), verses_visited(document))),
+        Validated::Overflowed => panic!("no sum leaves 32 bits here"),
     }
 }
 
 fn flat(n: usize) -> Document {
-    let mut document = Sketch::default().under(&[entry("v", 2, 0)]);
+    let mut document = Builder::default().under(&[entry("v", 2, 0)]);
     let mut nodes = vec![node(kind::VERSE, 0, 0, 0, 0); n];
     if let Some(root) = nodes.first_mut() {
         *root = node(kind::ROOT, 0, 0, 0, n as u32);
@@ -27,18 +27,18 @@ fn flat(n: usize) -> Document {
 }
 
 fn nested(depth: usize) -> Document {
-    let mut sketch = Sketch::default();
+    let mut builder = Builder::default();
     for _ in 0..depth {
-        sketch.open(0, "");
+        builder.open(0, "");
     }
-    sketch.leaf(kind::VERSE, 1, "", 0);
-    sketch.under(&[entry("p", 3, 2), entry("v", 2, 0)])
+    builder.leaf(kind::VERSE, 1, "", 0);
+    builder.under(&[entry("p", 3, 2), entry("v", 2, 0)])
 }
 
 fn markers(n: usize) -> Document {
-    let mut sketch = Sketch::default();
-    sketch.open(511, "").end().open(512, "").end();
-    sketch.under(&vec![entry("p", 3, 2); n])
+    let mut builder = Builder::default();
+    builder.open(511, "").end().open(512, "").end();
+    builder.under(&vec![entry("p", 3, 2); n])
 }
 
 #[test]

@@ -1,6 +1,6 @@
 //! Prints what is wrong in the documents of some folders, each of which holds `table.txt`, `source.usfm` and `nodes.bin`.
 //!
-//!     cargo run --example check_folder -- ../../examples/listing ../../examples/telling
+//!     cargo run --example check_folder -- ../../examples/listing ../../examples/each-code
 
 use std::path::Path;
 use std::process::ExitCode;

@@ -23,9 +23,9 @@ struct Lent<'a> {
     tape: &'a [u8],
 }
 
-/// What a report call gave: the counts, how many findings the list holds, how many bytes were lent for their texts, and what
-/// was answered of these.
-struct Told {
+/// What a report call gave: the counts, how many findings the list holds, how many bytes were lent for their texts, and the
+/// answer about the texts.
+struct ReportAnswer {
     counts: Counts,
     written: u64,
     bytes: usize,
@@ -127,27 +127,27 @@ impl Checker {
             source,
             tape: tape.as_bytes(),
         };
-        let told = self.find(lent, tape.len())?;
-        let texts = self.gather(lent, &told)?;
-        Report::new(told.counts, &self.list, texts)
+        let answer = self.find(lent, tape.len())?;
+        let texts = self.gather(lent, &answer)?;
+        Report::new(answer.counts, &self.list, texts)
     }
 
     /// Has the findings and their texts written: by one call, or by a second where there are more findings than nodes.
-    fn find(&mut self, lent: Lent<'_>, nodes: usize) -> Result<Told, Refusal> {
+    fn find(&mut self, lent: Lent<'_>, nodes: usize) -> Result<ReportAnswer, Refusal> {
         // A longer tape is turned back by number 4 before the working lists are looked at.
         let nodes = nodes.min(MOST_NODES);
         lengthen(&mut self.seen, nodes);
         lengthen(&mut self.opens, nodes);
-        let told = self.report(lent, nodes.min(self.max_findings))?;
-        let wanted = told.counts.total.min(self.max_findings as u64);
-        if wanted <= told.written {
-            return Ok(told);
+        let answer = self.report(lent, nodes.min(self.max_findings))?;
+        let wanted = answer.counts.total.min(self.max_findings as u64);
+        if wanted <= answer.written {
+            return Ok(answer);
         }
         self.report(lent, wanted as usize)
     }
 
     /// One call, with room for at least so many findings.
-    fn report(&mut self, lent: Lent<'_>, findings: usize) -> Result<Told, Refusal> {
+    fn report(&mut self, lent: Lent<'_>, findings: usize) -> Result<ReportAnswer, Refusal> {
         lengthen(&mut self.list, FINDING_WORDS * findings);
         let findings = self.list.len() / FINDING_WORDS;
         self.room.lengthen(findings, self.max_text);
@@ -176,7 +176,7 @@ impl Checker {
             warnings,
             infos,
         };
-        Ok(Told {
+        Ok(ReportAnswer {
             counts,
             written,
             bytes,
@@ -184,11 +184,11 @@ impl Checker {
         })
     }
 
-    /// The texts of the findings that the list holds: those that are told, and by further calls those that had no room.
-    fn gather(&mut self, lent: Lent<'_>, told: &Told) -> Result<Texts, Refusal> {
-        let words = FINDING_WORDS.saturating_mul(told.written as usize);
+    /// The texts of the findings that the list holds: those that are written, and by further calls those that had no room.
+    fn gather(&mut self, lent: Lent<'_>, answer: &ReportAnswer) -> Result<Texts, Refusal> {
+        let words = FINDING_WORDS.saturating_mul(answer.written as usize);
         let list = self.list.get(..words).unwrap_or_default();
-        let ask = |list: &[u64], ends: &mut [u64], text: &mut [u8]| {
+        let messages = |list: &[u64], ends: &mut [u64], text: &mut [u8]| {
             let mut out = [0; raw::MESSAGES_WORDS];
             raw::messages(
                 lent.table,
@@ -202,6 +202,6 @@ impl Checker {
             out
         };
         let (room, limit) = (&mut self.room, self.max_text);
-        texts::gather(list, room, limit, told.bytes, told.texts, ask)
+        texts::gather(list, room, limit, answer.bytes, answer.texts, messages)
     }
 }

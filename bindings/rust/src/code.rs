@@ -98,7 +98,7 @@ codes! {
     DuplicateChapter,
     /// A verse that isn't the next.
     InvalidVerseSequence,
-    /// A verse outside any body paragraph; told once.
+    /// A verse outside any body paragraph; reported once.
     VerseOutsideParagraph,
     /// A marker of notes outside any note.
     NoteSubmarkerOutsideNote,

@@ -40,7 +40,7 @@
 //!
 //! # What is lent
 //!
-//! Nothing is asked of a caller. A table that breaks its layout, bytes that aren't UTF-8, a tape whose links don't pair: each
+//! Nothing is required of a caller. A table that breaks its layout, bytes that aren't UTF-8, a tape whose links don't pair: each
 //! gives a [`Refusal`] with its number and place, and no call panics. Nothing is copied on the way in.
 //!
 //! # Memory

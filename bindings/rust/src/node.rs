@@ -1,4 +1,4 @@
-//! A node of a tape, as the published `Node` of `usfm3` lays it out.
+//! A node of a tape, with the layout of the published `Node` of `usfm3`.
 
 use std::mem::offset_of;
 

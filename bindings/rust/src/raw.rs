@@ -1,6 +1,6 @@
 //! The library's functions over plain slices, which a caller lends.
 //!
-//! Each lays its answer over `out`, as far as that has room, and says a refusal by its number and its place. None asks
+//! Each writes its answer over `out`, as far as that has room, and says a refusal by its number and its place. None requires
 //! anything of its caller: lists may be of any length and hold anything. A list of findings has [`FINDING_WORDS`] words for
 //! each: severity, code, start, len, node, form, and two numbers.
 //!
@@ -36,7 +36,7 @@ pub const REPORT_WORDS: usize = CHECK_WORDS + MESSAGES_WORDS;
 /// Words of the answer of [`tally`].
 pub const TALLY_WORDS: usize = 3;
 
-/// A verdict: all that was asked for is done.
+/// A verdict: all that was requested is done.
 pub const DONE: u64 = 0;
 
 /// A verdict: the findings list of [`check`] is cut, or [`messages`] stopped before a text.
@@ -146,7 +146,7 @@ mod library {
     }
 }
 
-/// Checks a document: its findings are laid over `list`, as far as that has room.
+/// Checks a document: its findings are written over `list`, as far as that has room.
 ///
 /// The working lists `seen` and `opens` need an entry for each node; what they hold doesn't matter. After a checked document
 /// the entries of the nodes are zero, both fields of an open start, and the rest of each list is as it was. A refusal changes
@@ -181,7 +181,7 @@ pub fn check(
     out: &mut [u64],
 ) {
     // SAFETY: each pointer comes with the length of its own slice, and no slice that is written overlaps another, since it
-    // is borrowed mutably. The function is proved to ask for nothing else and to keep no pointer.
+    // is borrowed mutably. The function is proved to require nothing else and to keep no pointer.
     unsafe {
         library::harkoxin_check(
             table.as_ptr(),
@@ -202,9 +202,9 @@ pub fn check(
     }
 }
 
-/// Of a finding's words, those that its text is asked for with.
+/// Of a finding's words, those that its text depends on.
 #[derive(Clone, Copy, PartialEq, Eq, Debug, Default)]
-pub struct Asked {
+pub struct MessageRequest {
     /// The code's number.
     pub code: u64,
     /// Which of the code's texts.
@@ -217,9 +217,9 @@ pub struct Asked {
     pub second: u64,
 }
 
-impl From<&[u64; FINDING_WORDS]> for Asked {
+impl From<&[u64; FINDING_WORDS]> for MessageRequest {
     fn from(&[_, code, _, _, node, form, first, second]: &[u64; FINDING_WORDS]) -> Self {
-        Asked {
+        MessageRequest {
             code,
             form,
             node,
@@ -229,14 +229,14 @@ impl From<&[u64; FINDING_WORDS]> for Asked {
     }
 }
 
-/// Lays the text of one finding over `text`.
+/// Writes the text of one finding over `text`.
 ///
 /// `out`: verdict ([`DONE`] or [`REFUSED`]), number, place, the text's length.
 pub fn message(
     table: &[u8],
     source: &[u8],
     tape: &[u8],
-    asked: Asked,
+    request: MessageRequest,
     text: &mut [u8],
     out: &mut [u64],
 ) {
@@ -249,11 +249,11 @@ pub fn message(
             source.len(),
             tape.as_ptr(),
             tape.len(),
-            asked.code,
-            asked.form,
-            asked.node,
-            asked.first,
-            asked.second,
+            request.code,
+            request.form,
+            request.node,
+            request.first,
+            request.second,
             text.as_mut_ptr(),
             text.len(),
             out.as_mut_ptr(),
@@ -262,12 +262,12 @@ pub fn message(
     }
 }
 
-/// Lays the texts of a list's findings over `text`, one behind another, up to the first that has none or no room; `ends` says
+/// Writes the texts of a list's findings over `text`, one behind another, up to the first that has none or no room; `ends` says
 /// where each ends, as far as it has room. A rest of fewer than [`FINDING_WORDS`] words isn't looked at. It reads the document
 /// once, where [`message`] reads it for each text.
 ///
-/// `out`: verdict ([`DONE`], [`CUT`] or [`REFUSED`]), number, place, texts told, bytes that they take. Where it is cut, number
-/// and place are those of the next text: 12, or 13 with its length.
+/// `out`: verdict ([`DONE`], [`CUT`] or [`REFUSED`]), number, place, texts written, bytes that they take. Where it is cut,
+/// number and place are those of the next text: 12, or 13 with its length.
 pub fn messages(
     table: &[u8],
     source: &[u8],
@@ -298,8 +298,8 @@ pub fn messages(
     }
 }
 
-/// Checks a document as [`check`] does, and lays the texts of the findings that it wrote over `text` as [`messages`] does of a
-/// list, by one reading of the document. A refusal changes no list.
+/// Checks a document as [`check`] does, and writes the texts of the findings that the list then holds over `text` as
+/// [`messages`] does, by one reading of the document. A refusal changes no list.
 ///
 /// `out`: the nine words of [`check`], then the five of [`messages`].
 ///
@@ -364,7 +364,7 @@ pub fn report(
     }
 }
 
-/// Counts the findings of a list by code; the counts are laid over `counts`, as far as that has room.
+/// Counts the findings of a list by code; the counts are written over `counts`, as far as that has room.
 ///
 /// `out`: verdict ([`DONE`] or [`REFUSED`]), number, place.
 pub fn tally(list: &[u64], counts: &mut [u64], out: &mut [u64]) {

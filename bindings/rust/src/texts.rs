@@ -1,4 +1,4 @@
-//! The texts of findings, asked for by as few calls as may be and held as one string.
+//! The texts of findings, requested by as few calls as possible and held as one string.
 
 use crate::raw::{DONE, FINDING_WORDS, MESSAGES_WORDS};
 use crate::refusal::Refusal;
@@ -80,20 +80,20 @@ impl Texts {
         }
     }
 
-    /// Adds the texts that one call told, and says how many bytes the next one needs, if any is left. So many bytes were lent.
+    /// Adds the texts that one call wrote, and says how many bytes the next one needs, if any is left. So many bytes were lent.
     fn take(
         &mut self,
         room: &Room,
         lent: usize,
-        [verdict, number, place, told, _]: [u64; MESSAGES_WORDS],
+        [verdict, number, place, written, _]: [u64; MESSAGES_WORDS],
     ) -> Result<Option<usize>, Refusal> {
-        let ends = room.ends.get(..told as usize).unwrap_or_default();
+        let ends = room.ends.get(..written as usize).unwrap_or_default();
         self.extend(&room.bytes, ends);
         if verdict == DONE {
             return Ok(None);
         }
         let needed = place as usize;
-        // A text that had room and isn't told would be asked for again without end.
+        // A text that had room and isn't written would be requested again without end.
         if number != NO_ROOM || (ends.is_empty() && needed <= lent) {
             return Err(Refusal { number, place });
         }
@@ -102,8 +102,8 @@ impl Texts {
 }
 
 /// The texts of a list's findings, as many as take at most `limit` bytes. The first of them are in the room, with what the
-/// library answered, which was lent so many bytes for them. `ask` is the library's call for more: the list, the ends and the
-/// bytes that are lent, the answer.
+/// library answered, which was lent so many bytes for them. `messages` is the library's call for more: the list, the ends and
+/// the bytes that are lent, the answer.
 ///
 /// The bytes that are lent double from call to call, so that there are few calls; each reads the whole document.
 pub(crate) fn gather(
@@ -112,7 +112,7 @@ pub(crate) fn gather(
     limit: usize,
     mut lent: usize,
     mut answer: [u64; MESSAGES_WORDS],
-    mut ask: impl FnMut(&[u64], &mut [u64], &mut [u8]) -> [u64; MESSAGES_WORDS],
+    mut messages: impl FnMut(&[u64], &mut [u64], &mut [u8]) -> [u64; MESSAGES_WORDS],
 ) -> Result<Texts, Refusal> {
     let mut texts = Texts::default();
     let findings = list.len() / FINDING_WORDS;
@@ -127,7 +127,7 @@ pub(crate) fn gather(
         lengthen(&mut room.bytes, more.max(needed));
         let rest = list.get(FINDING_WORDS * texts.len()..).unwrap_or_default();
         lent = room.bytes.len().min(left);
-        answer = ask(rest, &mut room.ends, &mut room.bytes[..lent]);
+        answer = messages(rest, &mut room.ends, &mut room.bytes[..lent]);
     }
 }
 
@@ -142,31 +142,31 @@ mod tests {
         ends: &mut [u64],
         bytes: &mut [u8],
     ) -> [u64; MESSAGES_WORDS] {
-        let (mut told, mut used) = (0, 0);
+        let (mut written, mut used) = (0, 0);
         for record in list.chunks_exact(FINDING_WORDS) {
             let text = texts[record[0] as usize];
             let Some(place) = bytes.get_mut(used..used + text.len()) else {
-                return [1, NO_ROOM, text.len() as u64, told as u64, used as u64];
+                return [1, NO_ROOM, text.len() as u64, written as u64, used as u64];
             };
             place.copy_from_slice(text);
             used += text.len();
-            ends[told] = used as u64;
-            told += 1;
+            ends[written] = used as u64;
+            written += 1;
         }
-        [DONE, 0, 0, told as u64, used as u64]
+        [DONE, 0, 0, written as u64, used as u64]
     }
 
-    /// What is gathered from a library that is asked each time, the first time too.
-    fn asked(
+    /// What is gathered from a library that is called each time, the first time too.
+    fn gather_by_calls(
         list: &[u64],
         limit: usize,
-        mut ask: impl FnMut(&[u64], &mut [u64], &mut [u8]) -> [u64; MESSAGES_WORDS],
+        mut messages: impl FnMut(&[u64], &mut [u64], &mut [u8]) -> [u64; MESSAGES_WORDS],
     ) -> Result<Texts, Refusal> {
         let mut room = Room::default();
         room.lengthen(list.len() / FINDING_WORDS, limit);
         let lent = room.bytes.len();
-        let answer = ask(list, &mut room.ends, &mut room.bytes);
-        gather(list, &mut room, limit, lent, answer, ask)
+        let answer = messages(list, &mut room.ends, &mut room.bytes);
+        gather(list, &mut room, limit, lent, answer, messages)
     }
 
     /// What is gathered of these texts within a limit, and the number of calls.
@@ -175,37 +175,37 @@ mod tests {
             .flat_map(|k| [k; FINDING_WORDS])
             .collect();
         let mut calls = 0;
-        let told = asked(&list, limit, |list, ends, bytes| {
+        let found = gather_by_calls(&list, limit, |list, ends, bytes| {
             calls += 1;
             library(texts, list, ends, bytes)
         });
-        let told = told.unwrap();
-        let strings = (0..told.len()).map(|k| told.get(k).unwrap().to_string());
+        let found = found.unwrap();
+        let strings = (0..found.len()).map(|k| found.get(k).unwrap().to_string());
         (strings.collect(), calls)
     }
 
     #[test]
     fn short_texts_take_one_call() {
-        let (told, calls) = gathered(&[b"one", b"", b"three"], 1_000);
-        assert_eq!(told, ["one", "", "three"]);
+        let (texts, calls) = gathered(&[b"one", b"", b"three"], 1_000);
+        assert_eq!(texts, ["one", "", "three"]);
         assert_eq!(calls, 1);
         assert_eq!(gathered(&[], 1_000), (vec![], 1));
     }
 
     #[test]
-    fn a_long_text_is_asked_for_again_with_room() {
+    fn a_long_text_is_requested_again_with_room() {
         let long = [b'a'; 700];
-        let (told, calls) = gathered(&[b"one", &long, b"three", &long], 10_000);
-        assert_eq!(told[1], "a".repeat(700));
-        assert_eq!((told[2].as_str(), told[3].len()), ("three", 700));
+        let (texts, calls) = gathered(&[b"one", &long, b"three", &long], 10_000);
+        assert_eq!(texts[1], "a".repeat(700));
+        assert_eq!((texts[2].as_str(), texts[3].len()), ("three", 700));
         assert_eq!(calls, 3);
     }
 
     #[test]
     fn calls_are_few_when_all_texts_are_long() {
         let long = [b'a'; 1_000];
-        let (told, calls) = gathered(&[&long[..]; 500], usize::MAX);
-        assert_eq!(told.len(), 500);
+        let (texts, calls) = gathered(&[&long[..]; 500], usize::MAX);
+        assert_eq!(texts.len(), 500);
         assert!(calls <= 5, "{calls} calls");
     }
 
@@ -221,14 +221,14 @@ mod tests {
     #[test]
     fn the_limit_holds_for_later_calls() {
         let long = [b'a'; 200];
-        let (told, calls) = gathered(&[&long, &long, b"x"], 400);
-        assert_eq!((told.len(), calls), (2, 2));
+        let (texts, calls) = gathered(&[&long, &long, b"x"], 400);
+        assert_eq!((texts.len(), calls), (2, 2));
     }
 
     #[test]
     fn bytes_that_are_no_utf8_are_replaced() {
-        let (told, _) = gathered(&[b"caf\xE9", "é".as_bytes()], 100);
-        assert_eq!(told, ["caf\u{FFFD}", "é"]);
+        let (texts, _) = gathered(&[b"caf\xE9", "é".as_bytes()], 100);
+        assert_eq!(texts, ["caf\u{FFFD}", "é"]);
     }
 
     #[test]
@@ -237,8 +237,8 @@ mod tests {
         assert_eq!(whole(b"ab\xC3\xA9", &[3, 4]), None);
         assert_eq!(whole(b"abcd", &[3, 2, 4]), None);
         assert_eq!(whole(b"abcd", &[5]), None);
-        let (told, _) = gathered(&[b"\xC3", b"\xA9"], 100);
-        assert_eq!(told, ["\u{FFFD}", "\u{FFFD}"]);
+        let (texts, _) = gathered(&[b"\xC3", b"\xA9"], 100);
+        assert_eq!(texts, ["\u{FFFD}", "\u{FFFD}"]);
     }
 
     #[test]
@@ -254,11 +254,11 @@ mod tests {
     fn from_answer(answer: [u64; MESSAGES_WORDS]) -> (Result<Texts, Refusal>, usize) {
         let list = [0; 2 * FINDING_WORDS];
         let mut calls = 0;
-        let told = asked(&list, 1_000, |_, _, _| {
+        let found = gather_by_calls(&list, 1_000, |_, _, _| {
             calls += 1;
             answer
         });
-        (told, calls)
+        (found, calls)
     }
 
     #[test]
@@ -270,7 +270,7 @@ mod tests {
     }
 
     #[test]
-    fn an_answer_that_contradicts_itself_ends_the_asking() {
+    fn an_answer_that_contradicts_itself_ends_the_calls() {
         // The text has room in the 192 bytes that are lent first.
         let number = NO_ROOM;
         for place in [0, 5, 192] {
@@ -281,9 +281,9 @@ mod tests {
         let refused = (Err(Refusal { number, place }), 2);
         assert_eq!(from_answer([1, number, place, 0, 0]), refused);
         // More texts than findings, at once and one by one.
-        let (told, calls) = from_answer([DONE, 0, 0, 9, 0]);
-        assert_eq!((told.unwrap().len(), calls), (0, 1));
-        let (told, calls) = from_answer([1, number, 5, 1, 0]);
-        assert_eq!((told.unwrap().len(), calls), (2, 2));
+        let (texts, calls) = from_answer([DONE, 0, 0, 9, 0]);
+        assert_eq!((texts.unwrap().len(), calls), (0, 1));
+        let (texts, calls) = from_answer([1, number, 5, 1, 0]);
+        assert_eq!((texts.unwrap().len(), calls), (2, 2));
     }
 }

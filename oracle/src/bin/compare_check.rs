@@ -14,10 +14,12 @@ use oracle::exhaustive::{
 };
 use oracle::faults;
 use oracle::generate::{generate, lengths};
-use oracle::judge::overflow_is_noticed;
+use oracle::published::overflow_is_noticed;
 use oracle::refusals::DEEPEST;
-use oracle::samples::{self, Sketch, entry};
-use oracle::whole::{Comparison, Counts, Source, all_threads, compare_seeds, told, without_holes};
+use oracle::samples::{self, Builder, entry};
+use oracle::whole::{
+    Comparison, Counts, Source, all_threads, compare_seeds, expect_all_reached, failure_message,
+};
 
 /// Stack of the thread that checks the deepest document.
 const SMALL_STACK: usize = 256 * 1024;
@@ -32,13 +34,13 @@ const REACHES_ALL: u64 = 200_000;
 fn compare(comparison: &mut Comparison, document: &Document, seed: u64) -> Result<(), String> {
     let lengths = lengths(seed, document.node_count());
     let compared = comparison.compare(document, seed, lengths);
-    compared.map_err(|why| told(seed, document, &why))
+    compared.map_err(|why| failure_message(seed, document, &why))
 }
 
 /// The documents by hand, each with lists of many lengths.
 fn by_hand() -> Result<Counts, String> {
     let mut comparison = Comparison::default();
-    let read = samples::TELLING.iter().map(|text| samples::read(text));
+    let read = samples::TEXTS.iter().map(|text| samples::read(text));
     let all = [samples::listing()].into_iter().chain(read);
     for document in all.chain(samples::shaped()) {
         for seed in 0..200 {
@@ -82,12 +84,12 @@ fn pairs() -> Result<Counts, String> {
 /// A verse inside as many markers as may nest, checked on a small stack.
 fn deepest() -> Result<Counts, String> {
     let check = || {
-        let mut sketch = Sketch::default();
+        let mut builder = Builder::default();
         for _ in 0..DEEPEST {
-            sketch.open(0, "\\p");
+            builder.open(0, "\\p");
         }
-        sketch.leaf(kind::VERSE, 1, "\\v 1", 1);
-        let document = sketch.under(&[entry("p", 3, 2), entry("v", 2, 0)]);
+        builder.leaf(kind::VERSE, 1, "\\v 1", 1);
+        let document = builder.under(&[entry("p", 3, 2), entry("v", 2, 0)]);
         let mut comparison = Comparison::default();
         for seed in 0..200 {
             compare(&mut comparison, &document, seed)?;
@@ -101,7 +103,7 @@ fn deepest() -> Result<Counts, String> {
 
 fn run() -> Result<(), String> {
     if !overflow_is_noticed() {
-        return Err("build with --profile judge: overflow must be noticed".to_string());
+        return Err("build with --profile compare: overflow must be noticed".to_string());
     }
     let (mut documents, mut seed, mut tokens, mut threads) = (100_000, 1, 2, all_threads());
     numbers(&mut [
@@ -110,7 +112,7 @@ fn run() -> Result<(), String> {
         ("--tokens", &mut tokens),
         ("--threads", &mut threads),
     ])?;
-    faults::tell_seeds();
+    faults::report_seeds();
     let began = Instant::now();
     println!("by hand: {}", by_hand()?.line());
     println!("deepest, on a stack of 256 KiB: {}", deepest()?.line());
@@ -124,7 +126,7 @@ fn run() -> Result<(), String> {
     let end = seed + documents;
     println!("generated, seeds {seed} to {}: {}", end - 1, sum.line());
     print!("{}", sum.reached.report());
-    without_holes(&sum, REACHES_ALL)?;
+    expect_all_reached(&sum, REACHES_ALL)?;
     let seconds = began.elapsed().as_secs_f64();
     println!("no difference, {seconds:.0} seconds");
     Ok(())

@@ -8,8 +8,8 @@ use std::{env, fs};
 use oracle::arguments::numbers;
 use oracle::document::Document;
 use oracle::generate::generate;
-use oracle::judge::{Judged, overflow_is_noticed, try_judge};
 use oracle::listing::listing;
+use oracle::published::{Validated, overflow_is_noticed, try_validate};
 use oracle::refusals::refusal;
 
 const PROGRAM: &str = concat!(env!("CARGO_MANIFEST_DIR"), "/../target/bin/check_exercise");
@@ -34,12 +34,12 @@ fn is_past_32_bits(document: &Document) -> Result<bool, String> {
     if refusal(document, usize::MAX, usize::MAX).is_some() {
         return Ok(false);
     }
-    Ok(try_judge(document)? == Judged::Overflowed)
+    Ok(try_validate(document)? == Validated::Overflowed)
 }
 
 fn run() -> Result<(), String> {
     if !overflow_is_noticed() {
-        return Err("build with --profile judge: overflow must be noticed".to_string());
+        return Err("build with --profile compare: overflow must be noticed".to_string());
     }
     let (mut documents, mut seed) = (1_000, 1);
     numbers(&mut [("--documents", &mut documents), ("--seed", &mut seed)])?;

@@ -11,10 +11,10 @@ use oracle::exhaustive::every_tape;
 use oracle::generate::generate;
 use oracle::refusals::refusal;
 use oracle::rng::Rng;
-use oracle::samples::Sketch;
+use oracle::samples::Builder;
 use oracle::{library, parts};
 
-/// What names are made of: pieces of real ones, digits, hyphens and strangers.
+/// What names are made of: pieces of real ones, digits, hyphens and other characters.
 const PIECES: [&str; 40] = [
     "v", "c", "q", "tc", "tcr", "th", "qt", "qt-s", "qt1-e", "w", "wa", "wg", "wh", "rb", "xt",
     "ref", "jmp", "periph", "fr", "ft", "fk", "fq", "fqa", "fl", "fw", "fp", "fv", "fdc", "xop",
@@ -44,7 +44,7 @@ fn longest(document: &Document) -> Option<(u32, u64)> {
     refusal(document, usize::MAX, usize::MAX)
 }
 
-/// Number 1, and the entries of a table that is laid out.
+/// Number 1, and the entries of a table that has its layout.
 fn table(document: &Document, rng: &mut Rng) {
     let table = &document.table;
     let theirs = match longest(document) {
@@ -168,7 +168,9 @@ fn labels(document: &Document, counts: &mut Counts) {
 }
 
 /// A finding without its node, which the published code doesn't say.
-fn told([severity, code, start, len, _, form, first, second]: [u64; 8]) -> parts::Told {
+fn without_node(
+    [severity, code, start, len, _, form, first, second]: [u64; 8],
+) -> parts::WordsWithoutNode {
     [severity, code, start, len, form, first, second]
 }
 
@@ -195,7 +197,7 @@ fn rows(document: &Document, rng: &mut Rng, counts: &mut Counts) {
             let span = (u64::from(node.start), u64::from(node.len));
             same("node of a cell", &(s, t, i), (finding[2], finding[3]), span);
         }
-        let ours = ours.map(|list| list.into_iter().map(told).collect());
+        let ours = ours.map(|list| list.into_iter().map(without_node).collect());
         same("validate_table_row", &(s, t, i), ours, Some(theirs));
     }
     let other = rng.below(n + 2);
@@ -220,7 +222,7 @@ fn attribute_list(input: &dyn Debug, document: &Document, theirs: parts::Attribu
         let span = (u64::from(node.start), u64::from(node.len));
         same("span of a child", input, (finding[2], finding[3]), span);
     }
-    let ours = ours.map(|list| list.into_iter().map(told).collect());
+    let ours = ours.map(|list| list.into_iter().map(without_node).collect());
     same("validate_attributes", input, ours, Some(theirs.findings));
 }
 
@@ -259,7 +261,7 @@ fn attribute(rng: &mut Rng) -> String {
 /// One attribute of one marker. The number of its findings.
 fn single_attribute(rng: &mut Rng) -> u64 {
     let (owner, text) = (rng.pick(&OWNERS), attribute(rng));
-    let document = Sketch::default()
+    let document = Builder::default()
         .open(0, owner)
         .leaf(kind::ATTRIBUTE, 0, &text, 0)
         .close(kind::MARKER_CLOSE, "\\w*")

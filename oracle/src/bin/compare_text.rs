@@ -15,8 +15,8 @@ const BORDERS: [u8; 22] = [
     0xEF, 0xF0, 0xF1, 0xF4, 0xF5, 0xFF,
 ];
 
-/// Characters that tell blanks, words and numbers apart.
-const TELLING: [char; 36] = [
+/// Blanks and near misses, and characters of words and numbers.
+const CHARACTERS: [char; 36] = [
     ' ', '\t', '\n', '\u{b}', '\r', '\u{85}', '\u{a0}', '\u{1680}', '\u{2000}', '\u{200a}',
     '\u{2028}', '\u{2029}', '\u{202f}', '\u{205f}', '\u{3000}', '\u{200b}', '\u{feff}', '\u{180e}',
     '\u{1c}', 'a', 'v', '\\', '-', '=', '"', '0', '1', '9', '+', 'é', 'λ', 'ו', 'ب', '道',
@@ -163,7 +163,7 @@ fn random_bytes(rng: &mut Rng) -> Vec<u8> {
 }
 
 fn random_text(rng: &mut Rng) -> String {
-    (0..rng.below(16)).map(|_| rng.pick(&TELLING)).collect()
+    (0..rng.below(16)).map(|_| rng.pick(&CHARACTERS)).collect()
 }
 
 /// Numbers around the limit, with signs, zeros and letters.

@@ -1,4 +1,4 @@
-//! Refuses or judges every small document.
+//! Refuses every small document or runs the published `validate` on it, and prints what they reached.
 
 use std::process::ExitCode;
 use std::time::Instant;
@@ -6,7 +6,7 @@ use std::time::Instant;
 use oracle::coverage::Coverage;
 use oracle::document::Document;
 use oracle::exhaustive::{every_nesting, every_tape};
-use oracle::judge::overflow_is_noticed;
+use oracle::published::overflow_is_noticed;
 
 /// The most nodes of a tape.
 const NODES: usize = 4;
@@ -29,7 +29,7 @@ fn counted(name: &str, each: impl FnOnce(&mut dyn FnMut(&Document))) -> Result<(
 
 fn run() -> Result<(), String> {
     if !overflow_is_noticed() {
-        return Err("build with --profile judge: overflow must be noticed".to_string());
+        return Err("build with --profile compare: overflow must be noticed".to_string());
     }
     let tokens = match std::env::args().nth(1) {
         None => 4,

@@ -9,15 +9,15 @@ use std::time::Instant;
 use oracle::arguments::numbers;
 use oracle::faults;
 use oracle::fuzz;
-use oracle::judge::overflow_is_noticed;
-use oracle::whole::{Source, all_threads, compare_seeds, without_holes};
+use oracle::published::overflow_is_noticed;
+use oracle::whole::{Source, all_threads, compare_seeds, expect_all_reached};
 
 /// So many documents reach every form and every refusal.
 const REACHES_ALL: u64 = 200_000;
 
 fn run() -> Result<(), String> {
     if !overflow_is_noticed() {
-        return Err("build with --profile judge: overflow must be noticed".to_string());
+        return Err("build with --profile compare: overflow must be noticed".to_string());
     }
     let (mut documents, mut seed, mut threads) = (100_000, 1, all_threads());
     numbers(&mut [
@@ -25,7 +25,7 @@ fn run() -> Result<(), String> {
         ("--seed", &mut seed),
         ("--threads", &mut threads),
     ])?;
-    faults::tell_seeds();
+    faults::report_seeds();
     let began = Instant::now();
     let source = Source {
         document: fuzz::document,
@@ -34,7 +34,7 @@ fn run() -> Result<(), String> {
     let sum = compare_seeds(source, seed, documents, threads as usize)?;
     println!("seeds {seed} to {}: {}", seed + documents - 1, sum.line());
     print!("{}", sum.reached.report());
-    without_holes(&sum, REACHES_ALL)?;
+    expect_all_reached(&sum, REACHES_ALL)?;
     let seconds = began.elapsed().as_secs_f64();
     println!("no difference, {seconds:.0} seconds");
     Ok(())

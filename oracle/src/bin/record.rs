@@ -8,7 +8,7 @@ use oracle::coverage::{Coverage, depth};
 use oracle::document::Document;
 use oracle::features::{FORM, Feature, REFUSAL, SHAPES, SURROUNDINGS, features};
 use oracle::generate::generate;
-use oracle::judge::overflow_is_noticed;
+use oracle::published::overflow_is_noticed;
 use oracle::recorded::{Recorded, answer, write};
 use oracle::refusals::DEEPEST;
 use oracle::samples;
@@ -51,7 +51,7 @@ fn is_small(candidate: &Candidate) -> bool {
 
 /// The documents by hand, which are all taken.
 fn by_hand() -> Result<Vec<Candidate>, String> {
-    let read = samples::TELLING.iter().map(|text| samples::read(text));
+    let read = samples::TEXTS.iter().map(|text| samples::read(text));
     let mut list = Vec::new();
     let all = [samples::listing()].into_iter().chain(read);
     for document in all.chain(samples::shaped()) {
@@ -125,7 +125,7 @@ impl Choice {
     }
 }
 
-/// Documents that show much: each round asks for less that is still wanted. Features of which
+/// Documents that show much: each round requires less of what is still wanted. Features of which
 /// there are few come first; each group has its share of the file.
 fn choose(choice: &mut Choice, candidates: &[Candidate]) {
     for (end, share) in [(SURROUNDINGS, 65), (SHAPES, 90), (u8::MAX, 100)] {
@@ -160,7 +160,7 @@ fn coverage(list: &[Recorded]) -> Result<Coverage, String> {
 
 fn run() -> Result<(), String> {
     if !overflow_is_noticed() {
-        return Err("build with --profile judge: overflow must be noticed".to_string());
+        return Err("build with --profile compare: overflow must be noticed".to_string());
     }
     let given: Vec<String> = std::env::args().skip(1).collect();
     let list = made()?;

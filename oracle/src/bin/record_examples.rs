@@ -29,7 +29,7 @@ fn files() -> Vec<(PathBuf, Vec<u8>)> {
 }
 
 fn run() -> Result<(), String> {
-    let told = |path: &Path, error: std::io::Error| format!("{}: {error}", path.display());
+    let with_path = |path: &Path, error: std::io::Error| format!("{}: {error}", path.display());
     let check = match std::env::args().nth(1).as_deref() {
         None => false,
         Some("--check") => true,
@@ -37,14 +37,14 @@ fn run() -> Result<(), String> {
     };
     for (path, bytes) in files() {
         if check {
-            let kept = fs::read(&path).map_err(|error| told(&path, error))?;
+            let kept = fs::read(&path).map_err(|error| with_path(&path, error))?;
             if kept != bytes {
                 return Err(format!("{} differs from what is made now", path.display()));
             }
         } else {
             let folder = path.parent().expect("a file stands in a folder");
-            fs::create_dir_all(folder).map_err(|error| told(&path, error))?;
-            fs::write(&path, bytes).map_err(|error| told(&path, error))?;
+            fs::create_dir_all(folder).map_err(|error| with_path(&path, error))?;
+            fs::write(&path, bytes).map_err(|error| with_path(&path, error))?;
         }
     }
     Ok(())

@@ -1,4 +1,4 @@
-//! Generates documents, refuses or judges each, and prints what they reached.
+//! Generates documents, refuses each or runs the published `validate` on it, and prints what they reached.
 
 use std::process::ExitCode;
 use std::time::Instant;
@@ -6,11 +6,11 @@ use std::time::Instant;
 use oracle::arguments::numbers;
 use oracle::coverage::Coverage;
 use oracle::generate::{generate, lengths};
-use oracle::judge::overflow_is_noticed;
+use oracle::published::overflow_is_noticed;
 
 fn run() -> Result<bool, String> {
     if !overflow_is_noticed() {
-        return Err("build with --profile judge: overflow must be noticed".to_string());
+        return Err("build with --profile compare: overflow must be noticed".to_string());
     }
     let (mut documents, mut seed) = (100_000, 1);
     numbers(&mut [("--documents", &mut documents), ("--seed", &mut seed)])?;
@@ -29,11 +29,11 @@ fn run() -> Result<bool, String> {
         "{seconds:.1} seconds, {:.0} documents a second",
         documents as f64 / seconds
     );
-    let holes = coverage.holes();
-    for hole in &holes {
-        println!("never reached: {hole}");
+    let unreached = coverage.unreached();
+    for one in &unreached {
+        println!("never reached: {one}");
     }
-    Ok(holes.is_empty())
+    Ok(unreached.is_empty())
 }
 
 fn main() -> ExitCode {

@@ -223,7 +223,7 @@ fn shape_sheet(list: &[Shape]) -> (Sheet, Vec<String>) {
     (sheet, slow)
 }
 
-/// The sections that the command line names, and whether it asks for Markdown.
+/// The sections that the command line names, and whether it has `--markdown`.
 fn chosen() -> Result<(Vec<String>, bool), String> {
     let given = std::env::args().skip(1);
     let (options, names): (Vec<String>, Vec<String>) = given.partition(|it| it.starts_with('-'));

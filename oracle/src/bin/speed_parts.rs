@@ -71,7 +71,7 @@ fn best(ours: &mut dyn FnMut() -> bool, theirs: &mut dyn FnMut() -> bool) -> (f6
     (a, b)
 }
 
-fn tell(what: &str, count: usize, (ours, theirs): (f64, f64)) {
+fn print_times(what: &str, count: usize, (ours, theirs): (f64, f64)) {
     let millions = |seconds: f64| count as f64 / seconds / 1e6;
     println!(
         "{what:24} library {:7.1} million/s   Rust {:7.1} million/s   ratio of times {:.2}",
@@ -90,11 +90,11 @@ fn main() {
         },
         &mut || black_box(black_box(&document).nodes().collect::<Vec<Node>>()).len() == n,
     );
-    tell("nodes, check / decode", n, times);
+    print_times("nodes, check / decode", n, times);
     let table = full_table();
     let times = best(
         &mut || library::table(black_box(&table)) == Ok(MARKERS),
         &mut || black_box(entries(black_box(&table))).is_some_and(|list| list.len() == MARKERS),
     );
-    tell("entries, index / read", MARKERS, times);
+    print_times("entries, index / read", MARKERS, times);
 }

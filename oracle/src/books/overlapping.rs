@@ -8,7 +8,7 @@ use super::markers::{MARKERS, marker};
 use super::shapes::{Shape, list, long_text};
 use crate::document::{Document, kind};
 use crate::refusals::LARGEST_SOURCE;
-use crate::samples::{Sketch, node};
+use crate::samples::{Builder, node};
 
 /// How many nodes share a span.
 const SHARERS: usize = 32;
@@ -24,43 +24,43 @@ pub fn overlapping() -> Vec<Shape> {
     }
 }
 
-/// A document in the making that has its source already.
-fn over(source: String) -> Sketch {
-    Sketch {
+/// A builder that has its source already.
+fn over(source: String) -> Builder {
+    Builder {
         source,
-        ..Sketch::default()
+        ..Builder::default()
     }
 }
 
-fn leaf(sketch: &mut Sketch, kind: u8, marker: u16, span: &Range<usize>) {
+fn leaf(builder: &mut Builder, kind: u8, marker: u16, span: &Range<usize>) {
     let [start, len] = [span.start, span.len()].map(|place| place as u32);
-    sketch.nodes.push(node(kind, marker, start, len, 0));
+    builder.nodes.push(node(kind, marker, start, len, 0));
 }
 
-fn open(sketch: &mut Sketch, name: &str, span: &Range<usize>) {
-    sketch.open.push(sketch.nodes.len());
-    leaf(sketch, kind::MARKER_OPEN, marker(name), span);
+fn open(builder: &mut Builder, name: &str, span: &Range<usize>) {
+    builder.open.push(builder.nodes.len());
+    leaf(builder, kind::MARKER_OPEN, marker(name), span);
 }
 
 fn names(by: usize) -> Document {
-    let mut sketch = over(long_text(LARGEST_SOURCE, "\\", "a", ""));
-    let whole = 0..sketch.source.len();
+    let mut builder = over(long_text(LARGEST_SOURCE, "\\", "a", ""));
+    let whole = 0..builder.source.len();
     for _ in 0..SHARERS / by {
-        open(&mut sketch, "add", &whole);
-        sketch.end();
+        open(&mut builder, "add", &whole);
+        builder.end();
     }
-    sketch.under(&MARKERS)
+    builder.under(&MARKERS)
 }
 
 /// Markers without a name of their own, each with one child.
-fn parents(by: usize, name: &str, kind: u8, mut sketch: Sketch) -> Document {
-    let whole = 0..sketch.source.len();
+fn parents(by: usize, name: &str, kind: u8, mut builder: Builder) -> Document {
+    let whole = 0..builder.source.len();
     for _ in 0..SHARERS / by {
-        open(&mut sketch, name, &(0..0));
-        leaf(&mut sketch, kind, 0, &whole);
-        sketch.end();
+        open(&mut builder, name, &(0..0));
+        leaf(&mut builder, kind, 0, &whole);
+        builder.end();
     }
-    sketch.under(&MARKERS)
+    builder.under(&MARKERS)
 }
 
 fn figures(by: usize) -> Document {
@@ -82,26 +82,26 @@ fn attributes(by: usize) -> Document {
 }
 
 fn verses(by: usize) -> Document {
-    let mut sketch = over(long_text(LARGEST_SOURCE, "\\v ", "0", "1"));
-    let whole = 0..sketch.source.len();
+    let mut builder = over(long_text(LARGEST_SOURCE, "\\v ", "0", "1"));
+    let whole = 0..builder.source.len();
     for _ in 0..SHARERS / by {
-        leaf(&mut sketch, kind::VERSE, marker("v"), &whole);
+        leaf(&mut builder, kind::VERSE, marker("v"), &whole);
     }
-    sketch.under(&MARKERS)
+    builder.under(&MARKERS)
 }
 
 /// The two bases differ in their last bytes alone.
 fn milestones(by: usize) -> Document {
     let base = "a".repeat(LARGEST_SOURCE / 2 - 4);
-    let mut sketch = over(format!("\\{base}a-s\\{base}b-e"));
+    let mut builder = over(format!("\\{base}a-s\\{base}b-e"));
     let half = LARGEST_SOURCE / 2;
     for span in [0..half, half..2 * half] {
         for _ in 0..SHARERS / 2 / by {
-            open(&mut sketch, "qt-s", &span);
-            sketch.end();
+            open(&mut builder, "qt-s", &span);
+            builder.end();
         }
     }
-    sketch.under(&MARKERS)
+    builder.under(&MARKERS)
 }
 
 #[cfg(test)]

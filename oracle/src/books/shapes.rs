@@ -3,7 +3,7 @@
 use super::markers::{MARKERS, marker};
 use crate::document::{Document, Entry, kind};
 use crate::refusals::{DEEPEST, LARGEST_SOURCE, MOST_MARKERS, MOST_NODES};
-use crate::samples::{Sketch, entry};
+use crate::samples::{Builder, entry};
 
 /// A shape by its name. Its documents have a share of its largest size: all of it by 1, half of it by 2.
 pub struct Shape {
@@ -95,41 +95,41 @@ fn many_of_one() -> Vec<Shape> {
 
 /// Writes blocks of so many nodes each, as many as fit beside those there are and `kept` more.
 fn repeat(
-    sketch: &mut Sketch,
+    builder: &mut Builder,
     by: usize,
     (block, kept): (usize, usize),
-    mut write: impl FnMut(&mut Sketch, usize),
+    mut write: impl FnMut(&mut Builder, usize),
 ) {
-    let room = MOST_NODES / by - sketch.nodes.len() - kept;
+    let room = MOST_NODES / by - builder.nodes.len() - kept;
     for k in 0..room / block {
-        write(sketch, k);
+        write(builder, k);
     }
 }
 
 fn chapters(by: usize, number: fn(usize) -> usize) -> Document {
-    let mut sketch = Sketch::default();
-    repeat(&mut sketch, by, (1, 0), |sketch, k| {
+    let mut builder = Builder::default();
+    repeat(&mut builder, by, (1, 0), |builder, k| {
         let number = number(k + 1);
-        sketch.leaf(
+        builder.leaf(
             kind::CHAPTER,
             marker("c"),
             &format!("\\c {number}\n"),
             number as u32,
         );
     });
-    sketch.under(&MARKERS)
+    builder.under(&MARKERS)
 }
 
-/// Milestones, each of a base and a letter that are told by its place and by the number of all.
-fn milestones(by: usize, told: impl Fn(usize, usize) -> (String, char)) -> Document {
-    let mut sketch = Sketch::default();
+/// Milestones, each of a base and a letter that its place and the number of all give.
+fn milestones(by: usize, name: impl Fn(usize, usize) -> (String, char)) -> Document {
+    let mut builder = Builder::default();
     let all = (MOST_NODES / by - 1) / 2;
-    repeat(&mut sketch, by, (2, 0), |sketch, k| {
-        let (base, letter) = told(k, all);
-        sketch.open(marker("qt-s"), &format!("\\{base}-{letter}"));
-        sketch.close(kind::MARKER_CLOSE, "\\*");
+    repeat(&mut builder, by, (2, 0), |builder, k| {
+        let (base, letter) = name(k, all);
+        builder.open(marker("qt-s"), &format!("\\{base}-{letter}"));
+        builder.close(kind::MARKER_CLOSE, "\\*");
     });
-    sketch.under(&MARKERS)
+    builder.under(&MARKERS)
 }
 
 /// Starts in the first half, ends in the second, each by its place in its half: where both have the same bases, an end is that of
@@ -171,38 +171,38 @@ const BLANKS: &str = "            ";
 
 /// A paragraph of blocks: a verse, blank texts, alternate numbers.
 fn numbers(by: usize, blanks: usize, numbers: usize) -> Document {
-    let mut sketch = Sketch::default();
-    sketch.leaf(kind::CHAPTER, marker("c"), "\\c 1\n", 1);
-    sketch.open(marker("p"), "\\p");
+    let mut builder = Builder::default();
+    builder.leaf(kind::CHAPTER, marker("c"), "\\c 1\n", 1);
+    builder.open(marker("p"), "\\p");
     repeat(
-        &mut sketch,
+        &mut builder,
         by,
         (1 + blanks + 3 * numbers, 1),
-        |sketch, k| {
-            sketch.leaf(
+        |builder, k| {
+            builder.leaf(
                 kind::VERSE,
                 marker("v"),
                 &format!("\\v {} ", k + 1),
                 k as u32 + 1,
             );
-            (0..blanks).for_each(|_| _ = sketch.text(BLANKS));
+            (0..blanks).for_each(|_| _ = builder.text(BLANKS));
             for _ in 0..numbers {
-                sketch.open(marker("va"), "\\va").text(" 3");
-                sketch.close(kind::MARKER_CLOSE, "\\va*");
+                builder.open(marker("va"), "\\va").text(" 3");
+                builder.close(kind::MARKER_CLOSE, "\\va*");
             }
         },
     );
-    sketch.under(&MARKERS)
+    builder.under(&MARKERS)
 }
 
 fn words(by: usize, blanks: usize) -> Document {
-    let mut sketch = Sketch::default();
-    repeat(&mut sketch, by, (blanks + 2, 0), |sketch, _| {
-        sketch.open(marker("w"), "\\w");
-        (0..blanks).for_each(|_| _ = sketch.text(BLANKS));
-        sketch.close(kind::MARKER_CLOSE, "\\w*");
+    let mut builder = Builder::default();
+    repeat(&mut builder, by, (blanks + 2, 0), |builder, _| {
+        builder.open(marker("w"), "\\w");
+        (0..blanks).for_each(|_| _ = builder.text(BLANKS));
+        builder.close(kind::MARKER_CLOSE, "\\w*");
     });
-    sketch.under(&MARKERS)
+    builder.under(&MARKERS)
 }
 
 /// A text of at most so many bytes: one unit over and over between two others.
@@ -217,111 +217,111 @@ fn longest(by: usize, begin: &str, unit: &str, end: &str) -> String {
 }
 
 fn attribute(by: usize, begin: &str, unit: &str, end: &str) -> Document {
-    let mut sketch = Sketch::default();
-    sketch.open(marker("w"), "\\w").text(" x");
-    sketch.leaf(kind::ATTRIBUTE, 0, &longest(by, begin, unit, end), 0);
-    sketch.close(kind::MARKER_CLOSE, "\\w*");
-    sketch.under(&MARKERS)
+    let mut builder = Builder::default();
+    builder.open(marker("w"), "\\w").text(" x");
+    builder.leaf(kind::ATTRIBUTE, 0, &longest(by, begin, unit, end), 0);
+    builder.close(kind::MARKER_CLOSE, "\\w*");
+    builder.under(&MARKERS)
 }
 
 /// A milestone start, since that one's name is read most often.
 fn long_name(by: usize, letter: &str) -> Document {
-    let mut sketch = Sketch::default();
-    sketch.open(marker("qt-s"), &longest(by, "\\", letter, "-s"));
-    sketch.close(kind::MARKER_CLOSE, "\\*");
-    sketch.under(&MARKERS)
+    let mut builder = Builder::default();
+    builder.open(marker("qt-s"), &longest(by, "\\", letter, "-s"));
+    builder.close(kind::MARKER_CLOSE, "\\*");
+    builder.under(&MARKERS)
 }
 
 fn letters(by: usize, letter: &str) -> Document {
-    let mut sketch = Sketch::default();
-    sketch.text(&longest(by, "", letter, ""));
-    sketch.under(&MARKERS)
+    let mut builder = Builder::default();
+    builder.text(&longest(by, "", letter, ""));
+    builder.under(&MARKERS)
 }
 
 /// Zeros, since other digits soon leave the 32 bits where reading can end.
 fn digits(by: usize) -> Document {
     let zeros = "0".repeat(4_000);
-    let mut sketch = Sketch::default();
-    sketch.leaf(kind::CHAPTER, marker("c"), "\\c 1\n", 1);
-    sketch.open(marker("p"), "\\p");
+    let mut builder = Builder::default();
+    builder.leaf(kind::CHAPTER, marker("c"), "\\c 1\n", 1);
+    builder.open(marker("p"), "\\p");
     for k in 1..=LARGEST_SOURCE / by / 4_010 {
-        sketch.leaf(
+        builder.leaf(
             kind::VERSE,
             marker("v"),
             &format!("\\v {zeros}{k}\n"),
             k as u32,
         );
     }
-    sketch.under(&MARKERS)
+    builder.under(&MARKERS)
 }
 
 fn row(by: usize, column: fn(usize) -> usize) -> Document {
-    let mut sketch = Sketch::default();
-    sketch.open(marker("tr"), "\\tr");
-    repeat(&mut sketch, by, (2, 1), |sketch, k| {
-        sketch.open(marker("tc"), &format!("\\tc{}", column(k + 1)));
-        sketch.end();
+    let mut builder = Builder::default();
+    builder.open(marker("tr"), "\\tr");
+    repeat(&mut builder, by, (2, 1), |builder, k| {
+        builder.open(marker("tc"), &format!("\\tc{}", column(k + 1)));
+        builder.end();
     });
-    sketch.under(&MARKERS)
+    builder.under(&MARKERS)
 }
 
 fn nested(by: usize) -> Document {
     const TEXTS: usize = 15;
-    let mut sketch = Sketch::default();
-    let texts = |sketch: &mut Sketch| (0..TEXTS).for_each(|_| _ = sketch.text("a "));
+    let mut builder = Builder::default();
+    let texts = |builder: &mut Builder| (0..TEXTS).for_each(|_| _ = builder.text("a "));
     repeat(
-        &mut sketch,
+        &mut builder,
         by,
         (DEEPEST * (2 + 2 * TEXTS), 0),
-        |sketch, _| {
+        |builder, _| {
             for _ in 0..DEEPEST {
-                texts(sketch);
-                sketch.open(marker("nd"), "\\nd");
+                texts(builder);
+                builder.open(marker("nd"), "\\nd");
             }
             for _ in 0..DEEPEST {
-                sketch.close(kind::MARKER_CLOSE, "\\nd*");
-                texts(sketch);
+                builder.close(kind::MARKER_CLOSE, "\\nd*");
+                texts(builder);
             }
         },
     );
-    sketch.under(&MARKERS)
+    builder.under(&MARKERS)
 }
 
 /// Inside a character marker, glued, with a leading zero, and the same number again.
 fn faulty_verses(by: usize) -> Document {
-    let mut sketch = Sketch::default();
-    sketch.open(marker("nd"), "\\nd");
-    repeat(&mut sketch, by, (1, 1), |sketch, _| {
-        sketch.leaf(kind::VERSE, marker("v"), "\\v07 ", 7);
+    let mut builder = Builder::default();
+    builder.open(marker("nd"), "\\nd");
+    repeat(&mut builder, by, (1, 1), |builder, _| {
+        builder.leaf(kind::VERSE, marker("v"), "\\v07 ", 7);
     });
-    sketch.under(&MARKERS)
+    builder.under(&MARKERS)
 }
 
 fn identifications(by: usize) -> Document {
-    let mut sketch = Sketch::default();
-    repeat(&mut sketch, by, (3, 0), |sketch, _| {
-        sketch.open(marker("id"), "\\id").text(" XXH\n").end();
+    let mut builder = Builder::default();
+    repeat(&mut builder, by, (3, 0), |builder, _| {
+        builder.open(marker("id"), "\\id").text(" XXH\n").end();
     });
-    sketch.under(&MARKERS)
+    builder.under(&MARKERS)
 }
 
 fn inlines(by: usize, name: &str, attribute: &str) -> Document {
-    let mut sketch = Sketch::default();
+    let mut builder = Builder::default();
     let block = 3 + usize::from(!attribute.is_empty());
-    repeat(&mut sketch, by, (block, 0), |sketch, _| {
-        sketch.open(marker(name), &format!("\\{name}")).text(" x");
+    repeat(&mut builder, by, (block, 0), |builder, _| {
+        builder.open(marker(name), &format!("\\{name}")).text(" x");
         if !attribute.is_empty() {
-            sketch.leaf(kind::ATTRIBUTE, 0, attribute, 0);
+            builder.leaf(kind::ATTRIBUTE, 0, attribute, 0);
         }
-        sketch.close(kind::MARKER_CLOSE, "\\*");
+        builder.close(kind::MARKER_CLOSE, "\\*");
     });
-    sketch.under(&MARKERS)
+    builder.under(&MARKERS)
 }
 
 fn empty_texts(by: usize) -> Document {
-    let mut sketch = Sketch::default();
-    repeat(&mut sketch, by, (1, 0), |sketch, _| _ = sketch.text(""));
-    sketch.under(&MARKERS)
+    let mut builder = Builder::default();
+    repeat(&mut builder, by, (1, 0), |builder, _| _ = builder.text(""));
+    builder.under(&MARKERS)
 }
 
 /// Names of the longest form that differ at their ends.
@@ -330,7 +330,7 @@ fn full_table(by: usize) -> Document {
         .map(|k| format!("zzzzzzzzzzzzz{k:03}"))
         .collect();
     let entries: Vec<Entry<'_>> = names.iter().map(|name| entry(name, 0, 1)).collect();
-    Sketch::default().text("x").under(&entries)
+    Builder::default().text("x").under(&entries)
 }
 
 #[cfg(test)]

@@ -4,14 +4,14 @@ use super::markers::{MARKERS, marker};
 use super::words::{Word, Words};
 use crate::document::{Document, kind};
 use crate::refusals::LARGEST_SOURCE;
-use crate::samples::Sketch;
+use crate::samples::Builder;
 
 /// What a verse is made of.
 #[derive(Clone, Copy, Debug, PartialEq, Eq)]
 pub enum Style {
     /// Text, here and there a note or a character marker.
     Plain,
-    /// A slip in every verse.
+    /// A mistake in every verse.
     Faulty,
     /// Every word with its attributes.
     WordLevel,
@@ -43,7 +43,7 @@ const LORD: Word = Word {
 };
 
 pub struct Writer {
-    sketch: Sketch,
+    builder: Builder,
     /// Text since the last marker: a parser makes one node of it.
     loose: String,
     words: Words,
@@ -64,7 +64,7 @@ pub struct Mark {
 impl Writer {
     pub fn new(style: Style, manner: Manner, hebrew: bool, seed: u64) -> Writer {
         Writer {
-            sketch: Sketch::default(),
+            builder: Builder::default(),
             loose: String::new(),
             words: Words::new(seed),
             style,
@@ -79,34 +79,35 @@ impl Writer {
 
     fn flush(&mut self) {
         if !self.loose.is_empty() {
-            self.sketch.text(&self.loose);
+            self.builder.text(&self.loose);
             self.loose.clear();
         }
     }
 
     fn open(&mut self, name: &str) {
         self.flush();
-        self.sketch.open(marker(name), &format!("\\{name}"));
+        self.builder.open(marker(name), &format!("\\{name}"));
     }
 
     fn close(&mut self, name: &str) {
         self.flush();
-        self.sketch.close(kind::MARKER_CLOSE, &format!("\\{name}*"));
+        self.builder
+            .close(kind::MARKER_CLOSE, &format!("\\{name}*"));
     }
 
     fn end(&mut self) {
         self.flush();
-        self.sketch.end();
+        self.builder.end();
     }
 
     fn attribute(&mut self, text: &str) {
         self.flush();
-        self.sketch.leaf(kind::ATTRIBUTE, 0, text, 0);
+        self.builder.leaf(kind::ATTRIBUTE, 0, text, 0);
     }
 
     fn numbered(&mut self, kind: u8, name: &str, label: &str, number: usize) {
         self.flush();
-        self.sketch.leaf(kind, marker(name), label, number as u32);
+        self.builder.leaf(kind, marker(name), label, number as u32);
     }
 
     /// A paragraph of one line.
@@ -210,8 +211,8 @@ impl Writer {
         }
     }
 
-    /// One of several slips, in turn.
-    fn slip(&mut self, verse: usize) {
+    /// One of several mistakes, in turn.
+    fn mistake(&mut self, verse: usize) {
         match verse % 4 {
             0 => self.inline("ft", "a note’s text outside a note"),
             1 => {
@@ -244,7 +245,7 @@ impl Writer {
         self.inset(place);
         self.all(&words[first..]);
         if self.style == Style::Faulty {
-            self.slip(place.1);
+            self.mistake(place.1);
         }
     }
 }
@@ -414,26 +415,26 @@ impl Writer {
 
     /// Where the book stands between two paragraphs.
     pub fn mark(&self) -> Mark {
-        assert!(self.sketch.open.is_empty() && self.loose.is_empty());
+        assert!(self.builder.open.is_empty() && self.loose.is_empty());
         Mark {
-            source: self.sketch.source.len(),
-            nodes: self.sketch.nodes.len(),
+            source: self.builder.source.len(),
+            nodes: self.builder.nodes.len(),
         }
     }
 
     /// Takes back what was written after a mark.
     pub fn back(&mut self, mark: Mark) {
-        self.sketch.source.truncate(mark.source);
-        self.sketch.nodes.truncate(mark.nodes);
+        self.builder.source.truncate(mark.source);
+        self.builder.nodes.truncate(mark.nodes);
     }
 
     /// Whether the book has at most so many nodes, and no more bytes than number 2 lets pass.
     pub fn fits(&self, nodes: usize) -> bool {
-        self.sketch.nodes.len() <= nodes && self.sketch.source.len() <= LARGEST_SOURCE
+        self.builder.nodes.len() <= nodes && self.builder.source.len() <= LARGEST_SOURCE
     }
 
     /// The book as a document; the writer is empty again.
     pub fn finish(&mut self) -> Document {
-        std::mem::take(&mut self.sketch).under(&MARKERS)
+        std::mem::take(&mut self.builder).under(&MARKERS)
     }
 }

@@ -2,7 +2,7 @@
 //! beside what stands before it.
 
 use crate::document::{Document, kind, table_text};
-use crate::samples::{Sketch, entry, node};
+use crate::samples::{Builder, entry, node};
 
 /// Calls `visit` with two milestone starts and the end of one, so that the other stays unclosed: the bases have the same length,
 /// up to `longest`, and differ in the byte at one place or not at all; each start is written with `+` or without.
@@ -24,16 +24,16 @@ pub fn every_pair_of_bases(longest: usize, mut visit: impl FnMut(&Document)) {
 }
 
 fn pair_of_bases(bases: [&str; 2], plus: [&str; 2], end: &str) -> Document {
-    let mut sketch = Sketch::default();
+    let mut builder = Builder::default();
     for name in [
         format!("{}{}-s", plus[0], bases[0]),
         format!("{}{}-s", plus[1], bases[1]),
         format!("{end}-e"),
     ] {
-        sketch.open(0, &format!("\\{name}"));
-        sketch.close(kind::MARKER_CLOSE, "\\*");
+        builder.open(0, &format!("\\{name}"));
+        builder.close(kind::MARKER_CLOSE, "\\*");
     }
-    sketch.under(&[entry("qt-s", 6, 0)])
+    builder.under(&[entry("qt-s", 6, 0)])
 }
 
 /// Calls `visit` with `nodes` nodes below the root, all Texts but two: Chapters or Verses whose numbers begin inside a
@@ -53,15 +53,15 @@ pub fn every_pair_of_labels(nodes: usize, mut visit: impl FnMut(&Document)) {
 }
 
 fn pair_of_labels(nodes: usize, (first, text, kind): (usize, &str, u8), second: usize) -> Document {
-    let mut sketch = Sketch::default();
+    let mut builder = Builder::default();
     for place in 1..=nodes {
         match place {
-            place if place == second => sketch.leaf(kind::VERSE, 0, "é3", 3),
-            place if place == first => sketch.leaf(kind, 0, text, 3),
-            _ => sketch.leaf(kind::TEXT, 0, "x", 0),
+            place if place == second => builder.leaf(kind::VERSE, 0, "é3", 3),
+            place if place == first => builder.leaf(kind, 0, text, 3),
+            _ => builder.leaf(kind::TEXT, 0, "x", 0),
         };
     }
-    sketch.under(&[entry("v", 2, 0)])
+    builder.under(&[entry("v", 2, 0)])
 }
 
 /// Calls `visit` with two Texts of every start and length that lie in a short source with characters of one to four bytes, or
@@ -90,14 +90,14 @@ pub fn every_pair_of_spans(mut visit: impl FnMut(&Document)) {
 #[cfg(test)]
 mod tests {
     use super::*;
-    use crate::judge::{Judged, try_judge};
+    use crate::published::{Validated, try_validate};
     use crate::refusals::refusal;
 
     #[test]
     fn one_start_stays_unclosed() {
         let mut count = 0;
         every_pair_of_bases(3, |document| {
-            let Judged::Findings(found) = try_judge(document).unwrap() else {
+            let Validated::Findings(found) = try_validate(document).unwrap() else {
                 panic!("a sum past 32 bits");
             };
             let unclosed = found.iter().filter(|found| found.code == 16);

@@ -15,7 +15,7 @@ const LABEL: u8 = SHAPES + 1;
 const LABELS: u8 = SHAPES + 2;
 const ATTRIBUTES: u8 = SHAPES + 3;
 
-/// The table names that the check asks for.
+/// The table names that the check compares with.
 const NAMES: [&str; 28] = [
     "id", "b", "fig", "w", "rb", "tr", "ca", "cp", "va", "vp", "fr", "ft", "fk", "fq", "fqa", "fl",
     "fw", "fp", "fv", "fdc", "xop", "xot", "xnt", "xdc", "p", "c", "v", "f",
@@ -63,7 +63,7 @@ impl Tree<'_> {
         self.entries.get(self.nodes[place].marker as usize)
     }
 
-    /// The place of its table name among the telling ones, or one more than the last.
+    /// The place of its table name in `NAMES`, or the number of them.
     fn name(&self, place: usize) -> u64 {
         let name = self.entry(place).map(|entry| entry.name);
         let known = NAMES.iter().position(|&known| Some(known) == name);

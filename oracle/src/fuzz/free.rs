@@ -130,7 +130,7 @@ pub fn document(rng: &mut Rng) -> Document {
         nodes: vec![Node::default()],
         open: Vec::new(),
     };
-    free.lay_out(rng);
+    free.write_nodes(rng);
     let mut document = Document {
         table: table_text(&entries),
         source: source.into_bytes(),
@@ -149,7 +149,7 @@ fn entry(rng: &mut Rng) -> Entry<'static> {
 }
 
 impl Free {
-    fn lay_out(&mut self, rng: &mut Rng) {
+    fn write_nodes(&mut self, rng: &mut Rng) {
         let deepest = if rng.one_in(100) {
             DEEPEST + 1
         } else {
@@ -232,8 +232,8 @@ mod tests {
         let rng = &mut Rng::new(9);
         let mut counts = [0; 10];
         for _ in 0..4000 {
-            let told = refusal(&document(rng), usize::MAX, usize::MAX);
-            counts[told.map_or(0, |(number, _)| number as usize)] += 1;
+            let refused = refusal(&document(rng), usize::MAX, usize::MAX);
+            counts[refused.map_or(0, |(number, _)| number as usize)] += 1;
         }
         assert_eq!(counts.iter().filter(|&&count| count > 0).count(), 3);
         assert!(counts[0] > 3000 && counts[8] > 0 && counts[9] > 0);

@@ -34,7 +34,7 @@ const VALUES: [&str; 14] = [
 ];
 
 /// Whole lists that a random one seldom is.
-const TELLING: [&str; 24] = [
+const SPECIAL_LISTS: [&str; 24] = [
     "",
     "|",
     "| ",
@@ -64,7 +64,7 @@ const TELLING: [&str; 24] = [
 /// The text of one Attribute node.
 pub fn list(rng: &mut Rng, out: &mut String) {
     if rng.percent(35) {
-        out.push_str(rng.pick(&TELLING));
+        out.push_str(rng.pick(&SPECIAL_LISTS));
         return;
     }
     if rng.percent(95) {

@@ -1,4 +1,4 @@
-//! Damage to a document that was laid out well. Part of it leaves the document acceptable.
+//! Damage to a document that is well formed. Part of it leaves the document acceptable.
 
 use crate::document::{Document, NODE_BYTES, Node, kind};
 use crate::refusals::{LARGEST_SOURCE, MOST_MARKERS, MOST_NODES};
@@ -29,7 +29,7 @@ const ILL_FORMED: [&[u8]; 20] = [
 ];
 
 /// Bytes that mean something to the check.
-const TELLING: &[u8] = b"\\|*=\"-+ \n0123456789abvcz";
+const MEANINGFUL: &[u8] = b"\\|*=\"-+ \n0123456789abvcz";
 
 /// Lines that a table text doesn't have, or not there.
 const LINES: [&[u8]; 16] = [
@@ -95,7 +95,7 @@ fn damage_table(rng: &mut Rng, document: &mut Document) {
         0 => change_byte(rng, table),
         1 => remove_byte(rng, table),
         2 => {
-            let byte = rng.pick(TELLING);
+            let byte = rng.pick(MEANINGFUL);
             insert_bytes(rng, table, &[byte]);
         }
         3 => cut(rng, table),
@@ -156,7 +156,7 @@ fn damage_source(rng: &mut Rng, document: &mut Document) {
         1..6 => change_ascii(rng, source),
         6 => remove_byte(rng, source),
         7..9 => {
-            let byte = rng.pick(TELLING);
+            let byte = rng.pick(MEANINGFUL);
             insert_bytes(rng, source, &[byte]);
         }
         9 => insert_bytes(rng, source, "é".as_bytes()),
@@ -180,7 +180,7 @@ fn change_ascii(rng: &mut Rng, source: &mut [u8]) {
     }
     let place = rng.below(source.len());
     if source[place].is_ascii() {
-        source[place] = rng.pick(TELLING);
+        source[place] = rng.pick(MEANINGFUL);
     }
 }
 

@@ -48,7 +48,7 @@ const NEEDED: [&[&str]; ITEMS] = [
     &[],
 ];
 
-/// Items that the table knows nothing of are rarer, since all below them is passed over.
+/// Items that the table knows nothing of are rarer, since all below them is skipped.
 pub fn fitting(mix: &Mix, entries: &[Entry<'_>]) -> Mix {
     let known = |names: &[&str]| names.iter().any(|&name| has(entries, name));
     std::array::from_fn(|item| {

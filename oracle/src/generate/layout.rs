@@ -26,14 +26,14 @@ pub struct Layout<'r> {
     pub nodes: Vec<Node>,
     pub mix: Mix,
     pub counter: Counter,
-    /// Nodes still to be laid out, as an aim.
+    /// Nodes still to be written, as an aim.
     pub budget: usize,
     pub depth: usize,
     pub deepest: usize,
 }
 
 /// A document under a table of these entries.
-pub fn lay_out(rng: &mut Rng, entries: Vec<Entry<'static>>) -> Document {
+pub fn document(rng: &mut Rng, entries: Vec<Entry<'static>>) -> Document {
     let budget = budget(rng);
     let weights = MIXES.map(|(weight, _)| weight);
     let mix = fitting(&MIXES[rng.weighted(&weights)].1, &entries);
@@ -205,7 +205,7 @@ impl Layout<'_> {
         }
     }
 
-    /// A marker with what `inside` lays out between its open and its close.
+    /// A marker with what `inside` writes between its open and its close.
     pub fn marker(&mut self, name: &str, ending: Ending, inside: impl FnOnce(&mut Self)) {
         if self.depth >= self.deepest {
             return self.text();

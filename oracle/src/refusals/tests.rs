@@ -1,6 +1,6 @@
 use super::*;
 use crate::document::table_text;
-use crate::samples::{Sketch, document, entry, listing, node};
+use crate::samples::{Builder, document, entry, listing, node};
 
 const GOOD: &[u8] = b"name=p\ncategory=paragraph\nrole=boundary\n";
 
@@ -273,9 +273,9 @@ fn of_7_and_8_the_smaller_place_is_given() {
 
 /// A Verse of this text under the one entry `v`.
 fn of_verse(text: &str, marker: u16) -> Option<(u32, u64)> {
-    let mut sketch = Sketch::default();
-    sketch.leaf(kind::VERSE, marker, text, 0);
-    of(&sketch.under(&[entry("v", 2, 0)]))
+    let mut builder = Builder::default();
+    builder.leaf(kind::VERSE, marker, text, 0);
+    of(&builder.under(&[entry("v", 2, 0)]))
 }
 
 #[test]
@@ -299,13 +299,13 @@ fn number_9_is_about_every_chapter_and_verse_and_no_other_node() {
         (kind::TEXT, None),
         (kind::ERROR, None),
     ] {
-        let mut sketch = Sketch::default();
-        sketch.open(7, "\\zz").leaf(kind, 0, "\\é", 0).end();
-        assert_eq!(of(&sketch.under(&entries)), expected);
+        let mut builder = Builder::default();
+        builder.open(7, "\\zz").leaf(kind, 0, "\\é", 0).end();
+        assert_eq!(of(&builder.under(&entries)), expected);
     }
-    let mut sketch = Sketch::default();
-    sketch.open(0, "\\é").end();
-    assert_eq!(of(&sketch.under(&entries)), None);
+    let mut builder = Builder::default();
+    builder.open(0, "\\é").end();
+    assert_eq!(of(&builder.under(&entries)), None);
 }
 
 // --- 10 and the order ---
@@ -414,12 +414,15 @@ fn the_list_of_blanks_is_the_one_of_the_standard_library() {
 
 #[test]
 fn verses_below_a_marker_without_an_entry_are_not_visited() {
-    let mut sketch = Sketch::default();
-    sketch.leaf(kind::VERSE, 0, "\\v 1", 1);
-    sketch.open(0, "\\v").leaf(kind::VERSE, 9, "\\v 2", 2).end();
-    sketch.open(1, "\\zz").open(0, "\\v");
-    sketch.leaf(kind::VERSE, 0, "\\v 3", 3).end().end();
-    sketch.leaf(kind::VERSE, 0, "\\v 4", 4);
-    assert_eq!(verses_visited(&sketch.under(&[entry("v", 2, 0)])), 3);
+    let mut builder = Builder::default();
+    builder.leaf(kind::VERSE, 0, "\\v 1", 1);
+    builder
+        .open(0, "\\v")
+        .leaf(kind::VERSE, 9, "\\v 2", 2)
+        .end();
+    builder.open(1, "\\zz").open(0, "\\v");
+    builder.leaf(kind::VERSE, 0, "\\v 3", 3).end().end();
+    builder.leaf(kind::VERSE, 0, "\\v 4", 4);
+    assert_eq!(verses_visited(&builder.under(&[entry("v", 2, 0)])), 3);
     assert_eq!(verses_visited(&listing()), 1);
 }

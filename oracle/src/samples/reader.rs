@@ -1,6 +1,6 @@
 //! Tapes for short texts by hand. The texts are well formed, so the reader corrects nothing.
 
-use super::Sketch;
+use super::Builder;
 use crate::document::{Document, Entry, kind};
 use crate::generate::STANDARD;
 use crate::parts::strip_level_suffix;
@@ -8,7 +8,7 @@ use crate::refusals::{is_blank, marker_name};
 
 struct Reader<'a> {
     rest: &'a str,
-    sketch: Sketch,
+    builder: Builder,
     /// The standard markers that the text uses, in the order of their first use.
     table: Vec<Entry<'static>>,
 }
@@ -17,13 +17,13 @@ struct Reader<'a> {
 pub fn read(text: &str) -> Document {
     let mut reader = Reader {
         rest: text,
-        sketch: Sketch::default(),
+        builder: Builder::default(),
         table: Vec::new(),
     };
     while !reader.rest.is_empty() {
         reader.step();
     }
-    reader.sketch.under(&reader.table)
+    reader.builder.under(&reader.table)
 }
 
 impl<'a> Reader<'a> {
@@ -38,11 +38,11 @@ impl<'a> Reader<'a> {
             self.marker();
         } else if self.rest.starts_with('|') {
             let taken = self.take(attribute_end(self.rest));
-            self.sketch.leaf(kind::ATTRIBUTE, 0, taken, 0);
+            self.builder.leaf(kind::ATTRIBUTE, 0, taken, 0);
         } else {
             let end = self.rest.find(['\\', '|']).unwrap_or(self.rest.len());
             let taken = self.take(end);
-            self.sketch.text(taken);
+            self.builder.text(taken);
         }
     }
 
@@ -51,7 +51,7 @@ impl<'a> Reader<'a> {
         let len = 1 + usize::from(self.rest[1..].starts_with('+')) + name.len();
         if self.rest[len..].starts_with('*') {
             let taken = self.take(len + 1);
-            self.sketch.close(kind::MARKER_CLOSE, taken);
+            self.builder.close(kind::MARKER_CLOSE, taken);
             return;
         }
         let marker = self.number_of(name);
@@ -61,7 +61,7 @@ impl<'a> Reader<'a> {
             Some(0 | 3) => self.block(marker, len),
             _ => {
                 let taken = self.take(len);
-                self.sketch.open(marker, taken);
+                self.builder.open(marker, taken);
             }
         }
     }
@@ -69,12 +69,12 @@ impl<'a> Reader<'a> {
     fn block(&mut self, marker: u16, len: usize) {
         self.end_block();
         let taken = self.take(len);
-        self.sketch.open(marker, taken);
+        self.builder.open(marker, taken);
     }
 
     fn end_block(&mut self) {
-        while !self.sketch.open.is_empty() {
-            self.sketch.end();
+        while !self.builder.open.is_empty() {
+            self.builder.end();
         }
     }
 
@@ -92,7 +92,7 @@ impl<'a> Reader<'a> {
         let number = leading_number(&word[..end]);
         let whole = len + (after.len() - word.len()) + end + blank.map_or(0, char::len_utf8);
         let taken = self.take(whole);
-        self.sketch.leaf(kind, marker, taken, number);
+        self.builder.leaf(kind, marker, taken, number);
     }
 
     /// The number of a name in the table, which grows by it where it is a standard marker.
@@ -165,7 +165,7 @@ mod tests {
 
     #[test]
     fn every_document_by_hand_is_accepted() {
-        let read = samples::TELLING.iter().map(|text| read(text));
+        let read = samples::TEXTS.iter().map(|text| read(text));
         for document in read.chain(samples::shaped()) {
             let n = document.node_count();
             assert_eq!(refusal(&document, n, n), None, "{}", document.to_hex());

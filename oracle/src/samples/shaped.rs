@@ -1,6 +1,6 @@
 //! Documents by hand whose tape no reader of texts gives.
 
-use super::{Sketch, entry};
+use super::{Builder, entry};
 use crate::document::{Document, Entry, kind};
 use crate::serialize::vref::BOOK_CODES;
 
@@ -34,35 +34,35 @@ pub fn shaped() -> Vec<Document> {
 
 /// Every book code, each in an identification of its own.
 fn every_book() -> Document {
-    let mut sketch = Sketch::default();
+    let mut builder = Builder::default();
     for code in BOOK_CODES {
-        sketch.open(0, "\\id").text(&format!(" {code}\n")).end();
+        builder.open(0, "\\id").text(&format!(" {code}\n")).end();
     }
-    sketch.under(&TABLE)
+    builder.under(&TABLE)
 }
 
-/// Only character markers are asked whether they stand in a note.
+/// The check whether a marker stands in a note is for character markers alone.
 fn note_only_of_other_categories() -> Document {
     let entries: Vec<Entry<'_>> = (0..8).map(|category| entry("fr", category, 0)).collect();
-    let mut sketch = Sketch::default();
+    let mut builder = Builder::default();
     for marker in 0..8 {
-        sketch.open(marker, "\\fr").text(" a").end();
+        builder.open(marker, "\\fr").text(" a").end();
     }
-    sketch.under(&entries)
+    builder.under(&entries)
 }
 
 /// A repeated number that starts where the first one starts, of the same length and longer.
 fn numbers_at_one_byte() -> Vec<Document> {
     let document = |more: u32| {
-        let mut sketch = Sketch::default();
-        sketch.leaf(kind::CHAPTER, C, "\\c 1\n", 1);
-        let first = sketch.nodes.len();
-        sketch.open(CA, "\\ca").text(" 2").end();
-        let second = sketch.nodes.len();
-        sketch.open(CA, "\\ca").end().open(CA, "\\ca").end();
-        sketch.nodes[second].start = sketch.nodes[first].start;
-        sketch.nodes[second].len += more;
-        sketch.under(&TABLE)
+        let mut builder = Builder::default();
+        builder.leaf(kind::CHAPTER, C, "\\c 1\n", 1);
+        let first = builder.nodes.len();
+        builder.open(CA, "\\ca").text(" 2").end();
+        let second = builder.nodes.len();
+        builder.open(CA, "\\ca").end().open(CA, "\\ca").end();
+        builder.nodes[second].start = builder.nodes[first].start;
+        builder.nodes[second].len += more;
+        builder.under(&TABLE)
     };
     vec![document(0), document(1)]
 }
@@ -70,11 +70,11 @@ fn numbers_at_one_byte() -> Vec<Document> {
 /// Only blank Text stands between an anchor and its number without parting them.
 fn leaves_before_a_number() -> Vec<Document> {
     let document = |(kind, text): (u8, &str)| {
-        let mut sketch = Sketch::default();
-        sketch.leaf(kind::CHAPTER, C, "\\c 1\n", 1);
-        sketch.leaf(kind, 0, text, 0);
-        sketch.open(CP, "\\cp").text(" 2").end();
-        sketch.under(&TABLE)
+        let mut builder = Builder::default();
+        builder.leaf(kind::CHAPTER, C, "\\c 1\n", 1);
+        builder.leaf(kind, 0, text, 0);
+        builder.open(CP, "\\cp").text(" 2").end();
+        builder.under(&TABLE)
     };
     let leaves = [
         (kind::TEXT, ""),
@@ -105,10 +105,10 @@ fn odd_names() -> Vec<Document> {
         "",
     ];
     let document = |text: &&str| {
-        let mut sketch = Sketch::default();
-        sketch.open(CA, text).end().open(P, text).end();
-        sketch.leaf(kind::VERSE, V, text, 1);
-        sketch.under(&TABLE)
+        let mut builder = Builder::default();
+        builder.open(CA, text).end().open(P, text).end();
+        builder.leaf(kind::VERSE, V, text, 1);
+        builder.under(&TABLE)
     };
     texts.iter().map(document).collect()
 }
@@ -116,13 +116,13 @@ fn odd_names() -> Vec<Document> {
 /// Bases come from the source: one entry serves starts and ends of any base.
 fn milestones_of_one_entry() -> Vec<Document> {
     let document = |names: &[&str]| {
-        let mut sketch = Sketch::default();
+        let mut builder = Builder::default();
         for name in names {
-            sketch.open(QT, name);
-            sketch.leaf(kind::ATTRIBUTE, 0, "|a", 0).end();
+            builder.open(QT, name);
+            builder.leaf(kind::ATTRIBUTE, 0, "|a", 0).end();
         }
-        sketch.open(W, "\\qt-s").end();
-        sketch.under(&TABLE)
+        builder.open(W, "\\qt-s").end();
+        builder.under(&TABLE)
     };
     vec![
         document(&["\\qt1-s", "\\qt-s", "\\qt1-e", "\\qt2-e", "\\qt-e"]),

@@ -6,10 +6,10 @@ use super::{FINDING_WORDS, FIRST, NODE};
 use crate::coverage::code_name;
 use crate::differ::agree;
 use crate::document::{Document, kind};
-use crate::judge::{Found, form_and_numbers};
+use crate::published::{Found, form_and_numbers};
 use crate::tallies::tally;
 
-/// The words of a report's findings, as the check lays them over a list.
+/// The words of a report's findings, as the check writes them over a list.
 pub fn words_of(report: &Report) -> Vec<u64> {
     report.findings().flat_map(|found| words(&found)).collect()
 }
@@ -97,12 +97,12 @@ pub fn same_findings(report: &Report, list: &[u64], theirs: &[Found]) -> Result<
     agree("findings", report.findings().len(), theirs.len())?;
     let (records, _) = list.as_chunks::<FINDING_WORDS>();
     for ((ours, words), found) in report.findings().zip(records).zip(theirs) {
-        let mut owed = published_words(found)?;
-        owed[NODE] = words[NODE];
+        let mut expected = published_words(found)?;
+        expected[NODE] = words[NODE];
         if found.code == 32 {
-            owed[FIRST] = words[FIRST];
+            expected[FIRST] = words[FIRST];
         }
-        agree("a finding", *words, owed)?;
+        agree("a finding", *words, expected)?;
         agree("a text", ours.message(), found.message.as_str())?;
         agree("a code", ours.code().as_str(), code_name(found.code))?;
     }

@@ -2,11 +2,11 @@
 
 use harkoxin::raw::REPORT_WORDS;
 
-use super::told::{room_for, together_words};
-use super::{Comparison, FINDING_WORDS, Owed, REFUSED, refused_words};
+use super::messages::{messages_answer, room_for};
+use super::{Comparison, Expected, FINDING_WORDS, REFUSED, refused_words};
 use crate::reached::Function;
 use crate::rng::Rng;
-use crate::texts::together;
+use crate::texts::written_texts;
 
 impl Comparison {
     /// Both answers say the refusal, and no list is written.
@@ -20,8 +20,8 @@ impl Comparison {
         self.lend_report(lengths, findings, 60, rng);
         self.slots.report();
         self.counts.reached.answer(Function::Report, number);
-        let texts = [REFUSED, number, place, 0, 0];
-        let answer = [&refused_words(number, place)[..], &texts].concat();
+        let messages = [REFUSED, number, place, 0, 0];
+        let answer = [&refused_words(number, place)[..], &messages].concat();
         self.expect_lists(0, &[], &answer)?;
         self.expect_texts(&[], &[])
     }
@@ -29,22 +29,22 @@ impl Comparison {
     /// The texts are those of the findings that the list can hold.
     pub(super) fn report_checked(
         &mut self,
-        owed: &Owed<'_>,
+        expected: &Expected<'_>,
         lengths: (usize, usize),
         rng: &mut Rng,
     ) -> Result<(), String> {
-        let bytes = owed.texts.iter().map(String::len).sum();
-        self.lend_report(lengths, owed.texts.len(), bytes, rng);
+        let bytes = expected.texts.iter().map(String::len).sum();
+        self.lend_report(lengths, expected.texts.len(), bytes, rng);
         self.slots.report();
-        let (written, check) = self.owed_answer(owed);
-        let held = owed.texts[..written].iter().map(Some);
-        let laid = together(held, self.slots.text.len());
-        let texts = together_words(&laid);
-        self.counts.reached.answer(Function::Report, texts[1]);
-        let list = &owed.list[..written * FINDING_WORDS];
-        let answer = [&check[..], &texts].concat();
-        self.expect_lists(owed.document.node_count(), list, &answer)?;
-        self.expect_texts(&laid.ends, &laid.bytes)
+        let (written, check) = self.expected_answer(expected);
+        let held = expected.texts[..written].iter().map(Some);
+        let texts = written_texts(held, self.slots.text.len());
+        let messages = messages_answer(&texts);
+        self.counts.reached.answer(Function::Report, messages[1]);
+        let list = &expected.list[..written * FINDING_WORDS];
+        let answer = [&check[..], &messages].concat();
+        self.expect_lists(expected.document.node_count(), list, &answer)?;
+        self.expect_texts(&texts.ends, &texts.bytes)
     }
 
     /// The lists by the seed: long enough for so many findings and for texts of so many bytes, or not.

@@ -1,6 +1,6 @@
 //! Every list that is lent, each in a slot of its own.
 
-use harkoxin::raw::{self, Asked, OpenStart};
+use harkoxin::raw::{self, MessageRequest, OpenStart};
 
 use crate::document::Document;
 use crate::lent::Slot;
@@ -18,29 +18,29 @@ pub struct Slots {
     pub text: Slot<u8>,
     pub counts: Slot<u64>,
     pub out: Slot<u64>,
-    sealed: bool,
+    write_protected: bool,
 }
 
 impl Slots {
     /// Lends the document to all calls that follow; for one in 64 a write of it is a fault.
     pub fn lend(&mut self, document: &Document, rng: &mut Rng) {
-        self.unseal();
+        self.allow_writes();
         self.table.put(&document.table, rng);
         self.source.put(&document.source, rng);
         self.tape.put(&document.tape, rng);
         if rng.one_in(64) {
-            self.sealed = true;
+            self.write_protected = true;
             for slot in [&mut self.table, &mut self.source, &mut self.tape] {
-                slot.seal();
+                slot.write_protect();
             }
         }
     }
 
-    fn unseal(&mut self) {
-        if self.sealed {
-            self.sealed = false;
+    fn allow_writes(&mut self) {
+        if self.write_protected {
+            self.write_protected = false;
             for slot in [&mut self.table, &mut self.source, &mut self.tape] {
-                slot.unseal();
+                slot.allow_writes();
             }
         }
     }
@@ -93,12 +93,12 @@ impl Slots {
         );
     }
 
-    pub fn message(&mut self, asked: Asked) {
+    pub fn message(&mut self, request: MessageRequest) {
         raw::message(
             self.table.list(),
             self.source.list(),
             self.tape.list(),
-            asked,
+            request,
             self.text.list_mut(),
             self.out.list_mut(),
         );

@@ -17,7 +17,7 @@ pub struct Source {
 const PROGRESS: u64 = 1_000_000;
 
 /// What went wrong with a document.
-pub fn told(seed: u64, document: &Document, why: &str) -> String {
+pub fn failure_message(seed: u64, document: &Document, why: &str) -> String {
     format!("seed {seed}: {why}\n{}", document.to_hex())
 }
 
@@ -37,7 +37,7 @@ fn some(
         let compared = comparison.compare(&document, seed, lengths);
         if let Err(why) = compared {
             stop.store(true, Ordering::Relaxed);
-            return Err(told(seed, &document, &why));
+            return Err(failure_message(seed, &document, &why));
         }
         if seed.is_multiple_of(PROGRESS) {
             println!("at seed {seed}, no difference so far");
@@ -80,12 +80,12 @@ pub fn all_threads() -> u64 {
 }
 
 /// Prints what was never reached; an error where so many documents were compared that all should be.
-pub fn without_holes(counts: &Counts, enough: u64) -> Result<(), String> {
-    let holes = counts.reached.holes();
-    for hole in &holes {
-        println!("never reached: {hole}");
+pub fn expect_all_reached(counts: &Counts, enough: u64) -> Result<(), String> {
+    let unreached = counts.reached.unreached();
+    for one in &unreached {
+        println!("never reached: {one}");
     }
-    match holes.is_empty() || counts.documents < enough {
+    match unreached.is_empty() || counts.documents < enough {
         true => Ok(()),
         false => Err("not everything was reached".to_string()),
     }

@@ -3,7 +3,7 @@
 use std::fs;
 use std::path::{Path, PathBuf};
 
-use harkoxin::raw::{self, Asked, OpenStart};
+use harkoxin::raw::{self, MessageRequest, OpenStart};
 use harkoxin::{Node, NodeKind, Refusal, Report, Table, Tape, check_bytes};
 
 pub const TABLE: &str = "name=id\ncategory=identification\nrole=excluded\n\
@@ -99,8 +99,8 @@ impl Document {
         );
     }
 
-    pub fn raw_message(&self, asked: Asked, text: &mut [u8], out: &mut [u64]) {
-        raw::message(&self.table, &self.source, &self.tape, asked, text, out);
+    pub fn raw_message(&self, request: MessageRequest, text: &mut [u8], out: &mut [u64]) {
+        raw::message(&self.table, &self.source, &self.tape, request, text, out);
     }
 
     pub fn raw_messages(

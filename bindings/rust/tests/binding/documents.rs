@@ -8,8 +8,8 @@ fn listing() -> Report {
     check(&Table::from(TABLE), SOURCE, &Tape::from_nodes(&NODES)).unwrap()
 }
 
-fn telling() -> Report {
-    Document::example("telling").check().unwrap()
+fn each_code() -> Report {
+    Document::example("each-code").check().unwrap()
 }
 
 #[test]
@@ -56,7 +56,7 @@ fn a_clean_document_has_no_findings() {
 
 #[test]
 fn findings_are_taken_from_both_ends() {
-    let report = telling();
+    let report = each_code();
     let all: Vec<Finding<'_>> = report.findings().collect();
     assert_eq!(all.len(), 30);
     let mut back: Vec<Finding<'_>> = report.findings().rev().collect();
@@ -77,7 +77,7 @@ fn findings_are_taken_from_both_ends() {
 
 #[test]
 fn counts_are_those_of_the_findings() {
-    let report = telling();
+    let report = each_code();
     let of = |severity| {
         report
             .findings()
@@ -137,11 +137,11 @@ fn a_checker_gives_what_a_new_one_gives() {
 
 #[test]
 fn reports_and_checkers_pass_between_threads() {
-    let telling = telling();
-    let documents: Vec<_> = (0..4).map(|_| Document::example("telling")).collect();
+    let each_code = each_code();
+    let documents: Vec<_> = (0..4).map(|_| Document::example("each-code")).collect();
     std::thread::scope(|scope| {
         for document in &documents {
-            scope.spawn(|| assert_eq!(document.check().unwrap(), telling));
+            scope.spawn(|| assert_eq!(document.check().unwrap(), each_code));
         }
     });
 }

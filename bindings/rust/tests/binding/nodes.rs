@@ -42,11 +42,11 @@ fn a_tape_counts_whole_nodes() {
 }
 
 #[test]
-fn a_marker_that_is_unknown_is_passed_over() {
+fn a_marker_that_is_unknown_is_skipped() {
     let mut nodes = NODES;
     nodes[5].marker = MarkerId::UNKNOWN;
     let document = Document::of(TABLE, SOURCE, &nodes);
     let report = document.check().unwrap();
-    // The verse stands inside the paragraph that is passed over.
+    // The verse stands inside the paragraph that is skipped.
     assert_eq!((report.total(), report.verses()), (0, 0));
 }

@@ -1,7 +1,7 @@
 //! The functions over plain slices: every element that they leave alone, and lists of any length.
 
 use harkoxin::Code;
-use harkoxin::raw::{self, Asked, CUT, DONE, FINDING_WORDS, OpenStart, REFUSED};
+use harkoxin::raw::{self, CUT, DONE, FINDING_WORDS, MessageRequest, OpenStart, REFUSED};
 
 use crate::common::{Document, Lists, example_names};
 
@@ -37,12 +37,12 @@ fn findings(document: &Document) -> Vec<u64> {
     lent.list
 }
 
-/// The text of each finding, asked for by itself.
+/// The text of each finding, each by a call of its own.
 fn texts(document: &Document, list: &[u64]) -> Vec<Vec<u8>> {
     let one = |words: &[u64; FINDING_WORDS]| {
         let mut text = vec![b'#'; 70_000];
         let mut out = [ANY; raw::MESSAGE_WORDS];
-        document.raw_message(Asked::from(words), &mut text, &mut out);
+        document.raw_message(MessageRequest::from(words), &mut text, &mut out);
         assert_eq!(out[..3], [DONE, 0, 0]);
         text.truncate(out[3] as usize);
         text
@@ -52,7 +52,7 @@ fn texts(document: &Document, list: &[u64]) -> Vec<Vec<u8>> {
 
 #[test]
 fn a_list_is_cut_where_it_ends() {
-    let document = Document::example("telling");
+    let document = Document::example("each-code");
     let n = document.node_count();
     let whole = findings(&document);
     for room in [0, 7, 8, 100, 239, 240, 250] {
@@ -87,7 +87,7 @@ fn working_lists_that_are_too_short() {
 }
 
 #[test]
-fn answers_are_laid_as_far_as_there_is_room() {
+fn answers_are_written_as_far_as_there_is_room() {
     let document = Document::listing();
     let whole = [DONE, 0, 0, 1, 1, 1, 0, 1, 0];
     for room in 0..=raw::CHECK_WORDS {
@@ -103,7 +103,7 @@ fn answers_are_laid_as_far_as_there_is_room() {
     } = &document;
     for room in 0..=raw::MESSAGE_WORDS {
         let (mut text, mut out) = ([0; 28], vec![ANY; room]);
-        document.raw_message(Asked::from(&FINDING), &mut text, &mut out);
+        document.raw_message(MessageRequest::from(&FINDING), &mut text, &mut out);
         assert_eq!(out, [DONE, 0, 0, 28][..room]);
         assert_eq!(&text, b"expected verse 1 but found 2");
     }
@@ -119,7 +119,7 @@ fn answers_are_laid_as_far_as_there_is_room() {
 
 #[test]
 fn texts_together_are_the_texts_by_themselves() {
-    let mut told = 0;
+    let mut written = 0;
     for name in example_names() {
         let document = Document::example(&name);
         if document.check().is_err() {
@@ -138,34 +138,34 @@ fn texts_together_are_the_texts_by_themselves() {
             start = end as usize;
         }
         assert!(text[used..].iter().all(|&byte| byte == b'#'));
-        told += alone.len();
+        written += alone.len();
     }
-    assert!(told > 1_000);
+    assert!(written > 1_000);
 }
 
 #[test]
 fn texts_stop_where_the_room_ends() {
-    let document = Document::example("telling");
+    let document = Document::example("each-code");
     let list = findings(&document);
     let alone = texts(&document, &list);
     let all: Vec<u8> = alone.concat();
     for room in 0..all.len() {
         let (mut ends, mut text) = ([ANY; 30], vec![b'#'; room]);
         let answer = document.raw_messages(&list, &mut ends, &mut text);
-        let told = ends.iter().take_while(|&&end| end != ANY).count();
-        let used = alone[..told].concat().len();
-        let next = alone[told].len();
-        assert_eq!(answer, [CUT, 13, next as u64, told as u64, used as u64]);
+        let written = ends.iter().take_while(|&&end| end != ANY).count();
+        let used = alone[..written].concat().len();
+        let next = alone[written].len();
+        assert_eq!(answer, [CUT, 13, next as u64, written as u64, used as u64]);
         assert!(used <= room && room < used + next);
         assert_eq!(text[..used], all[..used]);
         assert!(text[used..].iter().all(|&byte| byte == b'#'));
-        assert!(ends[told..].iter().all(|&end| end == ANY));
+        assert!(ends[written..].iter().all(|&end| end == ANY));
     }
 }
 
 #[test]
-fn texts_without_room_for_their_ends_are_told() {
-    let document = Document::example("telling");
+fn texts_without_room_for_their_ends_are_written() {
+    let document = Document::example("each-code");
     let list = findings(&document);
     let alone = texts(&document, &list);
     let (mut ends, mut text) = ([ANY; 2], vec![0; 4_000]);
@@ -204,7 +204,7 @@ fn texts_of_a_refused_document() {
     let (mut ends, mut text, mut out) = ([ANY; 1], [b'#'; 100], [ANY; 4]);
     let answer = document.raw_messages(&FINDING, &mut ends, &mut text);
     assert_eq!(answer, [REFUSED, 3, 16, 0, 0]);
-    document.raw_message(Asked::from(&FINDING), &mut text, &mut out);
+    document.raw_message(MessageRequest::from(&FINDING), &mut text, &mut out);
     assert_eq!(out, [REFUSED, 3, 16, 0]);
     assert_eq!((ends, text), ([ANY], [b'#'; 100]));
 }
@@ -212,21 +212,21 @@ fn texts_of_a_refused_document() {
 #[test]
 fn one_text_that_is_refused() {
     let document = Document::listing();
-    let asked = Asked::from(&FINDING);
-    let letter = Asked {
+    let request = MessageRequest::from(&FINDING);
+    let letter = MessageRequest {
         second: 128,
-        ..asked
+        ..request
     };
-    let off_tape = Asked { node: 9, ..asked };
-    let other_form = Asked { form: 1, ..asked };
-    for (asked, room, answer) in [
-        (asked, 27, [REFUSED, 13, 28, 0]),
+    let off_tape = MessageRequest { node: 9, ..request };
+    let other_form = MessageRequest { form: 1, ..request };
+    for (request, room, answer) in [
+        (request, 27, [REFUSED, 13, 28, 0]),
         (letter, 28, [REFUSED, 12, 0, 0]),
         (off_tape, 28, [REFUSED, 12, 0, 0]),
         (other_form, 28, [REFUSED, 12, 0, 0]),
     ] {
         let (mut text, mut out) = (vec![b'#'; room], [ANY; raw::MESSAGE_WORDS]);
-        document.raw_message(asked, &mut text, &mut out);
+        document.raw_message(request, &mut text, &mut out);
         assert_eq!(out, answer);
         assert_eq!(text, vec![b'#'; room]);
     }
@@ -234,7 +234,7 @@ fn one_text_that_is_refused() {
 
 #[test]
 fn tallies_and_their_refusals() {
-    let list = findings(&Document::example("telling"));
+    let list = findings(&Document::example("each-code"));
     let mut counts = [ANY; Code::COUNT + 1];
     let mut out = [ANY; raw::TALLY_WORDS];
     raw::tally(&list, &mut counts, &mut out);
@@ -329,8 +329,8 @@ fn empty_slices_everywhere() {
     raw::check(&[], &[], &[], &mut [], &mut [], &mut [], &mut []);
     raw::check(&[], &[], &[], &mut [], &mut [], &mut [], &mut out);
     assert_eq!(out[..3], [REFUSED, 4, 0]);
-    raw::message(&[], &[], &[], Asked::default(), &mut [], &mut []);
-    raw::message(&[], &[], &[], Asked::default(), &mut [], &mut out);
+    raw::message(&[], &[], &[], MessageRequest::default(), &mut [], &mut []);
+    raw::message(&[], &[], &[], MessageRequest::default(), &mut [], &mut out);
     assert_eq!(out[..4], [REFUSED, 4, 0, 0]);
     raw::messages(&[], &[], &[], &[], &mut [], &mut [], &mut []);
     raw::messages(&[], &[], &[], &[], &mut [], &mut [], &mut out);

@@ -27,27 +27,26 @@ pub struct Found {
 
 /// What the published code makes of an accepted document.
 #[derive(Clone, Debug, PartialEq, Eq)]
-pub enum Judged {
+pub enum Validated {
     Findings(Vec<Found>),
-    /// A sum left 32 bits: here document 01 departs from the published code, which is no judge.
-    /// Seen only where overflow checks are on, as in profile `judge`.
+    /// A sum left 32 bits: here document 01 departs from the published code, so that the two
+    /// aren't compared. Given only where overflow checks are on, as in profile `compare`.
     Overflowed,
 }
 
-/// Judges an accepted document. Where the published code panics for any reason but an overflowing
-/// sum, this panics too, with the document in its message.
-pub fn judge(document: &Document) -> Judged {
-    try_judge(document).unwrap_or_else(|why| panic!("{why}"))
+/// The published `validate` on an accepted document. Where it panics for any reason but an
+/// overflowing sum, this panics too, with the document in its message.
+pub fn validate(document: &Document) -> Validated {
+    try_validate(document).unwrap_or_else(|why| panic!("{why}"))
 }
 
-/// Judges an accepted document; an unforeseen panic of the published code is an error with the
-/// document in hexadecimal.
-pub fn try_judge(document: &Document) -> Result<Judged, String> {
+/// The same; an unforeseen panic of the published code is an error with the document in hexadecimal.
+pub fn try_validate(document: &Document) -> Result<Validated, String> {
     let run = || with_published(document, crate::validate::validate);
     match silently(run) {
-        Ok(list) => Ok(Judged::Findings(list.into_iter().map(found).collect())),
+        Ok(list) => Ok(Validated::Findings(list.into_iter().map(found).collect())),
         Err(payload) => match panic_text(&*payload) {
-            "attempt to add with overflow" => Ok(Judged::Overflowed),
+            "attempt to add with overflow" => Ok(Validated::Overflowed),
             why => Err(format!(
                 "the published code panicked: {why}\n{}",
                 document.to_hex()
@@ -87,9 +86,9 @@ pub(crate) fn with_published<T>(document: &Document, work: impl FnOnce(Cursor<'_
 
 /// Runs `work` on the published table with the markers of an accepted table text.
 pub(crate) fn with_table<T>(text: &[u8], work: impl FnOnce(&MarkerTable) -> T) -> T {
-    let read = entries(text).expect("an accepted table is laid out");
+    let read = entries(text).expect("an accepted table has its layout");
     let infos: Vec<MarkerInfo> = read.into_iter().map(published_info).collect();
-    // SAFETY: the published table asks for 'static. `with_lent` keeps no copy after it returns,
+    // SAFETY: the published table requires 'static. `with_lent` keeps no copy after it returns,
     // `work` can't let the table's own lifetime escape, and `infos` outlives the call.
     let lent: &'static [MarkerInfo] = unsafe { std::mem::transmute(infos.as_slice()) };
     MarkerTable::with_lent(lent, work)

@@ -2,22 +2,22 @@
 
 use std::time::Instant;
 
-/// Since when it is watched.
-pub struct Watch {
+/// When the work began.
+pub struct Timer {
     on_processor: Option<f64>,
     by_clock: Instant,
 }
 
-impl Watch {
-    pub fn start() -> Watch {
-        Watch {
+impl Timer {
+    pub fn start() -> Timer {
+        Timer {
             on_processor: on_processor(),
             by_clock: Instant::now(),
         }
     }
 
     /// The seconds by the clock, or those that this thread ran, whichever are fewer: the clock counts other programs too, and
-    /// to ask how long the thread ran takes part of a microsecond.
+    /// to read how long the thread ran takes part of a microsecond.
     pub fn seconds(&self) -> f64 {
         let by_clock = self.by_clock.elapsed().as_secs_f64();
         match (self.on_processor, on_processor()) {
@@ -44,8 +44,8 @@ fn on_processor() -> Option<f64> {
         nanoseconds: 0,
     };
     // SAFETY: the system's `timespec` has these two fields on this target, and the function writes no more than them.
-    let told = unsafe { clock_gettime(THREAD_CPU_TIME, &mut time) };
-    (told == 0).then_some(time.seconds as f64 + time.nanoseconds as f64 / 1e9)
+    let status = unsafe { clock_gettime(THREAD_CPU_TIME, &mut time) };
+    (status == 0).then_some(time.seconds as f64 + time.nanoseconds as f64 / 1e9)
 }
 
 #[cfg(not(all(target_os = "linux", target_pointer_width = "64")))]
@@ -60,17 +60,17 @@ mod tests {
 
     #[test]
     fn sleep_is_no_work() {
-        let watch = Watch::start();
+        let timer = Timer::start();
         std::thread::sleep(Duration::from_millis(50));
-        let seconds = watch.seconds();
+        let seconds = timer.seconds();
         assert!((0.0..0.06).contains(&seconds) || on_processor().is_none());
     }
 
     #[test]
     fn work_takes_time() {
-        let watch = Watch::start();
+        let timer = Timer::start();
         let sum: u64 = (0..1_000_000u64).map(std::hint::black_box).sum();
         assert_eq!(sum, 499_999_500_000);
-        assert!((0.000_05..10.0).contains(&watch.seconds()));
+        assert!((0.000_05..10.0).contains(&timer.seconds()));
     }
 }

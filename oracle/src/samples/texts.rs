@@ -1,7 +1,7 @@
 //! Short texts by hand, for `reader`.
 
 /// Short texts that lie on either side of each check.
-pub const TELLING: &[&str] = &[
+pub const TEXTS: &[&str] = &[
     "",
     // Identification.
     "\\id GEN\n",

@@ -1,7 +1,7 @@
 use super::*;
 use crate::document::kind;
 use crate::refusals::refusal;
-use crate::samples::{Sketch, entry, listing};
+use crate::samples::{Builder, entry, listing};
 
 const ID: u16 = 0;
 const C: u16 = 1;
@@ -16,8 +16,8 @@ const QT: u16 = 9;
 const FR: u16 = 10;
 const PAST: u16 = 11;
 
-/// What the published code makes of a sketch.
-fn judged(sketch: &mut Sketch) -> Judged {
+/// What the published code gives for a builder's document.
+fn validated(builder: &mut Builder) -> Validated {
     let entries = [
         entry("id", 0, 1),
         entry("c", 1, 0),
@@ -31,49 +31,52 @@ fn judged(sketch: &mut Sketch) -> Judged {
         entry("qt-s", 6, 0),
         entry("fr", 4, 0),
     ];
-    let document = sketch.under(&entries);
+    let document = builder.under(&entries);
     let n = document.node_count();
     assert_eq!(refusal(&document, n, n), None);
-    judge(&document)
+    validate(&document)
 }
 
-fn found(sketch: &mut Sketch) -> Vec<Found> {
-    match judged(sketch) {
-        Judged::Findings(list) => list,
-        Judged::Overflowed => panic!("a sum left 32 bits"),
+fn found(builder: &mut Builder) -> Vec<Found> {
+    match validated(builder) {
+        Validated::Findings(list) => list,
+        Validated::Overflowed => panic!("a sum left 32 bits"),
     }
 }
 
-/// The findings of a sketch as code and message.
-fn findings(sketch: &mut Sketch) -> Vec<(u32, String)> {
-    let list = found(sketch);
+/// The findings of a builder's document as code and message.
+fn findings(builder: &mut Builder) -> Vec<(u32, String)> {
+    let list = found(builder);
     list.into_iter().map(|f| (f.code, f.message)).collect()
 }
 
-fn messages(sketch: &mut Sketch) -> Vec<String> {
-    found(sketch).into_iter().map(|f| f.message).collect()
+fn messages(builder: &mut Builder) -> Vec<String> {
+    found(builder).into_iter().map(|f| f.message).collect()
 }
 
-fn codes(sketch: &mut Sketch) -> Vec<u32> {
-    findings(sketch).into_iter().map(|(code, _)| code).collect()
+fn codes(builder: &mut Builder) -> Vec<u32> {
+    findings(builder)
+        .into_iter()
+        .map(|(code, _)| code)
+        .collect()
 }
 
-/// A sketch that begins with what nearly every text has, so that nothing is missing.
-fn begun() -> Sketch {
-    let mut sketch = Sketch::default();
-    sketch.open(ID, "\\id").text(" GEN\n").end();
-    sketch.leaf(kind::CHAPTER, C, "\\c 1\n", 1);
-    sketch
+/// A builder that begins with what nearly every text has, so that nothing is missing.
+fn begun() -> Builder {
+    let mut builder = Builder::default();
+    builder.open(ID, "\\id").text(" GEN\n").end();
+    builder.leaf(kind::CHAPTER, C, "\\c 1\n", 1);
+    builder
 }
 
 /// The same with verses of these texts in a paragraph.
-fn with_verses(texts: &[&str]) -> Sketch {
-    let mut sketch = begun();
-    sketch.open(P, "\\p");
+fn with_verses(texts: &[&str]) -> Builder {
+    let mut builder = begun();
+    builder.open(P, "\\p");
     for text in texts {
-        sketch.leaf(kind::VERSE, V, text, 0);
+        builder.leaf(kind::VERSE, V, text, 0);
     }
-    sketch
+    builder
 }
 
 fn verses(texts: &[&str]) -> Vec<(u32, String)> {
@@ -82,10 +85,10 @@ fn verses(texts: &[&str]) -> Vec<(u32, String)> {
 
 /// A `\w` with this attribute list.
 fn attributes(list: &str) -> Vec<(u32, String)> {
-    let mut sketch = begun();
-    sketch.open(W, "\\w").text(" word");
-    sketch.leaf(kind::ATTRIBUTE, 0, list, 0);
-    findings(&mut sketch)
+    let mut builder = begun();
+    builder.open(W, "\\w").text(" word");
+    builder.leaf(kind::ATTRIBUTE, 0, list, 0);
+    findings(&mut builder)
 }
 
 #[test]
@@ -97,12 +100,12 @@ fn the_listing_example_has_its_one_finding() {
         len: 5,
         message: "expected verse 1 but found 2".to_string(),
     };
-    assert_eq!(judge(&listing()), Judged::Findings(vec![expected]));
+    assert_eq!(validate(&listing()), Validated::Findings(vec![expected]));
 }
 
 #[test]
 fn the_root_alone_has_no_finding() {
-    assert_eq!(codes(&mut Sketch::default()), []);
+    assert_eq!(codes(&mut Builder::default()), []);
 }
 
 #[test]
@@ -163,14 +166,14 @@ fn a_sum_past_32_bits_is_noticed() {
     chapter.leaf(kind::CHAPTER, C, "\\c 2", u32::MAX);
     let mut row = begun();
     row.open(TR, "\\tr").open(TC, "\\tc4294967295");
-    for mut sketch in [
+    for mut builder in [
         with_verses(&["\\v 1-4294967295"]),
         with_verses(&["\\v 1-4294967295a", "\\v 5"]),
         with_verses(&["\\v 1", "\\v 4294967295a"]),
         chapter,
         row,
     ] {
-        assert_eq!(judged(&mut sketch), Judged::Overflowed);
+        assert_eq!(validated(&mut builder), Validated::Overflowed);
     }
 }
 
@@ -179,7 +182,7 @@ fn another_panic_is_an_error_with_the_document() {
     let mut document = listing();
     let text = document.node(2);
     document.set_node(2, Node { start: 99, ..text });
-    let why = try_judge(&document).unwrap_err();
+    let why = try_validate(&document).unwrap_err();
     assert!(why.contains("panicked") && why.contains("source=5c6964"));
 }
 
@@ -187,65 +190,65 @@ fn another_panic_is_an_error_with_the_document() {
 
 #[test]
 fn a_marker_without_an_entry_is_not_visited() {
-    let mut sketch = begun();
-    sketch.open(PAST, "\\zz");
-    sketch.leaf(kind::VERSE, V, "\\v 9", 9);
-    sketch.open(QT, "\\qt-e").end();
-    assert_eq!(codes(&mut sketch), []);
+    let mut builder = begun();
+    builder.open(PAST, "\\zz");
+    builder.leaf(kind::VERSE, V, "\\v 9", 9);
+    builder.open(QT, "\\qt-e").end();
+    assert_eq!(codes(&mut builder), []);
 }
 
 #[test]
 fn a_cell_without_an_entry_counts_in_its_row() {
-    let mut sketch = begun();
-    sketch.open(TR, "\\tr").open(PAST, "\\tc1").end();
-    sketch.open(TC, "\\tc3").end();
+    let mut builder = begun();
+    builder.open(TR, "\\tr").open(PAST, "\\tc1").end();
+    builder.open(TC, "\\tc3").end();
     let message = "expected table column 2 but found column 3";
-    assert_eq!(findings(&mut sketch), [(27, message.to_string())]);
+    assert_eq!(findings(&mut builder), [(27, message.to_string())]);
 }
 
 #[test]
 fn a_cell_without_columns_keeps_the_expected_column() {
-    let mut sketch = begun();
-    sketch.open(TR, "\\tr").open(TC, "\\tc1-2").end();
-    sketch.open(TC, "\\tc").end().open(TC, "\\tc3").end();
-    assert_eq!(codes(&mut sketch), []);
+    let mut builder = begun();
+    builder.open(TR, "\\tr").open(TC, "\\tc1-2").end();
+    builder.open(TC, "\\tc").end().open(TC, "\\tc3").end();
+    assert_eq!(codes(&mut builder), []);
 }
 
 #[test]
 fn a_number_without_an_entry_fills_its_slot() {
-    let mut sketch = begun();
-    sketch.open(PAST, "\\ca").end().open(CA, "\\ca").end();
-    assert_eq!(codes(&mut sketch), [33]);
+    let mut builder = begun();
+    builder.open(PAST, "\\ca").end().open(CA, "\\ca").end();
+    assert_eq!(codes(&mut builder), [33]);
 }
 
 #[test]
 fn numbers_at_one_byte_are_attached_together() {
-    let mut sketch = begun();
-    sketch.open(CA, "\\ca").end().open(CA, "\\ca").end();
-    assert_eq!(codes(&mut sketch), [33]);
-    let first = sketch.nodes.iter().position(|node| node.marker == CA);
-    let start = sketch.nodes[first.unwrap()].start;
-    let last = sketch.nodes.iter().rposition(|node| node.marker == CA);
-    sketch.nodes[last.unwrap()].start = start;
-    assert_eq!(codes(&mut sketch), []);
+    let mut builder = begun();
+    builder.open(CA, "\\ca").end().open(CA, "\\ca").end();
+    assert_eq!(codes(&mut builder), [33]);
+    let first = builder.nodes.iter().position(|node| node.marker == CA);
+    let start = builder.nodes[first.unwrap()].start;
+    let last = builder.nodes.iter().rposition(|node| node.marker == CA);
+    builder.nodes[last.unwrap()].start = start;
+    assert_eq!(codes(&mut builder), []);
 }
 
 #[test]
 fn a_number_with_markup_ends_the_run() {
-    let mut sketch = begun();
-    sketch.open(CA, "\\ca").open(PAST, "\\zz").end().end();
-    sketch.open(CA, "\\cp").end();
-    assert_eq!(codes(&mut sketch), [33]);
+    let mut builder = begun();
+    builder.open(CA, "\\ca").open(PAST, "\\zz").end().end();
+    builder.open(CA, "\\cp").end();
+    assert_eq!(codes(&mut builder), [33]);
 }
 
 #[test]
 fn a_blank_between_anchor_and_number_is_skipped_and_a_paragraph_is_not() {
-    let mut sketch = begun();
-    sketch.text("\u{2028}").open(CA, "\\ca").end();
-    assert_eq!(codes(&mut sketch), []);
-    let mut sketch = begun();
-    sketch.open(P, "\\p").end().open(CA, "\\ca").end();
-    assert_eq!(codes(&mut sketch), [33]);
+    let mut builder = begun();
+    builder.text("\u{2028}").open(CA, "\\ca").end();
+    assert_eq!(codes(&mut builder), []);
+    let mut builder = begun();
+    builder.open(P, "\\p").end().open(CA, "\\ca").end();
+    assert_eq!(codes(&mut builder), [33]);
 }
 
 #[test]
@@ -260,10 +263,10 @@ fn markup_without_an_entry_is_content() {
 
 #[test]
 fn a_verse_without_an_entry_is_visited() {
-    let mut sketch = begun();
-    sketch.leaf(kind::VERSE, PAST, "\\v12 2", 0);
+    let mut builder = begun();
+    builder.leaf(kind::VERSE, PAST, "\\v12 2", 0);
     let message = "expected verse 1 but found 2";
-    let list = findings(&mut sketch);
+    let list = findings(&mut builder);
     assert_eq!(list[0].0, 12);
     assert_eq!(list[1..], [(11, message.to_string())]);
 }
@@ -294,51 +297,51 @@ fn names_come_from_the_table_or_from_the_source() {
 
 #[test]
 fn a_blank_first_text_means_no_book_code() {
-    let mut sketch = Sketch::default();
-    sketch.open(ID, "\\id").text(" \n").text("XYZ").end();
-    sketch.leaf(kind::CHAPTER, C, "\\c 1\n", 1);
-    assert_eq!(codes(&mut sketch), []);
+    let mut builder = Builder::default();
+    builder.open(ID, "\\id").text(" \n").text("XYZ").end();
+    builder.leaf(kind::CHAPTER, C, "\\c 1\n", 1);
+    assert_eq!(codes(&mut builder), []);
 }
 
 #[test]
 fn without_a_book_code_the_front_matter_flag_stays() {
-    let mut sketch = Sketch::default();
-    sketch.open(ID, "\\id").text(" FRT").end();
-    sketch.open(ID, "\\id").end().open(P, "\\p").end();
-    assert_eq!(codes(&mut sketch), [6]);
-    let mut sketch = Sketch::default();
-    sketch.open(ID, "\\id").text(" FRT").end();
-    sketch.open(ID, "\\id").text(" GEN").end();
-    assert_eq!(codes(&mut sketch), [6, 8]);
+    let mut builder = Builder::default();
+    builder.open(ID, "\\id").text(" FRT").end();
+    builder.open(ID, "\\id").end().open(P, "\\p").end();
+    assert_eq!(codes(&mut builder), [6]);
+    let mut builder = Builder::default();
+    builder.open(ID, "\\id").text(" FRT").end();
+    builder.open(ID, "\\id").text(" GEN").end();
+    assert_eq!(codes(&mut builder), [6, 8]);
 }
 
 #[test]
 fn chapters_go_by_their_links() {
-    let mut sketch = begun();
-    sketch.leaf(kind::CHAPTER, C, "\\c 2", 0);
-    sketch.leaf(kind::CHAPTER, C, "\\c 3", 1);
-    sketch.leaf(kind::CHAPTER, C, "\\c 4", 0);
+    let mut builder = begun();
+    builder.leaf(kind::CHAPTER, C, "\\c 2", 0);
+    builder.leaf(kind::CHAPTER, C, "\\c 3", 1);
+    builder.leaf(kind::CHAPTER, C, "\\c 4", 0);
     let expected = [
         "expected chapter 2 but found 0",
         "chapter 1 appears more than once",
         "chapter 0 appears more than once",
         "expected chapter 2 but found 0",
     ];
-    assert_eq!(messages(&mut sketch), expected);
+    assert_eq!(messages(&mut builder), expected);
 }
 
 #[test]
 fn an_end_takes_the_nearest_start_of_its_base() {
-    let mut sketch = begun();
-    sketch.open(QT, "\\qt-s").end();
-    let first = sketch.nodes[5].start;
-    sketch.open(QT, "\\x-s").end().open(QT, "\\qt-s").end();
-    sketch.open(QT, "\\qt-e").end().open(QT, "\\-e").end();
+    let mut builder = begun();
+    builder.open(QT, "\\qt-s").end();
+    let first = builder.nodes[5].start;
+    builder.open(QT, "\\x-s").end().open(QT, "\\qt-s").end();
+    builder.open(QT, "\\qt-e").end().open(QT, "\\-e").end();
     let expected = [
         "milestone \\-e has no matching \\-s",
         "milestone \\qt-s has no matching \\qt-e",
         "milestone \\x-s has no matching \\x-e",
     ];
-    assert_eq!(messages(&mut sketch), expected);
-    assert_eq!(found(&mut sketch)[1].start, first);
+    assert_eq!(messages(&mut builder), expected);
+    assert_eq!(found(&mut builder)[1].start, first);
 }

@@ -2,24 +2,24 @@
 
 use harkoxin::raw::{self, CUT, DONE, MESSAGE_WORDS, MESSAGES_WORDS, REFUSED, TALLY_WORDS};
 
-use super::{Comparison, Owed};
+use super::{Comparison, Expected};
 use crate::reached::Function;
 use crate::requests::{damaged_list, request};
 use crate::rng::Rng;
 use crate::tallies::{CODES, tally};
-use crate::texts::{Asked, Together, requests, together};
+use crate::texts::{Request, WrittenTexts, requests, written_texts};
 
-/// The most texts of a document that are asked for one by one; of more findings the seed chooses.
+/// The most texts of a document that are requested one by one; of more findings the seed chooses.
 const MOST_TEXTS: usize = 40;
 
-impl From<Asked> for raw::Asked {
-    fn from(asked: Asked) -> raw::Asked {
-        raw::Asked {
-            code: asked.code,
-            form: asked.form,
-            node: asked.node,
-            first: asked.first,
-            second: asked.second,
+impl From<Request> for raw::MessageRequest {
+    fn from(request: Request) -> raw::MessageRequest {
+        raw::MessageRequest {
+            code: request.code,
+            form: request.form,
+            node: request.node,
+            first: request.first,
+            second: request.second,
         }
     }
 }
@@ -34,30 +34,30 @@ pub(super) fn room_for(rng: &mut Rng, len: usize) -> usize {
     }
 }
 
-/// The answer of texts that are laid together.
-pub(super) fn together_words(laid: &Together) -> [u64; MESSAGES_WORDS] {
-    let (verdict, (number, place)) = match laid.stopped {
+/// The answer about texts that are written one behind another.
+pub(super) fn messages_answer(texts: &WrittenTexts) -> [u64; MESSAGES_WORDS] {
+    let (verdict, (number, place)) = match texts.stopped {
         None => (DONE, (0, 0)),
         Some(stopped) => (CUT, stopped),
     };
-    let (told, bytes) = (laid.ends.len() as u64, laid.bytes.len() as u64);
-    [verdict, number, place, told, bytes]
+    let (written, bytes) = (texts.ends.len() as u64, texts.bytes.len() as u64);
+    [verdict, number, place, written, bytes]
 }
 
 impl Comparison {
     /// The texts of an accepted document.
-    pub(super) fn texts(&mut self, owed: &Owed<'_>, rng: &mut Rng) -> Result<(), String> {
-        self.each_text(owed, rng)?;
+    pub(super) fn texts(&mut self, expected: &Expected<'_>, rng: &mut Rng) -> Result<(), String> {
+        self.each_text(expected, rng)?;
         for _ in 0..rng.below(3) {
-            let asked = request(rng, &owed.list, owed.nodes());
-            let text = owed.reader.text(asked);
-            self.one_text(asked, text.as_deref(), rng)?;
+            let request = request(rng, &expected.list, expected.nodes());
+            let text = expected.reader.text(request);
+            self.one_text(request, text.as_deref(), rng)?;
         }
-        self.all_texts(&owed.list, owed.texts.iter().map(Some), rng)?;
+        self.all_texts(&expected.list, expected.texts.iter().map(Some), rng)?;
         if rng.one_in(3) {
-            let list = damaged_list(rng, &owed.list, owed.nodes());
+            let list = damaged_list(rng, &expected.list, expected.nodes());
             let texts: Vec<_> = requests(&list)
-                .map(|asked| owed.reader.text(asked))
+                .map(|request| expected.reader.text(request))
                 .collect();
             self.all_texts(&list, texts.iter().map(Option::as_ref), rng)?;
         }
@@ -66,50 +66,56 @@ impl Comparison {
 
     /// The texts of the findings, one by one, since each call reads the whole document: of one document in four as many as
     /// `MOST_TEXTS`, of the others two.
-    fn each_text(&mut self, owed: &Owed<'_>, rng: &mut Rng) -> Result<(), String> {
-        let asked: Vec<Asked> = requests(&owed.list).collect();
+    fn each_text(&mut self, expected: &Expected<'_>, rng: &mut Rng) -> Result<(), String> {
+        let requests: Vec<Request> = requests(&expected.list).collect();
         let most = if rng.one_in(4) { MOST_TEXTS } else { 2 };
-        for k in 0..asked.len().min(most) {
-            let place = match asked.len() <= most {
+        for k in 0..requests.len().min(most) {
+            let place = match requests.len() <= most {
                 true => k,
-                false => rng.below(asked.len()),
+                false => rng.below(requests.len()),
             };
-            self.one_text(asked[place], Some(&owed.texts[place]), rng)?;
+            self.one_text(requests[place], Some(&expected.texts[place]), rng)?;
         }
         Ok(())
     }
 
-    fn one_text(&mut self, asked: Asked, text: Option<&str>, rng: &mut Rng) -> Result<(), String> {
+    fn one_text(
+        &mut self,
+        request: Request,
+        text: Option<&str>,
+        rng: &mut Rng,
+    ) -> Result<(), String> {
         let room = room_for(rng, text.map_or(60, str::len));
-        let (laid, answer) = match text {
+        let (written, answer) = match text {
             None => ("", [REFUSED, 12, 0, 0]),
             Some(text) if room < text.len() => ("", [REFUSED, 13, text.len() as u64, 0]),
             Some(text) => (text, [DONE, 0, 0, text.len() as u64]),
         };
-        self.ask(asked, room, laid, answer, rng)?;
+        self.compare_message(request, room, written, answer, rng)?;
         if let Some(text) = text {
-            let (code, form) = (asked.code, asked.form);
+            let (code, form) = (request.code, request.form);
             self.counts.reached.text(code, form, room.cmp(&text.len()));
         }
         Ok(())
     }
 
-    fn ask(
+    /// One call for a text: what it writes over a list of so many bytes, and its answer.
+    fn compare_message(
         &mut self,
-        asked: Asked,
+        request: Request,
         room: usize,
-        laid: &str,
+        written: &str,
         answer: [u64; MESSAGE_WORDS],
         rng: &mut Rng,
     ) -> Result<(), String> {
         self.slots.text.fill(room, rng);
         self.slots.fill_out(MESSAGE_WORDS, rng);
-        self.slots.message(asked.into());
-        let told = |why| format!("{asked:?}, a list of {room} bytes: {why}");
-        let text = self.slots.text.expect("a text", laid.as_bytes());
-        text.map_err(told)?;
+        self.slots.message(request.into());
+        let with_request = |why| format!("{request:?}, a list of {room} bytes: {why}");
+        let text = self.slots.text.expect("a text", written.as_bytes());
+        text.map_err(with_request)?;
         let out = self.slots.expect_out("a text's answer", &answer);
-        out.map_err(told)?;
+        out.map_err(with_request)?;
         self.counts.lent(&[room, 8 * self.slots.out.len()]);
         self.counts.reached.answer(Function::Message, answer[1]);
         Ok(())
@@ -127,12 +133,13 @@ impl Comparison {
             0 => 0,
             _ => room_for(rng, len),
         };
-        let laid = together(texts, room);
-        let answer = together_words(&laid);
-        self.ask_together(list, room, (&laid.ends, &laid.bytes), answer, rng)
+        let texts = written_texts(texts, room);
+        let answer = messages_answer(&texts);
+        self.compare_messages(list, room, (&texts.ends, &texts.bytes), answer, rng)
     }
 
-    fn ask_together(
+    /// One call for the texts of a list: the ends and the bytes that it writes, and its answer.
+    fn compare_messages(
         &mut self,
         list: &[u64],
         room: usize,
@@ -158,7 +165,7 @@ impl Comparison {
         Ok(())
     }
 
-    /// The lists after texts were laid together.
+    /// The lists after texts were written one behind another.
     pub(super) fn expect_texts(&self, ends: &[u64], bytes: &[u8]) -> Result<(), String> {
         let ends = &ends[..ends.len().min(self.slots.ends.len())];
         self.slots.ends.expect("the ends of texts", ends)?;
@@ -172,13 +179,13 @@ impl Comparison {
         n: usize,
         rng: &mut Rng,
     ) -> Result<(), String> {
-        let asked = request(rng, &[], n as u64);
+        let request = request(rng, &[], n as u64);
         let room = room_for(rng, 60);
-        self.ask(asked, room, "", [REFUSED, number, place, 0], rng)?;
+        self.compare_message(request, room, "", [REFUSED, number, place, 0], rng)?;
         let list = damaged_list(rng, &[], n as u64);
         let room = room_for(rng, 60);
         let answer = [REFUSED, number, place, 0, 0];
-        self.ask_together(&list, room, (&[], &[]), answer, rng)
+        self.compare_messages(&list, room, (&[], &[]), answer, rng)
     }
 
     /// The tally of a document's findings, and of a list with something changed.

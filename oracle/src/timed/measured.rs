@@ -6,7 +6,7 @@ use std::time::{Duration, Instant};
 use harkoxin::raw::{self, CHECK_WORDS, DONE, FINDING_WORDS, OpenStart};
 use harkoxin::{Checker, Table, Tape};
 
-use super::{Published, Watch, with_published};
+use super::{Published, Timer, with_published};
 use crate::document::Document;
 
 /// Rounds of one sweep.
@@ -105,9 +105,9 @@ impl Lists {
         let table = &documents[0].table;
         let (mut seconds, mut total) = (0.0, 0);
         for document in documents {
-            let watch = Watch::start();
+            let timer = Timer::start();
             let answer = self.check(table, document);
-            seconds += watch.seconds();
+            seconds += timer.seconds();
             assert_eq!(answer[0], DONE, "checked, and not cut");
             total += answer[3];
         }
@@ -120,9 +120,9 @@ impl Lists {
         let (mut seconds, mut total) = (0.0, 0);
         for document in documents {
             let (source, tape) = (&document.source, Tape::from_bytes(&document.tape));
-            let watch = Watch::start();
+            let timer = Timer::start();
             let report = black_box(self.checker.check_bytes(&table, black_box(source), &tape));
-            seconds += watch.seconds();
+            seconds += timer.seconds();
             let report = report.expect("an accepted document");
             assert!(!report.is_cut());
             total += report.total();
