@@ -154,7 +154,7 @@ fn byte(s: &[u8], k: usize) -> u64
 }
 
 // Four bytes, the first the lowest. The sum is one load.
-pub fn four_bytes(s: &[u8], at: usize) -> u64
+fn four_bytes(s: &[u8], at: usize) -> u64
     requires { ⌜ at + 4 ≤ length (now s) ⌝ }
     ensures { λ r. ⌜ (r ≡ fourBytes (now (s .entry)) at) × (r < 4294967296) ⌝ }
 {
