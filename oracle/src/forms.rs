@@ -65,7 +65,6 @@ pub(crate) const CONSTANT: &[(u32, u64, &str)] = &[
     ),
     (21, 0, r"\fig has no caption content"),
     (22, 0, "attribute value must be quoted"),
-    (23, 0, r#"\rb is missing its required "gloss" attribute"#),
     (25, 0, r"\w has no text content or attributes"),
 ];
 
@@ -94,6 +93,11 @@ fn filled_form(code: u32, message: &str) -> Option<(u64, u64, u64)> {
         13 => filled(message, r"\", " is only valid inside a note"),
         15 => Some((leading_zeros_form(message)?, 0, 0)),
         16 => Some((milestone_form(message)?, 0, 0)),
+        23 => filled(
+            message,
+            r"\",
+            r#" is missing its required "gloss" attribute"#,
+        ),
         24 => filled(
             message,
             r"body paragraph \",

@@ -87,6 +87,7 @@ impl<'a> Reader<'a> {
             (15, 1) => leading_zeros("verse", self.label(node)?),
             (16, 0) => no_matching(self.base(node)?, "s", "e"),
             (16, 1) => no_matching(self.base(node)?, "e", "s"),
+            (23, 0) => missing_gloss(self.entry(node)?.name),
             (24, 0) => before_any_chapter(self.entry(node)?.name),
             (27, 0) => format!("expected table column {first} but found column {second}"),
             (32, 0) => no_default(self.name(first)?),
@@ -194,6 +195,10 @@ fn leading_zeros(unit: &str, label: &str) -> String {
 
 fn no_matching(base: &str, this: &str, other: &str) -> String {
     format!("milestone \\{base}-{this} has no matching \\{base}-{other}")
+}
+
+fn missing_gloss(name: &str) -> String {
+    format!("\\{name} is missing its required \"gloss\" attribute")
 }
 
 fn before_any_chapter(name: &str) -> String {

@@ -15,11 +15,11 @@ use Rattle.buffer.specs.Decimal.{decimalFuel, decimal}
 
 -- one digit, or the digits of the tenth part and one more
 module _ (k n : ℕ) where
-  one-digit : n < 10 → decimalFuel (suc k) n ≡ (48 + n) ∷ []
+  pub one-digit : n < 10 → decimalFuel (suc k) n ≡ (48 + n) ∷ []
   unfolding decimalFuel
   one-digit h = rw (lt-ltb n 10 h)
 
-  one-more : 10 ≤ n → decimalFuel (suc k) n ≡ decimalFuel k (n / 10) ++ ((48 + n % 10) ∷ [])
+  pub one-more : 10 ≤ n → decimalFuel (suc k) n ≡ decimalFuel k (n / 10) ++ ((48 + n % 10) ∷ [])
   unfolding decimalFuel
   one-more h = rw (le-ltb n 10 h)
 

@@ -1,3 +1,4 @@
+pub mod EachFinding
 pub mod Then
 pub mod Untaken
 pub mod Longer
@@ -6,3 +7,5 @@ pub mod Counted
 pub mod Worked
 pub mod Few
 pub mod Givens
+pub mod Unclosed
+pub mod Pair

@@ -1,4 +1,4 @@
--- Each worked example has the findings that document 01 gives it.
+-- Each worked example is accepted, and has the findings that document 01 gives it.
 -- Assumes nothing.
 use mathlib.Core.Path.{_≡_, refl}
 use Rattle.text.specs.Literal.{ascii}
@@ -10,12 +10,16 @@ use Rattle.text.specs.Words.{trimStart, kept, trim, blankText, wordFrom}
 use Rattle.text.specs.Number.{allDigits, valueFrom, digitsFrom, digits, parsed}
 use Rattle.tape.specs.Nodes.{half, word, nodes}
 use Rattle.tape.specs.Forest.{followed, runs}
+use Rattle.tape.specs.Reading as reading
+use Rattle.refusals.specs.Refusal.{firstBad}
 use Rattle.table.specs.Lines as lines
 use Rattle.table.specs.Entries as entries
 use Rattle.table.specs.Names as names
 use Rattle.table.specs.Books as books
 use Rattle.cursor.specs.Names.{namePart}
+use Rattle.cursor.specs.Info.{infoAt}
 use Rattle.numbers.specs.Verse.{partOf, versePart, verseEnd, next, inSequence}
+use Rattle.numbers.specs.Label as label
 use Rattle.numbers.specs.Label.{labelOf}
 use Rattle.rows.specs.Cells.{columnsIn, cellColumns}
 use Rattle.rows.specs.Row.{rowFrom}
@@ -24,10 +28,16 @@ use Rattle.attachment.specs.Attached.{isAlternate, isPublished, plain, runOf, s
 use Rattle.definition.specs.Checks as checks
 use Rattle.definition.specs.Milestones.{waits, without, afterMilestone}
 use Rattle.definition.specs.Walk.{openChecked, walk}
+use Rattle.definition.specs.Outcome.{refusal, repeated}
 use Rattle.definition.specs.Document.{textBefore, unclosed, closing}
 use Rattle.definition.specs.Examples as worked
 use Rattle.text.specs.Bytes.{equal, all, oneOf, upper}
 
 pub worked-examples : worked.findingsOf worked.examples ≡ worked.wantedFindings worked.examples
-unfolding ascii worked.findingsOf worked.wantedFindings worked.examples worked.exampleTable worked.tapeOf worked.example1 worked.example2 worked.example3 worked.example4 worked.example5 worked.example6 worked.example7 worked.example8 worked.example9 worked.example10 worked.example11 worked.example12 worked.example13 worked.example14 utf8.table3-7 utf8.begins utf8.widthBy utf8.widthOf utf8.decoded utf8.decode inAny blankRanges blank charsPast bytesBefore findByte trimStart kept trim blankText wordFrom allDigits valueFrom digitsFrom digits parsed half word nodes followed runs equal all oneOf lines.lines lines.categories lines.roles entries.position entries.entriesOf entries.entries entries.nth names.lemmaNames names.defaultOf names.frontMatter names.noteOnly books.bookCodes books.codeFrom books.bookOf attributes.scanStep attributes.attributeScan attributes.attributeKinds attributes.findingsAt attributes.attributesFindings namePart partOf versePart verseEnd next inSequence labelOf columnsIn cellColumns rowFrom isAlternate isPublished plain runOf startOffsets among checks.given checks.afterChapter checks.afterVerse checks.leafChecked checks.bookCode upper checks.afterId checks.inlineContent checks.hasLeaf checks.hasMarkers checks.numberMarkers waits without afterMilestone openChecked walk textBefore unclosed closing
+unfolding ascii worked.findingsOf worked.wantedFindings worked.examples worked.exampleTable worked.tapeOf worked.example1 worked.example2 worked.example3 worked.example4 worked.example5 worked.example6 worked.example7 worked.example8 worked.example9 worked.example10 worked.example11 worked.example12 worked.example13 worked.example14 worked.example15 worked.shorterPaper worked.longerPaper utf8.table3-7 utf8.begins utf8.widthBy utf8.widthOf utf8.decoded utf8.decode inAny blankRanges blank charsPast bytesBefore findByte trimStart kept trim blankText wordFrom allDigits valueFrom digitsFrom digits parsed half word nodes followed runs equal all oneOf lines.lines lines.categories lines.roles entries.position entries.entriesOf entries.entries entries.nth names.lemmaNames names.defaultOf names.frontMatter names.noteOnly books.bookCodes books.codeFrom books.bookOf attributes.scanStep attributes.attributeScan attributes.attributeKinds attributes.findingsAt attributes.attributesFindings namePart partOf versePart verseEnd next inSequence labelOf columnsIn cellColumns rowFrom isAlternate isPublished plain runOf startOffsets among checks.given checks.afterChapter checks.afterVerse checks.leafChecked checks.bookCode upper checks.afterId checks.inlineContent checks.hasLeaf checks.hasMarkers checks.numberMarkers waits without afterMilestone openChecked walk textBefore unclosed closing
 worked-examples = refl
+
+-- none of the numbers 1 to 10 turns an example back
+pub worked-accepted : worked.refusalsOf worked.examples ≡ worked.noneOf worked.examples
+unfolding ascii worked.examples worked.example1 worked.example2 worked.example3 worked.example4 worked.example5 worked.example6 worked.example7 worked.example8 worked.example9 worked.example10 worked.example11 worked.example12 worked.example13 worked.example14 worked.example15 worked.shorterPaper worked.longerPaper worked.exampleTable worked.tapeOf utf8.table3-7 utf8.begins utf8.widthBy utf8.widthOf utf8.decoded utf8.decode inAny blankRanges blank charsPast bytesBefore findByte trimStart kept trim blankText wordFrom half word equal all oneOf lines.lines lines.categories lines.roles entries.position entries.entriesOf entries.entries entries.nth namePart worked.refusalsOf worked.noneOf refusal repeated utf8.scan utf8.afterWidth utf8.firstIllFormed lines.badFrom lines.badTable reading.step reading.read reading.tapeRefusal firstBad label.splits label.labelRefusal infoAt
+worked-accepted = refl

@@ -58,6 +58,10 @@ versesVisited table f = walked table f .state .verses
 abbrev pub unclosedOf : List ℕ → Forest → List Finding
 unclosedOf table f = unclosed (walked table f .state .openStarts)
 
+-- "a MilestoneMismatch of form 0": the finding of an unclosed start
+abbrev pub isUnclosed : Finding → Bool
+isUnclosed f = eqb (f .code) milestoneMismatch && eqb (f .form) unclosedStart
+
 -- the findings of a list that pass a test, in order
 unfoldable pub those : (Finding → Bool) → List Finding → List Finding
 those p [] = []

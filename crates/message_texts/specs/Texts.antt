@@ -87,7 +87,7 @@ markerTexts =
     ∷ of nonEmptyBlankLine empty empty empty ((say "\\b (blank line) must not contain content" ∷ []) ∷ [])
     ∷ of milestoneMismatch base empty empty ((say "milestone \\" ∷ v1 ∷ say "-s has no matching \\" ∷ v1 ∷ say "-e" ∷ []) ∷ (say "milestone \\" ∷ v1 ∷ say "-e has no matching \\" ∷ v1 ∷ say "-s" ∷ []) ∷ [])
     ∷ of emptyFigure empty empty empty ((say "\\fig has no caption content" ∷ []) ∷ [])
-    ∷ of missingRequiredAttribute empty empty empty ((say "\\rb is missing its required \"gloss\" attribute" ∷ []) ∷ [])
+    ∷ of missingRequiredAttribute entryName empty empty ((say "\\" ∷ v1 ∷ say " is missing its required \"gloss\" attribute" ∷ []) ∷ [])
     ∷ of bodyParagraphBeforeChapter entryName empty empty ((say "body paragraph \\" ∷ v1 ∷ say " appears before any \\c (chapter)" ∷ []) ∷ [])
     ∷ of emptyWordMarker empty empty empty ((say "\\w has no text content or attributes" ∷ []) ∷ [])
     ∷ of invalidTableColumnSequence first second empty ((say "expected table column " ∷ v1 ∷ say " but found column " ∷ v2 ∷ []) ∷ [])

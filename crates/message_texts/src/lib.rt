@@ -255,7 +255,7 @@ fn more_marker_text(code: u64, form: u64, a: &[u8], b: &[u8], c: &[u8], out: &mu
 {
     match code {
         findings::MISSING_REQUIRED_ATTRIBUTE => {
-            let text = *b"\\rb is missing its required \"gloss\" attribute";
+            let text = *b"\\\x01 is missing its required \"gloss\" attribute";
             one(form, &text, a, b, c, out)
         }
         findings::BODY_PARAGRAPH_BEFORE_CHAPTER => {

@@ -22,11 +22,10 @@ use Rattle.text.specs.Literal.{ascii}
 use Rattle.text.specs.Bytes.{equal, oneOf}
 use Rattle.table.specs.Inner.{Indexed}
 
--- the table's name for two codes, the source's for the others
+-- the table's name for some codes, the source's for the others
 module _ (code : ℕ) (a b name : List ℕ) (is : name ≡ pick (isTables code) a b) where
-  pub by-table : (code ≡ 13) ⊎ (code ≡ 24) → name ≡ a
-  by-table (inl e) = is ∙ ap (λ (k : ℕ). pick (isTables k) a b) e
-  by-table (inr e) = is ∙ ap (λ (k : ℕ). pick (isTables k) a b) e
+  pub by-table : isTables code ≡ true → name ≡ a
+  by-table h = is ∙ ap (λ (x : Bool). pick x a b) h
 
   pub by-source : (n : ℕ) → isTables n ≡ false → code ≡ n → name ≡ b
   by-source n h e = is ∙ ap (λ (k : ℕ). pick (isTables k) a b) e ∙ ap (λ (x : Bool). pick x a b) h

@@ -2,14 +2,17 @@
 -- Assumes nothing.
 use Prim.Native.Nat.{ℕ}
 use mathlib.Core.Path.{_≡_, refl}
+use mathlib.Core.Bool.{Bool, true, false, false≢true, _||_}
 use mathlib.Core.List.{List}
 use mathlib.Core.Option.{Option, some, none}
+use lib.Dec.{eqb}
+use borrow.Author.Tests.{eqb-true}
 use Rattle.message_texts.specs.Texts.{Code, Hole, documentTexts, numberTexts, markerTexts, attributeTexts}
 use Rattle.message_texts.specs.Texts as texts
 use Rattle.message_texts.specs.Filled.{Values, allTexts, codeOf, textIn, filledBy}
 use Rattle.message_texts.specs.Inner.{values}
 use Rattle.messages.specs.Message.{Request, shown, three, textBy}
-use Rattle.messages.specs.Inner.{WrittenBy, WrittenWith}
+use Rattle.messages.specs.Inner.{WrittenBy, WrittenWith, isTables}
 
 unfilled : (f : Option (List ℕ)) → filledBy f none ≡ none
 unfilled none = refl
@@ -53,7 +56,7 @@ pub holes-11 : (n : ℕ) → n ≡ 11 → Holes n texts.position texts.label tex
 unfolding allTexts documentTexts numberTexts markerTexts attributeTexts codeOf
 holes-11 n e = rw e (record { text = _; is = refl; one = refl; two = refl; third = refl })
 
-pub holes-13 : (n : ℕ) → n ≡ 13 → Holes n texts.entryName texts.empty texts.empty
+holes-13 : (n : ℕ) → n ≡ 13 → Holes n texts.entryName texts.empty texts.empty
 unfolding allTexts documentTexts numberTexts markerTexts attributeTexts codeOf
 holes-13 n e = rw e (record { text = _; is = refl; one = refl; two = refl; third = refl })
 
@@ -65,9 +68,23 @@ pub holes-16 : (n : ℕ) → n ≡ 16 → Holes n texts.base texts.empty texts.e
 unfolding allTexts documentTexts numberTexts markerTexts attributeTexts codeOf
 holes-16 n e = rw e (record { text = _; is = refl; one = refl; two = refl; third = refl })
 
-pub holes-24 : (n : ℕ) → n ≡ 24 → Holes n texts.entryName texts.empty texts.empty
+holes-24 : (n : ℕ) → n ≡ 24 → Holes n texts.entryName texts.empty texts.empty
 unfolding allTexts documentTexts numberTexts markerTexts attributeTexts codeOf
 holes-24 n e = rw e (record { text = _; is = refl; one = refl; two = refl; third = refl })
+
+holes-23 : (n : ℕ) → n ≡ 23 → Holes n texts.entryName texts.empty texts.empty
+unfolding allTexts documentTexts numberTexts markerTexts attributeTexts codeOf
+holes-23 n e = rw e (record { text = _; is = refl; one = refl; two = refl; third = refl })
+
+-- the codes whose texts show the table's name
+pub holes-entry : (n : ℕ) → isTables n ≡ true → Holes n texts.entryName texts.empty texts.empty
+holes-entry n h = test (eqb n 13) (eqb n 23) (eqb n 24) refl refl refl h
+  where
+    test : (a b c : Bool) → eqb n 13 ≡ a → eqb n 23 ≡ b → eqb n 24 ≡ c → (a || (b || c)) ≡ true → Holes n texts.entryName texts.empty texts.empty
+    test true b c e f g h = holes-13 n (eqb-true n 13 e)
+    test false true c e f g h = holes-23 n (eqb-true n 23 f)
+    test false false true e f g h = holes-24 n (eqb-true n 24 g)
+    test false false false e f g h = absurd (false≢true h)
 
 pub holes-27 : (n : ℕ) → n ≡ 27 → Holes n texts.first texts.second texts.empty
 unfolding allTexts documentTexts numberTexts markerTexts attributeTexts codeOf

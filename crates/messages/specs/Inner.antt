@@ -9,7 +9,7 @@ use Rattle.text.specs.Pick.{cut}
 use Rattle.tape.specs.Nodes.{count}
 use Rattle.tape.specs.Forest.{Accepted}
 use Rattle.table.specs.Entries.{Entry}
-use Rattle.findings.specs.Codes.{noteSubmarkerOutsideNote, bodyParagraphBeforeChapter}
+use Rattle.findings.specs.Codes.{noteSubmarkerOutsideNote, missingRequiredAttribute, bodyParagraphBeforeChapter}
 use Rattle.message_texts.specs.Filled.{allTexts, codeOf}
 use Rattle.message_texts.specs.Inner.{WrittenAs, WrittenFrom}
 use Rattle.messages.specs.Message as message
@@ -33,7 +33,7 @@ WrittenWith q a b c l l′ r = WrittenFrom allTexts (q .code) (q .form) a b c l 
 
 -- "`\fr` outside a note shows the table's name"
 abbrev pub isTables : ℕ → Bool
-isTables code = eqb code noteSubmarkerOutsideNote || eqb code bodyParagraphBeforeChapter
+isTables code = eqb code noteSubmarkerOutsideNote || (eqb code missingRequiredAttribute || eqb code bodyParagraphBeforeChapter)
 
 -- the name in the table, empty where there is no entry
 abbrev pub nameOr : List ℕ → Option Entry → List ℕ

@@ -10,14 +10,14 @@ use findings::INVALID_VERSE_SEQUENCE;
 use findings::LEADING_ZEROS;
 use findings::MILESTONE_MISMATCH;
 use findings::MISPLACED_NUMBER_MARKER;
+use findings::MISSING_REQUIRED_ATTRIBUTE;
 use findings::MISSING_SPACE_BEFORE_NUMBER;
 use findings::NOTE_SUBMARKER_OUTSIDE_NOTE;
 use table::Info;
 use validate::InputCheck;
-ghost use mathlib.Core.Bool.{_||_};
+ghost use mathlib.Core.Bool.{true, _||_};
 ghost use mathlib.Core.Path.{_≡_};
 ghost use mathlib.Core.List.{List, [], _++_};
-ghost use mathlib.Core.Logic.{_⊎_};
 ghost use mathlib.Core.Option.{none};
 ghost use Prim.Native.Nat.{ℕ, _-_, _<_, _≤_};
 ghost use lib.Dec.{eqb};
@@ -32,7 +32,7 @@ ghost use Rattle.numbers.specs.Label.{labelOf, numbered};
 ghost use Rattle.definition.specs.Milestones.{endsIn};
 ghost use Rattle.buffer.specs.Over.{over};
 ghost use Rattle.buffer.specs.Decimal.{decimal};
-ghost use Rattle.findings.specs.Codes.{bodyParagraphBeforeChapter, defaultAttributeNotDefined, invalidBookCode, invalidVerseSequence, leadingZeros, milestoneMismatch, misplacedNumberMarker, missingSpaceBeforeNumber, noteSubmarkerOutsideNote};
+ghost use Rattle.findings.specs.Codes.{defaultAttributeNotDefined, invalidBookCode, invalidVerseSequence, leadingZeros, milestoneMismatch, misplacedNumberMarker, missingSpaceBeforeNumber};
 ghost use Rattle.findings.specs.Written.{wholeRecords};
 ghost use Rattle.message_texts.specs.Filled.{joined, allTexts};
 ghost use Rattle.messages.specs.Message.{letterBytes, unitOf, messageText};
@@ -65,15 +65,17 @@ pub enum MessagesAnswer {
     Refused(u64, u64),
 }
 
-// The two codes whose texts show the table's name.
+// The codes whose texts show the table's name.
 fn shows_entry(code: u64) -> bool
     ensures { λ r. ⌜ r ≡ isTables code ⌝ }
 {
     if code == NOTE_SUBMARKER_OUTSIDE_NOTE {
-        true
-    } else {
-        code == BODY_PARAGRAPH_BEFORE_CHAPTER
+        return true;
     }
+    if code == MISSING_REQUIRED_ATTRIBUTE {
+        return true;
+    }
+    code == BODY_PARAGRAPH_BEFORE_CHAPTER
 }
 
 // The name that a text shows: the table's or the source's, by code; empty where the table has none.
@@ -231,7 +233,7 @@ fn write_glued<'a>(
     write_parts(q.code, q.form, name, label, out)
 }
 
-// NoteSubmarkerOutsideNote and BodyParagraphBeforeChapter.
+// NoteSubmarkerOutsideNote, MissingRequiredAttribute and BodyParagraphBeforeChapter.
 fn write_entry<'a>(
     table: &'a [u8],
     index: &[u64],
@@ -241,7 +243,7 @@ fn write_entry<'a>(
     q: MessageRequest,
     out: &mut [u8],
 ) -> usize
-    requires { ⌜ (DocumentNode (now table) (now index) entries (now source) (now tape) (q .node)) × ((q .code ≡ noteSubmarkerOutsideNote) ⊎ (q .code ≡ bodyParagraphBeforeChapter)) ⌝ }
+    requires { ⌜ (DocumentNode (now table) (now index) entries (now source) (now tape) (q .node)) × (isTables (q .code) ≡ true) ⌝ }
     ensures { λ r. ⌜ WrittenBy (now (table .entry)) (now (source .entry)) (now (tape .entry)) (requestBy q) (now (out .entry)) (now (out .exit)) r ⌝ }
 {
     if q.node == 0 {
@@ -393,6 +395,7 @@ fn write_message<'a>(
         NOTE_SUBMARKER_OUTSIDE_NOTE => write_entry(table, index, entries, source, tape, q, out),
         LEADING_ZEROS => write_label(table, index, entries, source, tape, q, out),
         MILESTONE_MISMATCH => write_base(table, index, entries, source, tape, q, out),
+        MISSING_REQUIRED_ATTRIBUTE => write_entry(table, index, entries, source, tape, q, out),
         BODY_PARAGRAPH_BEFORE_CHAPTER => write_entry(table, index, entries, source, tape, q, out),
         INVALID_TABLE_COLUMN_SEQUENCE => write_numbers(code, q.form, q.first, q.second, out),
         DEFAULT_ATTRIBUTE_NOT_DEFINED => write_owner(table, index, entries, source, tape, q, out),

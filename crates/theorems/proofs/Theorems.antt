@@ -2,7 +2,7 @@
 -- Assumes nothing.
 use Prim.Native.Nat.{ℕ, _+_, _*_, _<_, _≤_}
 use mathlib.Core.Path.{_≡_, refl}
-use mathlib.Core.Bool.{not}
+use mathlib.Core.Bool.{true, false, not, _&&_}
 use mathlib.Core.List.{List, [], _∷_, _++_}
 use mathlib.Core.Logic.{_↔_}
 use mathlib.Core.Option.{some, none}
@@ -24,20 +24,25 @@ use Rattle.text.specs.Utf8.{firstIllFormed, Made, FirstIllFormed}
 use Rattle.text.specs.Characters.{chars, between, isBoundary}
 use Rattle.text.proofs.Exact as exact
 use Rattle.text.proofs.Boundary as characters
+use Rattle.text.specs.Number.{parsed}
+use Rattle.buffer.specs.Decimal.{decimal}
+use Rattle.message_texts.proofs.Decimals as decimals
 use Rattle.tape.specs.Nodes.{count, linkAt}
 use Rattle.tape.specs.Reading.{tapeRefusal}
 use Rattle.tape.specs.Forest.{Forest, Accepted, top}
 use Rattle.tape.specs.Alike.{BeginAlike}
 use Rattle.tape.proofs.OneNumber as tape
 use Rattle.findings.specs.Finding.{Finding}
-use Rattle.findings.specs.Written.{wholeRecords, room, encode}
+use Rattle.findings.specs.Written.{wholeRecords, room, encode, decode}
 use Rattle.definition.specs.Milestones.{visits, marks, freeStarts, takenFrom}
-use Rattle.definition.specs.Document.{walked, running, unclosedOf, those, Beginning}
+use Rattle.definition.specs.Document.{walked, running, findings, unclosedOf, isUnclosed, those, Beginning}
 use Rattle.definition.specs.Outcome.{Lent, refusal, listOf, checkedOf, answer, listAfter, seenAfter, openAfter}
 use Rattle.definition.specs.declared.OpenStart.{OpenStart}
 use Rattle.definition.specs.Examples as examples
 use Rattle.definition.proofs.OpenStart as open-start
 use Rattle.definition.proofs.Demand3 as demand3
+use Rattle.definition.proofs.Unclosed as unclosed
+use Rattle.definition.proofs.Pair as pair
 use Rattle.definition.proofs.Untaken as untaken
 use Rattle.definition.proofs.Counted as counted
 use Rattle.definition.proofs.Worked as worked
@@ -138,11 +143,15 @@ pub longer-keeps-findings : (l l′ : Lent) → l .table ≡ l′ .table → ref
 longer-keeps-findings l l′ table short long alike = demand3.longer-keeps-findings l l′ table short long alike
 
 -- "A visited start that no end takes is unclosed, and its finding is a MilestoneMismatch of form 0 with its node."
--- Of the unclosed starts that the longer reports, those with a node of the shorter are those that the shorter reports and that no end among the added nodes takes, in the same order and with all fields alike.
+-- The findings of a document's list that are a MilestoneMismatch of form 0 are those of the starts that its walk leaves open, in opening order.
+pub unclosed-listed : (table : List ℕ) (f : Forest) → those isUnclosed (findings table f) ≡ unclosedOf table f
+unclosed-listed table f = unclosed.unclosed-listed table f
+
+-- Of the unclosed starts in the longer's list, those with a node of the shorter are those of the shorter's list that no end among the added nodes takes, in the same order and with all fields alike.
 pub longer-unclosed : (l l′ : Lent) → l .table ≡ l′ .table → refusal l ≡ none → refusal l′ ≡ none → BeginAlike (l .source) (l .tape) (l′ .source) (l′ .tape)
-    → those (λ e. ltb (e .node) (linkAt (l .tape) 0)) (unclosedOf (l′ .table) (top (l′ .source) (l′ .tape)))
-    ≡ those (λ e. not (takenFrom (linkAt (l .tape) 0) (e .node) (marks (visits (l′ .table) (top (l′ .source) (l′ .tape)))))) (unclosedOf (l .table) (top (l .source) (l .tape)))
-longer-unclosed l l′ table short long alike = demand3.longer-unclosed l l′ table short long alike
+    → those (λ e. isUnclosed e && ltb (e .node) (linkAt (l .tape) 0)) (listOf l′)
+    ≡ those (λ e. isUnclosed e && not (takenFrom (linkAt (l .tape) 0) (e .node) (marks (visits (l′ .table) (top (l′ .source) (l′ .tape)))))) (listOf l)
+longer-unclosed l l′ table short long alike = unclosed.longer-unclosed-listed l l′ table short long alike
 
 -- "its lists are those that the check writes, by demand 2 those of the definition"
 -- The words of the shorter's first k findings, closing findings aside, begin both lists at exit, wherever both have room for k findings.
@@ -150,6 +159,26 @@ pub longer-keeps-words : (l l′ : Lent) → l .table ≡ l′ .table → refusa
     → (k : ℕ) → k ≤ length (running (l .table) (top (l .source) (l .tape))) → k ≤ room (l .list) → k ≤ room (l′ .list)
     → take (8 * k) (listAfter l′) ≡ take (8 * k) (listAfter l)
 longer-keeps-words l l′ table short long alike k = lists.longer-keeps-words l l′ table short long alike k
+
+-- The second half for the words of lists that aren't cut: `decode` reads eight words as a finding.
+pub longer-unclosed-words : (l l′ : Lent) → l .table ≡ l′ .table → refusal l ≡ none → refusal l′ ≡ none → BeginAlike (l .source) (l .tape) (l′ .source) (l′ .tape) → checkedOf l .cut ≡ false → checkedOf l′ .cut ≡ false
+    → those (λ e. isUnclosed e && ltb (e .node) (linkAt (l .tape) 0)) (decode (take (8 * checkedOf l′ .total) (listAfter l′)))
+    ≡ those (λ e. isUnclosed e && not (takenFrom (linkAt (l .tape) 0) (e .node) (marks (visits (l′ .table) (top (l′ .source) (l′ .tape)))))) (decode (take (8 * checkedOf l .total) (listAfter l)))
+longer-unclosed-words l l′ table short long alike uncut uncut′ = lists.longer-unclosed-words l l′ table short long alike uncut uncut′
+
+-- The words of a list that isn't cut are its findings.
+pub uncut-words : (l : Lent) → refusal l ≡ none → checkedOf l .cut ≡ false → decode (take (8 * checkedOf l .total) (listAfter l)) ≡ listOf l
+uncut-words l none-given uncut = lists.uncut-words l none-given uncut
+
+-- Two documents meet these premises: neither is turned back, they begin alike, and the longer's added end takes the shorter's unclosed start.
+pub shorter-accepted : refusal (examples.lentOf examples.shorterPaper) ≡ none
+shorter-accepted = pair.shorter-accepted
+
+pub longer-accepted : refusal (examples.lentOf examples.longerPaper) ≡ none
+longer-accepted = pair.longer-accepted
+
+pub begin-alike : BeginAlike (examples.lentOf examples.shorterPaper .source) (examples.lentOf examples.shorterPaper .tape) (examples.lentOf examples.longerPaper .source) (examples.lentOf examples.longerPaper .tape)
+begin-alike = pair.begin-alike
 
 -- "A visited end takes the nearest earlier visited start of the same base that no end took before; an end passed over takes none."
 -- The open starts after the walk are the visited starts that no visited end took, the latest first.
@@ -167,6 +196,14 @@ counts-add-up l = counted.counts-add-up l
 -- The verses visited are no more than the nodes.
 pub verses-few : (l : Lent) → refusal l ≡ none → checkedOf l .verses ≤ count (l .tape)
 verses-few l none-given = counted.verses-few l none-given
+
+-- "an invented total, or Cut from a list not full, contradicts demand 1"
+-- What is written has room and is no more than the total; where the list is cut, no further finding has room.
+pub written-fits : (l : Lent) → (checkedOf l .written ≤ checkedOf l .total) × (8 * checkedOf l .written ≤ length (l .list))
+written-fits l = counted.written-fits l
+
+pub cut-is-full : (l : Lent) → checkedOf l .cut ≡ true → length (l .list) < 8 * (checkedOf l .written + 1)
+cut-is-full l cut = counted.cut-is-full l cut
 
 -- "Written is the smaller of total and the list's length divided by 8, rounded down; words beyond are untouched"
 -- The list at exit holds the words of the findings that fit, and then what it held.
@@ -196,6 +233,14 @@ pub trial-items : items.outcomesOf items.items ≡ items.wantedOutcomes items.it
 trial-items = settled.trial-items
 
 -- "An empty list for every passage, one stock finding, or lists never written: each breaks demand 2."
--- Each of fourteen documents has the findings that are written beside it: the listing's document, one for each slip that document 01 names, and others.
+-- Each of seventeen documents has the findings that are written beside it: the listing's document, one for each slip that document 01 names, and others. None of them is turned back.
 pub worked-examples : examples.findingsOf examples.examples ≡ examples.wantedFindings examples.examples
 worked-examples = worked.worked-examples
+
+pub worked-accepted : examples.refusalsOf examples.examples ≡ examples.noneOf examples.examples
+worked-accepted = worked.worked-accepted
+
+-- "`parse` to u32: one optional `+`, then one or more digits, value at most 4,294,967,295."
+-- The decimal digits in which texts show a number are read as that number.
+pub decimal-parsed : (n : ℕ) → n ≤ 4294967295 → parsed (decimal n) ≡ some n
+decimal-parsed n h = decimals.decimal-parsed n h

@@ -4,16 +4,19 @@ use mathlib.Core.Bool.{Bool, true, false}
 use mathlib.Core.List.{List, [], _∷_}
 use mathlib.Core.Option.{Option, some, none}
 use Rattle.text.specs.Literal.{ascii}
-use Rattle.numbers.specs.Verse.{Position, versePart, verseEnd, next, inSequence}
+use Rattle.text.specs.Pick.{pick}
+use Rattle.numbers.specs.Verse.{Position, versePart}
 use Rattle.rows.specs.Cells.{ColumnRange, cellColumns}
-use Rattle.findings.specs.Finding.{Kind}
+use Rattle.findings.specs.Finding.{Kind, infoSeverity}
+use Rattle.findings.specs.Codes.{invalidAttributes, emptyValueForm}
 use Rattle.attributes.specs.Attributes.{kind, attributeKinds}
+use Rattle.definition.specs.State.{firstVerse}
+use Rattle.definition.specs.Checks.{breaks, expectedAfter}
 
 -- what an item can give
 pub data Outcome : Type 0 where
   passes : Outcome
   finding : Outcome
-  unread : Outcome
   position : ℕ → Option ℕ → Outcome
   columns : ℕ → ℕ → Outcome
   noColumns : Outcome
@@ -22,30 +25,16 @@ pub data Outcome : Type 0 where
 abbrev pub verse : ℕ → Option ℕ → Position
 verse n letter = record { number = n; letter = letter }
 
-abbrev pub inOrder : Bool → Outcome
-inOrder true = passes
-inOrder false = finding
-
-abbrev pub orderBy : Position → Option Position → Outcome
-orderBy expected none = unread
-orderBy expected (some p) = inOrder (inSequence expected p)
-
--- a label where a position is expected
+-- a label where a position is expected: the check of a verse gives InvalidVerseSequence exactly if the label breaks the sequence
 abbrev pub order : Position → List ℕ → Outcome
-order expected label = orderBy expected (versePart label)
+order expected label = pick (breaks (versePart label) expected) finding passes
 
 abbrev pub positionOutcome : Position → Outcome
 positionOutcome p = position (p .number) (p .letter)
 
--- "The end is read after the first `-`, else the start serves."
-abbrev pub followingBy : Option Position → Option Position → Outcome
-followingBy none e = unread
-followingBy (some p) none = positionOutcome (next p)
-followingBy (some p) (some e) = positionOutcome (next e)
-
--- the position expected after a label
+-- the position expected after a label, where the first verse is expected before it
 abbrev pub following : List ℕ → Outcome
-following label = followingBy (versePart label) (verseEnd label)
+following label = positionOutcome (expectedAfter (versePart label) label firstVerse)
 
 abbrev pub columnsBy : Option ColumnRange → Outcome
 columnsBy none = noColumns
@@ -79,7 +68,7 @@ items =
     ∷ item 9 (cells (ascii "tc1-2")) (columns 1 2)
     ∷ item 10 (cells (ascii "tc+1")) (columns 1 1)
     ∷ item 11 (attributes (ascii "=\"x\"")) (kinds [])
-    ∷ item 12 (attributes (ascii "lemma=\"\"")) (kinds (kind 2 17 2 ∷ []))
+    ∷ item 12 (attributes (ascii "lemma=\"\"")) (kinds (kind infoSeverity invalidAttributes emptyValueForm ∷ []))
     ∷ []
 
 unfoldable pub outcomesOf : List Item → List Outcome

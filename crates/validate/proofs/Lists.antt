@@ -4,10 +4,11 @@ use Prim.Native.Nat.{ℕ, zero, suc, _+_, _-_, _*_, _<_, _≤_}
 use native.Mathlib.Omega.{arith}
 use native.Mathlib.Nat.{zero-add, sub-zero}
 use mathlib.Core.Path.{_≡_, refl, sym, ap, _∙_}
-use mathlib.Core.Bool.{Bool, true, false}
-use mathlib.Core.List.{List, [], _∷_, _++_, append-assoc}
+use mathlib.Core.Bool.{Bool, true, false, not, _&&_}
+use mathlib.Core.List.{List, [], _∷_, _++_, append-assoc, append-nil}
 use mathlib.Core.Logic.{_↔_, _⊎_, inl, inr}
 use mathlib.Core.Option.{Option, some, none}
+use lib.Dec.{ltb}
 use lib.ListN.{length, take, drop, take-append-drop}
 use lib.Seq.{take-at, take-append-add, length-take-le}
 use Rattle.refusals.specs.Refusal.{Refusal, orElse}
@@ -15,11 +16,15 @@ use Rattle.tape.specs.Forest.{top}
 use Rattle.tape.specs.Alike.{BeginAlike}
 use Rattle.refusals.proofs.First.{which}
 use Rattle.findings.specs.Finding.{Finding}
-use Rattle.findings.specs.Written.{room, overlay, encode}
-use Rattle.findings.proofs.Overlay.{overlay-is, overlay-cut, encode-append, encode-length}
-use Rattle.definition.specs.Document.{running, closing, walked}
-use Rattle.definition.specs.Outcome.{Lent, of1, of2, of3, ofTape, of9, of10, refusal, listOf, listAfter}
+use Rattle.findings.specs.Written.{room, overlay, encode, decode}
+use Rattle.findings.proofs.Overlay.{overlay-is, overlay-cut, encode-append, encode-length, decode-encode}
+use Rattle.tape.specs.Nodes.{linkAt}
+use Rattle.definition.specs.Milestones.{visits, marks, takenFrom}
+use Rattle.definition.specs.Document.{running, closing, walked, those, isUnclosed}
+use Rattle.definition.specs.Outcome.{Lent, of1, of2, of3, ofTape, of9, of10, refusal, listOf, checkedOf, listAfter}
 use Rattle.definition.proofs.Demand3.{longer-keeps-findings}
+use Rattle.definition.proofs.Counted.{uncut-fits}
+use Rattle.definition.proofs.Unclosed.{longer-unclosed-listed}
 
 few : (n : ℕ) (fs : List Finding) → length (take n fs) ≤ n
 few zero fs = omega arith
@@ -58,6 +63,21 @@ module _ (l l′ : Lent) (same-table : l .table ≡ l′ .table) (short : refusa
       let cut : (more : List Finding) → kept ++ more ≡ take k kept ++ (drop k kept ++ more) = λ more. ap (_++ more) (sym (take-append-drop k kept)) ∙ append-assoc (take k kept) (drop k kept) more in
       first-words l′ k (take k kept) (drop k kept ++ (b .more ++ c′)) long (ap (_++ c′) (b .is) ∙ append-assoc kept (b .more) c′ ∙ cut (b .more ++ c′)) n g′
       ∙ sym (first-words l k (take k kept) (drop k kept ++ c) short (cut c) n g)
+
+-- the findings that a list's words are, where it isn't cut
+abbrev pub writtenFindings : Lent → List Finding
+writtenFindings l = decode (take (8 * checkedOf l .total) (listAfter l))
+
+pub uncut-words : (l : Lent) → refusal l ≡ none → checkedOf l .cut ≡ false → writtenFindings l ≡ listOf l
+unfolding checkedOf
+uncut-words l e uncut =
+    ap decode (first-words l (length (listOf l)) (listOf l) [] e (sym (append-nil (listOf l))) refl (uncut-fits l uncut))
+    ∙ decode-encode (listOf l)
+
+-- demand 3's second half for the words of lists that aren't cut
+module _ (l l′ : Lent) (same-table : l .table ≡ l′ .table) (short : refusal l ≡ none) (long : refusal l′ ≡ none) (alike : BeginAlike (l .source) (l .tape) (l′ .source) (l′ .tape)) (all : checkedOf l .cut ≡ false) (all′ : checkedOf l′ .cut ≡ false) where
+  pub longer-unclosed-words : those (λ e. isUnclosed e && ltb (e .node) (linkAt (l .tape) 0)) (writtenFindings l′) ≡ those (λ e. isUnclosed e && not (takenFrom (linkAt (l .tape) 0) (e .node) (marks (visits (l′ .table) (top (l′ .source) (l′ .tape)))))) (writtenFindings l)
+  longer-unclosed-words = rw (uncut-words l short all, uncut-words l′ long all′) (longer-unclosed-listed l l′ same-table short long alike)
 
 -- which of the numbers is given: the first whose own part gives it, no earlier one being given
 pub data Given (l : Lent) (r : Refusal) : Type 0 where

@@ -2,7 +2,6 @@
 -- Assumes nothing.
 use Prim.Native.Nat.{_≤_}
 use mathlib.Core.List.{[]}
-use mathlib.Core.Logic.{⊎-elim}
 use native.Mathlib.Omega.{arith}
 use denote.Ref.{now}
 use Rattle.tape.specs.Nodes.{nodeAt}
@@ -11,7 +10,7 @@ use Rattle.cursor.specs.Info.{infoAt}
 use Rattle.cursor.proofs.Around.{spanned}
 use Rattle.message_texts.specs.Texts as texts
 use Rattle.messages.specs.Inner.{nameOr}
-use Rattle.messages.proofs.Values.{holes-13, holes-24, written-with, written-lacks}
+use Rattle.messages.proofs.Values.{holes-entry, written-with, written-lacks}
 use Rattle.messages.proofs.Shown.{entry-lacks, entry-there, entry-none, entry-shown, root-entry}
 use Rattle.messages.proofs.Lengths.{by-table, entry-fits}
 use borrow.Author.Needs.{needs}
@@ -23,7 +22,7 @@ returns : tie.Need-returns
 returns c =
     let s = c .before .before .before .before .before .before .before in
     let a = s .args in
-    written-lacks (now (a .table)) (now (a .source)) (now (a .tape)) (requestBy (a .q)) texts.entryName texts.empty texts.empty (⊎-elim (holes-13 (a .q .code)) (holes-24 (a .q .code)) (s .pre .1))
+    written-lacks (now (a .table)) (now (a .source)) (now (a .tape)) (requestBy (a .q)) texts.entryName texts.empty texts.empty (holes-entry (a .q .code) (s .pre .1))
     (entry-none (now (a .table)) (now (a .source)) (now (a .tape)) (requestBy (a .q)) (root-entry (now (a .table)) (now (a .source)) (now (a .tape)) (requestBy (a .q)) (s .pre .0 .accepted) (s .pre .0 .inside) (c .if1 .taken)))
     (now (a .out))
 
@@ -40,7 +39,7 @@ returns-2 c =
     let a = s .args in
     let n = c .before .name-shown in
     let is = by-table (a .q .code) (nameOr (now (a .table)) (infoAt (now (a .table)) (now (a .tape)) (a .q .node))) (nameOf (nodeAt (now (a .source)) (now (a .tape)) (a .q .node) .text)) (now (n .result)) (n .ensures) (s .pre .1) in
-    written-lacks (now (a .table)) (now (a .source)) (now (a .tape)) (requestBy (a .q)) texts.entryName texts.empty texts.empty (⊎-elim (holes-13 (a .q .code)) (holes-24 (a .q .code)) (s .pre .1))
+    written-lacks (now (a .table)) (now (a .source)) (now (a .tape)) (requestBy (a .q)) texts.entryName texts.empty texts.empty (holes-entry (a .q .code) (s .pre .1))
     (entry-none (now (a .table)) (now (a .source)) (now (a .tape)) (requestBy (a .q)) (entry-lacks (now (a .table)) (now (a .index)) (a .entries) (s .pre .0 .indexed) (now (a .tape)) (a .q .node) (now (n .result)) is (c .if2 .taken)))
     (now (a .out))
 
@@ -67,7 +66,7 @@ returns-3 c =
     let a = s .args in
     let n = c .before .before .before .before .before .before .before .name-shown in
     let is = by-table (a .q .code) (nameOr (now (a .table)) (infoAt (now (a .table)) (now (a .tape)) (a .q .node))) (nameOf (nodeAt (now (a .source)) (now (a .tape)) (a .q .node) .text)) (now (n .result)) (n .ensures) (s .pre .1) in
-    written-with (now (a .table)) (now (a .source)) (now (a .tape)) (requestBy (a .q)) texts.entryName texts.empty texts.empty (⊎-elim (holes-13 (a .q .code)) (holes-24 (a .q .code)) (s .pre .1))
+    written-with (now (a .table)) (now (a .source)) (now (a .tape)) (requestBy (a .q)) texts.entryName texts.empty texts.empty (holes-entry (a .q .code) (s .pre .1))
     (now (n .result)) [] []
     (entry-shown (now (a .table)) (now (a .source)) (now (a .tape)) (requestBy (a .q)) (now (n .result)) (entry-there (now (a .table)) (now (a .index)) (a .entries) (s .pre .0 .indexed) (now (a .tape)) (a .q .node) (now (n .result)) is (c .before .before .before .before .before .before .if2 .left)))
     (now (a .out)) _ _ (c .before .before .write-text .ensures)

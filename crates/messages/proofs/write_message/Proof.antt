@@ -1,7 +1,7 @@
 -- `messages::write_message` meets its contract.
 -- Assumes nothing.
 use denote.Ref.{now}
-use mathlib.Core.Logic.{inl, inr}
+use mathlib.Core.Path.{ap}
 use Rattle.message_texts.specs.Texts as texts
 use Rattle.messages.proofs.Values.{written-with, holes-9, holes-10, holes-27}
 use Rattle.messages.proofs.Plain.{written-plain}
@@ -10,6 +10,7 @@ use borrow.Author.Needs.{needs}
 use Rattle.messages.proofs.write_message.Statement.{statement}
 use Rattle.messages.proofs.write_message.Tie as tie
 use Rattle.messages.specs.Answer.{requestBy}
+use Rattle.messages.specs.Inner.{isTables}
 
 write-book-requires : tie.Need-write-book-requires
 write-book-requires c κs = search needs
@@ -26,7 +27,7 @@ write-verse-requires c κs = search needs
 write-entry-requires : tie.Need-write-entry-requires
 write-entry-requires c κs =
     let m = c .before in
-    (m .before .before .before .before .before .before .pre, inl (m .match .keys5))
+    (m .before .before .before .before .before .before .pre, ap isTables (m .match .keys5))
 
 write-label-requires : tie.Need-write-label-requires
 write-label-requires c κs = search needs
@@ -37,7 +38,12 @@ write-base-requires c κs = search needs
 write-entry-requires-2 : tie.Need-write-entry-requires-2
 write-entry-requires-2 c κs =
     let m = c .before in
-    (m .before .before .before .before .before .before .pre, inr (m .match .keys8))
+    (m .before .before .before .before .before .before .pre, ap isTables (m .match .keys8))
+
+write-entry-requires-3 : tie.Need-write-entry-requires-3
+write-entry-requires-3 c κs =
+    let m = c .before in
+    (m .before .before .before .before .before .before .pre, ap isTables (m .match .keys9))
 
 write-numbers-requires-3 : tie.Need-write-numbers-requires-3
 write-numbers-requires-3 c κs = search needs
@@ -123,17 +129,17 @@ same-length-9 : tie.Need-same-length-9
 same-length-9 c = search needs
 
 returns-9 : tie.Need-returns-9
-returns-9 c =
-    let m = c .before .before .before .before in
-    let a = m .before .before .before .before .before .before .args in
-    let q = requestBy (a .q) in
-    written-with (now (a .table)) (now (a .source)) (now (a .tape)) q texts.first texts.second texts.empty (holes-27 (q .code) (m .match .keys9)) _ _ _ (numbers-shown (now (a .table)) (now (a .source)) (now (a .tape)) q) _ _ _ (c .before .before .write-numbers3 .ensures)
+returns-9 c = search needs
 
 same-length-10 : tie.Need-same-length-10
 same-length-10 c = search needs
 
 returns-10 : tie.Need-returns-10
-returns-10 c = search needs
+returns-10 c =
+    let m = c .before .before .before .before in
+    let a = m .before .before .before .before .before .before .args in
+    let q = requestBy (a .q) in
+    written-with (now (a .table)) (now (a .source)) (now (a .tape)) q texts.first texts.second texts.empty (holes-27 (q .code) (m .match .keys10)) _ _ _ (numbers-shown (now (a .table)) (now (a .source)) (now (a .tape)) q) _ _ _ (c .before .before .write-numbers3 .ensures)
 
 same-length-11 : tie.Need-same-length-11
 same-length-11 c = search needs
@@ -151,7 +157,13 @@ same-length-13 : tie.Need-same-length-13
 same-length-13 c = search needs
 
 returns-13 : tie.Need-returns-13
-returns-13 c =
+returns-13 c = search needs
+
+same-length-14 : tie.Need-same-length-14
+same-length-14 c = search needs
+
+returns-14 : tie.Need-returns-14
+returns-14 c =
     let m = c .before .before .before .before .before .before .before in
     let a = m .before .before .before .before .before .before .args in
     written-plain (now (a .table)) (now (a .source)) (now (a .tape)) (requestBy (a .q)) (m .match .rest) _ _ _ (c .before .before .write-text .ensures)
@@ -168,6 +180,7 @@ write-message-spec =
     write-label-requires
     write-base-requires
     write-entry-requires-2
+    write-entry-requires-3
     write-numbers-requires-3
     write-owner-requires
     write-number-requires
@@ -201,4 +214,6 @@ write-message-spec =
     same-length-12
     returns-12
     same-length-13
-    returns-13)
+    returns-13
+    same-length-14
+    returns-14)

@@ -1,0 +1,264 @@
+-- What holds of every severity and code that a check of a node gives, and of the two forms of a milestone's finding, holds of every finding of a document.
+-- Assumes nothing.
+use Prim.Native.Nat.{ℕ, zero, suc, _+_}
+use mathlib.Core.Path.{_≡_, refl}
+use mathlib.Core.Bool.{Bool, true, false, not, false≢true, _&&_, _||_}
+use mathlib.Core.List.{List, [], _∷_, _++_}
+use mathlib.Core.Option.{Option, some, none}
+use lib.Dec.{eqb}
+use lib.ListN.{length}
+use borrow.Author.Tests.{eqb-true}
+use Rattle.text.specs.Pick.{cut, pick}
+use Rattle.text.specs.Bytes.{equal, all}
+use Rattle.text.specs.Words.{blankText}
+use Rattle.text.specs.Blank.{blank}
+use Rattle.text.specs.Characters.{chars}
+use Rattle.text.specs.declared.Decoded.{Decoded}
+use Rattle.text.proofs.Bool.{and-left, and-right}
+use Rattle.tape.specs.Nodes.{Node, chapterKind, verseKind, textKind, attributeKind}
+use Rattle.tape.specs.Forest.{Forest, end, leaf, node}
+use Rattle.table.specs.Entries.{Entry}
+use Rattle.table.specs.Names.{defaultOf}
+use Rattle.cursor.specs.Names.{nameOf}
+use Rattle.findings.specs.Finding.{Finding, Kind, errorSeverity, warningSeverity, infoSeverity}
+use Rattle.findings.specs.Codes as codes
+use Rattle.findings.specs.Written.{only}
+use Rattle.attachment.specs.Attached.{among}
+use Rattle.attributes.specs.Attributes.{emptyList, noDefault, Mode, between, key, value, opened, quoted, escaping, unquoted, inQuotes, ScanStep, go, report, stop, scanStep, endOfText, scanOn, attributeScan, body, hasDefault, holdsEquals, attributeKinds, findingsAt, attributeFindings, attributesFindings}
+use Rattle.rows.specs.Cells.{ColumnRange}
+use Rattle.rows.specs.Row.{cellIn, outOfOrder, byColumns, rowFrom, rowFindings}
+use Rattle.definition.specs.State.{WalkState, WalkContext, Anchor, past, initial, outside}
+use Rattle.definition.specs.Checks.{error, warning, Check, when, given, entryOf, chapterChecks, verseChecks, leafChecked, bookCode, idName, trName, idChecks, afterId, placeChecks, contentChecks}
+use Rattle.definition.specs.Milestones.{milestoneChecks}
+use Rattle.definition.specs.Walk.{leafAnchor, openChecked, inside, afterNode, thenWalk, byEntry, walk}
+use Rattle.definition.specs.Document.{textBefore, ofDocument, unclosed, closing, walked, running, findings}
+
+-- the codes of the errors, the warnings and the infos, but for MilestoneMismatch
+unfoldable pub codesOf : ℕ → List ℕ
+codesOf zero =
+    codes.missingIdMarker
+    ∷ codes.duplicateId
+    ∷ codes.missingChapterMarker
+    ∷ codes.noteSubmarkerOutsideNote
+    ∷ codes.nonEmptyBlankLine
+    ∷ codes.leadingZeros
+    ∷ codes.invalidAttributes
+    ∷ codes.missingChapterNumber
+    ∷ codes.missingVerseNumber
+    ∷ codes.charCrossesVerseBoundary
+    ∷ codes.emptyFigure
+    ∷ codes.unquotedAttributeValue
+    ∷ codes.missingRequiredAttribute
+    ∷ codes.bodyParagraphBeforeChapter
+    ∷ codes.emptyWordMarker
+    ∷ codes.invalidTableColumnSequence
+    ∷ codes.defaultAttributeNotDefined
+    ∷ []
+codesOf (suc zero) =
+    codes.invalidBookCode
+    ∷ codes.textBeforeId
+    ∷ codes.invalidChapterSequence
+    ∷ codes.duplicateChapter
+    ∷ codes.invalidVerseSequence
+    ∷ codes.verseOutsideParagraph
+    ∷ codes.misplacedNumberMarker
+    ∷ codes.missingSpaceBeforeNumber
+    ∷ []
+codesOf (suc (suc zero)) = codes.invalidAttributes ∷ []
+codesOf (suc (suc (suc n))) = []
+
+abbrev pub isGiven : ℕ → ℕ → Bool
+isGiven severity code = among code (codesOf severity)
+
+-- a test that all numbers of a list pass
+pub among-all : (p : ℕ → Bool) (n : ℕ) (xs : List ℕ) → all p xs ≡ true → among n xs ≡ true → p n ≡ true
+unfolding among all
+among-all p n [] h k = absurd (false≢true k)
+among-all p n (x ∷ xs) h k = test (eqb x n) refl k (λ l. among-all p n xs (and-right (p x) (all p xs) h) l)
+  where
+    test : (b : Bool) → eqb x n ≡ b → (b || among n xs) ≡ true → (among n xs ≡ true → p n ≡ true) → p n ≡ true
+    test true e l later = rw (eqb-true x n e) at (and-left (p x) (all p xs) h)
+    test false e l later = later l
+
+-- of the severity, the code and the form of every finding; of every kind, of a step of the scan of attributes, of the checks of a node
+abbrev pub EachFinding : (ℕ → ℕ → ℕ → Type 0) → List Finding → Type 0
+EachFinding P [] = Unit {0}
+EachFinding P (f ∷ fs) = P (f .severity) (f .code) (f .form) × EachFinding P fs
+
+abbrev EachKind : (ℕ → ℕ → ℕ → Type 0) → List Kind → Type 0
+EachKind P [] = Unit {0}
+EachKind P (k ∷ ks) = P (k .severity) (k .code) (k .form) × EachKind P ks
+
+abbrev OfStep : (ℕ → ℕ → ℕ → Type 0) → ScanStep → Type 0
+OfStep P (go m) = Unit {0}
+OfStep P (report k m) = P (k .severity) (k .code) (k .form)
+OfStep P (stop k) = P (k .severity) (k .code) (k .form)
+
+abbrev pub EachCheck : (ℕ → ℕ → ℕ → Type 0) → List Check → Type 0
+EachCheck P [] = Unit {0}
+EachCheck P (c ∷ cs) = P (c .finding .severity) (c .finding .code) (c .finding .form) × EachCheck P cs
+
+module _ (P : ℕ → ℕ → ℕ → Type 0) where
+  pub each-append : (fs gs : List Finding) → EachFinding P fs → EachFinding P gs → EachFinding P (fs ++ gs)
+  each-append [] gs p q = q
+  each-append (f ∷ fs) gs p q = (p .0, each-append fs gs (p .1) q)
+
+  each-only : (b : Bool) (f : Finding) → P (f .severity) (f .code) (f .form) → EachFinding P (only b f)
+  each-only true f h = (h, tt)
+  each-only false f h = tt
+
+  each-pick : (b : Bool) (fs : List Finding) → EachFinding P fs → EachFinding P (pick b fs [])
+  each-pick true fs p = p
+  each-pick false fs p = tt
+
+  each-given : (cs : List Check) → EachCheck P cs → EachFinding P (given cs)
+  unfolding given
+  each-given [] h = tt
+  each-given (c ∷ cs) h = each-append (only (c .holds) (c .finding)) (given cs) (each-only (c .holds) (c .finding) (h .0)) (each-given cs (h .1))
+
+  step-pick : (b : Bool) (x y : ScanStep) → OfStep P x → OfStep P y → OfStep P (pick b x y)
+  step-pick true x y p q = p
+  step-pick false x y p q = q
+
+  step-quotes : (c : ℕ) → OfStep P (inQuotes c)
+  step-quotes c = step-pick (eqb c 0x5C) (go escaping) (go quoted) tt tt
+
+  each-on : (s : ScanStep) (rest : Mode → List Kind) → OfStep P s → ((m : Mode) → EachKind P (rest m)) → EachKind P (scanOn s rest)
+  each-on (go m) rest p k = k m
+  each-on (report j m) rest p k = (p, k m)
+  each-on (stop j) rest p k = (p, tt)
+
+  each-at : (start len number owner : ℕ) (ks : List Kind) → EachKind P ks → EachFinding P (findingsAt start len number owner ks)
+  unfolding findingsAt
+  each-at start len number owner [] k = tt
+  each-at start len number owner (j ∷ ks) k = (k .0, each-at start len number owner ks (k .1))
+
+  module _ (h : (severity code form : ℕ) → isGiven severity code ≡ true → P severity code form) where
+    each-cell : (q : Option ColumnRange) (x : Node) (e : ℕ) (later : ℕ → List Finding) → ((n : ℕ) → EachFinding P (later n)) → EachFinding P (byColumns q x e later)
+    unfolding codesOf among
+    each-cell none x e later k = k e
+    each-cell (some c) x e later k =
+        each-append (only (not (eqb (c .start) e)) (outOfOrder x e (c .start))) (later (c .end + 1)) (each-only (not (eqb (c .start) e)) (outOfOrder x e (c .start)) (h errorSeverity codes.invalidTableColumnSequence 0 refl)) (k (c .end + 1))
+
+    each-row : (e : ℕ) (f : Forest) → EachFinding P (rowFrom e f)
+    unfolding rowFrom
+    each-row e end = tt
+    each-row e (leaf x r) = each-cell (cellIn x) x e (λ n. rowFrom n r) (λ n. each-row n r)
+    each-row e (node x c r) = each-cell (cellIn x) x e (λ n. rowFrom n r) (λ n. each-row n r)
+
+    each-step : (m : Mode) (c : ℕ) → OfStep P (scanStep m c)
+    unfolding scanStep codesOf among
+    each-step between c = step-pick (blank c) _ _ tt (step-pick (eqb c 0x3D) _ _ tt tt)
+    each-step key c = step-pick (eqb c 0x3D) _ _ tt (step-pick (blank c) _ _ (h errorSeverity codes.invalidAttributes _ refl) tt)
+    each-step value c = step-pick (eqb c 0x22) _ _ tt (step-pick (blank c) _ _ (h errorSeverity codes.unquotedAttributeValue _ refl) (h errorSeverity codes.unquotedAttributeValue _ refl))
+    each-step opened c = step-pick (eqb c 0x22) _ _ (h infoSeverity codes.invalidAttributes _ refl) (step-quotes c)
+    each-step quoted c = step-pick (eqb c 0x22) _ _ tt (step-quotes c)
+    each-step escaping c = step-quotes c
+    each-step unquoted c = step-pick (blank c) _ _ tt tt
+
+    each-end : (m : Mode) → EachKind P (endOfText m)
+    unfolding codesOf among
+    each-end between = tt
+    each-end key = (h errorSeverity codes.invalidAttributes _ refl, tt)
+    each-end value = (h errorSeverity codes.unquotedAttributeValue _ refl, tt)
+    each-end opened = (h errorSeverity codes.invalidAttributes _ refl, tt)
+    each-end quoted = (h errorSeverity codes.invalidAttributes _ refl, tt)
+    each-end escaping = (h errorSeverity codes.invalidAttributes _ refl, tt)
+    each-end unquoted = tt
+
+    each-scan : (m : Mode) (cs : List Decoded) → EachKind P (attributeScan m cs)
+    unfolding attributeScan
+    each-scan m [] = each-end m
+    each-scan m (c ∷ cs) = each-on (scanStep m (c .cp)) (λ n. attributeScan n cs) (each-step m (c .cp)) (λ n. each-scan n cs)
+
+    each-kinds : (marker text : List ℕ) → EachKind P (attributeKinds marker text)
+    unfolding attributeKinds codesOf among
+    each-kinds marker text = test (eqb (length (body text)) 0) (holdsEquals (body text)) (hasDefault (defaultOf marker))
+      where
+        test : (a b c : Bool) → EachKind P (pick a (emptyList ∷ []) (pick b (attributeScan between (chars (body text))) (pick c [] (noDefault ∷ []))))
+        test true b c = (h errorSeverity codes.invalidAttributes _ refl, tt)
+        test false true c = each-scan between (chars (body text))
+        test false false true = tt
+        test false false false = (h errorSeverity codes.defaultAttributeNotDefined _ refl, tt)
+
+    each-attributes : (owner : ℕ) (marker : List ℕ) (f : Forest) → EachFinding P (attributesFindings owner marker f)
+    unfolding attributesFindings
+    each-attributes owner marker end = tt
+    each-attributes owner marker (leaf x r) =
+        each-append (pick (eqb (x .kind) attributeKind) (attributeFindings owner marker x) []) (attributesFindings owner marker r)
+        (each-pick (eqb (x .kind) attributeKind) (attributeFindings owner marker x) (each-at (x .start) (x .len) (x .number) owner (attributeKinds marker (x .text)) (each-kinds marker (x .text))))
+        (each-attributes owner marker r)
+    each-attributes owner marker (node x c r) = each-attributes owner marker r
+
+    each-leaf : (table : List ℕ) (o : WalkContext) (st : WalkState) (x : Node) → EachFinding P (leafChecked table o st x .findings)
+    unfolding leafChecked codesOf among
+    each-leaf table o st x = each-given _ (test (eqb (x .kind) chapterKind) (eqb (x .kind) verseKind))
+      where
+        test : (b v : Bool) → EachCheck P (pick b (chapterChecks (entryOf table x) st x) (pick v (verseChecks (entryOf table x) o st x) []))
+        test true v = (h 0 _ _ refl, (h 1 _ _ refl, (h 1 _ _ refl, (h 1 _ _ refl, (h 0 _ _ refl, tt)))))
+        test false true = (h 1 _ _ refl, (h 0 _ _ refl, (h 0 _ _ refl, (h 1 _ _ refl, (h 1 _ _ refl, (h 0 _ _ refl, tt))))))
+        test false false = tt
+
+    -- the checks of a marker but its milestone's
+    each-check : (named : Bool) (name code : List ℕ) (e : Entry) (o : WalkContext) (a : Option Anchor) (st st₁ : WalkState) (x : Node) (c f : Forest) → EachCheck P (idChecks named st code x ++ placeChecks name e o a st₁ x c f ++ contentChecks name x c)
+    unfolding codesOf among
+    each-check named name code e o a st st₁ x c f =
+        (h 0 _ _ refl, (h 1 _ _ refl, (h 0 _ _ refl, (h 0 _ _ refl, (h 0 _ _ refl, (h 1 _ _ refl, (h 0 _ _ refl, (h 0 _ _ refl, (h 0 _ _ refl, tt)))))))))
+
+    each-text : (f : Forest) → EachFinding P (textBefore f)
+    unfolding textBefore codesOf among
+    each-text end = tt
+    each-text (leaf x r) = each-only (eqb (x .kind) textKind && not (blankText (x .text))) (warning x codes.textBeforeId 0) (h 1 _ _ refl)
+    each-text (node x c r) = tt
+
+    module _ (alone : P errorSeverity codes.milestoneMismatch codes.endAlone) where
+      each-open : (table : List ℕ) (o : WalkContext) (a : Option Anchor) (st : WalkState) (e : Entry) (x : Node) (c f : Forest) → EachFinding P (openChecked table o a st e x c f .findings)
+      unfolding openChecked
+      each-open table o a st e x c f =
+          let name = cut (e .name) table in
+          let st₁ = afterId (equal name idName) st c in
+          let checks = idChecks (equal name idName) st (bookCode c) x ++ placeChecks name e o a st₁ x c f ++ contentChecks name x c in
+          let row = pick (equal name trName) (rowFindings c) [] in
+          let attributes = attributesFindings (x .number) (nameOf (x .text)) c in
+          each-append (given checks ++ row ++ attributes) (given (milestoneChecks e st₁ x))
+          (each-append (given checks ++ row) attributes
+          (each-append (given checks) row (each-given checks (each-check (equal name idName) name (bookCode c) e o a st st₁ x c f)) (each-pick (equal name trName) (rowFindings c) (each-row 1 c)))
+          (each-attributes (x .number) (nameOf (x .text)) c))
+          (each-given (milestoneChecks e st₁ x) (alone, tt))
+
+      pub each-walk : (table : List ℕ) (o : WalkContext) (a : Option Anchor) (f : Forest) (st : WalkState) → EachFinding P (walk table o a f st .findings)
+      unfolding walk
+      each-walk table o a end st = tt
+      each-walk table o a (leaf x r) st =
+          each-append (leafChecked table o st x .findings) (walk table o (leafAnchor a x) r (leafChecked table o st x .state) .findings) (each-leaf table o st x) (each-walk table o (leafAnchor a x) r (leafChecked table o st x .state))
+      each-walk table o a (node x c r) st = test (entryOf table x) (λ p s. each-walk table p none c s) (λ s. each-walk table o (past a (node x c end)) r s)
+        where
+          test : (q : Option Entry) → ((p : WalkContext) (s : WalkState) → EachFinding P (walk table p none c s .findings)) → ((s : WalkState) → EachFinding P (walk table o (past a (node x c end)) r s .findings)) → EachFinding P (byEntry q (walk table o (past a (node x c end)) r st) (λ e. afterNode (openChecked table o a st e x c (node x c r)) (λ st₁. thenWalk (walk table (inside o e) none c st₁) (walk table o (past a (node x c end)) r))) .findings)
+          test none below later = later st
+          test (some e) below later =
+              let t = openChecked table o a st e x c (node x c r) in
+              let w = walk table (inside o e) none c (t .state) in
+              each-append (t .findings) (w .findings ++ walk table o (past a (node x c end)) r (w .state) .findings) (each-open table o a st e x c (node x c r))
+              (each-append (w .findings) (walk table o (past a (node x c end)) r (w .state) .findings) (below (inside o e) (t .state)) (later (w .state)))
+
+      pub each-running : (table : List ℕ) (f : Forest) → EachFinding P (running table f)
+      each-running table f = each-append (textBefore f) (walked table f .findings) (each-text f) (each-walk table outside none f initial)
+
+      -- MissingIdMarker, MissingChapterMarker
+      pub each-missing : (b v : Bool) → EachFinding P (given (when b (ofDocument codes.missingIdMarker) ∷ when v (ofDocument codes.missingChapterMarker) ∷ []))
+      unfolding codesOf among
+      each-missing b v = each-given (when b (ofDocument codes.missingIdMarker) ∷ when v (ofDocument codes.missingChapterMarker) ∷ []) (h 0 _ _ refl, (h 0 _ _ refl, tt))
+
+      module _ (start : P errorSeverity codes.milestoneMismatch codes.unclosedStart) where
+        each-unclosed : (xs : List Node) → EachFinding P (unclosed xs)
+        unfolding unclosed
+        each-unclosed [] = tt
+        each-unclosed (x ∷ xs) = each-append (unclosed xs) (error x codes.milestoneMismatch codes.unclosedStart ∷ []) (each-unclosed xs) (start, tt)
+
+        each-closing : (st : WalkState) → EachFinding P (closing st)
+        unfolding closing
+        each-closing st = each-append (unclosed (st .openStarts)) (given _) (each-unclosed (st .openStarts)) (each-missing _ _)
+
+        -- the whole list
+        pub each-finding : (table : List ℕ) (f : Forest) → EachFinding P (findings table f)
+        each-finding table f = each-append (running table f) (closing (walked table f .state)) (each-running table f) (each-closing (walked table f .state))
