@@ -11,6 +11,7 @@ use Rattle.table.specs.declared.DefaultAttribute.{DefaultAttribute}
 use Rattle.table.specs.declared.DefaultAttribute.the-variants.{Lemma, Gloss, Href, Loc, LinkHref, Id, Who, NoDefault}
 use Rattle.table.proofs.DefaultAttribute as declared
 use Rattle.text.proofs.Cuts.{rest-all}
+use Rattle.table.specs.Names.{attributeName}
 use Rattle.attributes.specs.Attributes.{afterBar, hasDefault}
 use Rattle.attributes.specs.Inner.{leads}
 
@@ -23,7 +24,7 @@ bar-no [] h = refl
 bar-no (b ∷ s) h = rw h
 
 -- the arm of all variants but the last
-pub some-default : (d : DefaultAttribute) → OneOf (0 ∷ 1 ∷ 2 ∷ 3 ∷ 4 ∷ 5 ∷ 6 ∷ []) (tagOf declared.the-type d) → true ≡ hasDefault d
+pub some-default : (d : DefaultAttribute) → OneOf (0 ∷ 1 ∷ 2 ∷ 3 ∷ 4 ∷ 5 ∷ 6 ∷ []) (tagOf declared.the-type d) → true ≡ hasDefault (attributeName d)
 some-default Lemma h = refl
 some-default Gloss h = refl
 some-default Href h = refl

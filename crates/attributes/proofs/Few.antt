@@ -15,7 +15,7 @@ use Rattle.text.specs.Characters.{charsPast, chars}
 use Rattle.text.specs.Words.{trim}
 use Rattle.tape.specs.Forest.{Forest, end, leaf, node}
 use Rattle.tape.proofs.Sizes.{breadth}
-use Rattle.table.specs.Names.{defaultOf}
+use Rattle.table.specs.Names.{defaultName}
 use Rattle.cursor.specs.Names.{pastOne}
 use Rattle.findings.specs.Finding.{Finding, Kind}
 use Rattle.attributes.specs.Attributes.{emptyList, noDefault, Mode, between, key, value, opened, quoted, escaping, unquoted, ScanStep, go, report, stop, scanStep, endOfText, scanOn, attributeScan, afterBar, body, hasDefault, holdsEquals, attributeKinds, findingsAt, attributeFindings, attributesFindings}
@@ -53,7 +53,7 @@ cut-few p s =
 
 kinds-few : (marker text : List ℕ) → length (attributeKinds marker text) ≤ 1 + length text
 unfolding attributeKinds
-kinds-few marker text = choose (eqb (length (body text)) 0) (holdsEquals (body text)) (hasDefault (defaultOf marker))
+kinds-few marker text = choose (eqb (length (body text)) 0) (holdsEquals (body text)) (hasDefault (defaultName marker))
   where
     choose : (a b c : Bool) → length (pick a (emptyList ∷ []) (pick b (attributeScan between (chars (body text))) (pick c [] (noDefault ∷ [])))) ≤ 1 + length text
     choose true b c = omega arith

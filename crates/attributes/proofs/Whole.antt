@@ -12,7 +12,7 @@ use Rattle.text.specs.Characters.{chars, findByte}
 use Rattle.tape.specs.Nodes.{nodeAt, kindAt, startAt, lenAt, span, isOpen, markerOpenKind, attributeKind}
 use Rattle.tape.specs.Forest.{forest}
 use Rattle.tape.proofs.Nest.{forest-done}
-use Rattle.table.specs.Names.{defaultOf}
+use Rattle.table.specs.Names.{defaultName}
 use Rattle.cursor.specs.Inner.{Run}
 use Rattle.cursor.specs.Names.{nameOf}
 use Rattle.cursor.specs.Steps.{pastNode}
@@ -34,7 +34,7 @@ module _ (marker text b : List ℕ) (is : b ≡ body text) where
     unfolding attributeKinds
     kinds-scan h = rw (← is, ne-eqb (length b) 0 some, ← at, lt-ltb k (length b) h)
 
-    pub kinds-bare : (x : Bool) → x ≡ hasDefault (defaultOf marker) → length b ≤ k → attributeKinds marker text ≡ pick (not x) (noDefault ∷ []) [] ++ []
+    pub kinds-bare : (x : Bool) → x ≡ hasDefault (defaultName marker) → length b ≤ k → attributeKinds marker text ≡ pick (not x) (noDefault ∷ []) [] ++ []
     unfolding attributeKinds
     kinds-bare x e h = rw (← is, ne-eqb (length b) 0 some, ← at, le-ltb k (length b) h, ← e) (test x)
       where

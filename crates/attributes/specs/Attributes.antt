@@ -2,6 +2,7 @@
 use Prim.Native.Nat.{ℕ}
 use mathlib.Core.Bool.{Bool, true, false}
 use mathlib.Core.List.{List, [], _∷_, _++_}
+use mathlib.Core.Option.{Option, some, none}
 use lib.Dec.{eqb, ltb}
 use lib.ListN.{length, drop}
 use Rattle.text.specs.Pick.{cut, pick}
@@ -11,9 +12,7 @@ use Rattle.text.specs.Characters.{chars, findByte}
 use Rattle.text.specs.Words.{trim}
 use Rattle.tape.specs.Nodes.{Node, attributeKind}
 use Rattle.tape.specs.Forest.{Forest, end, leaf, node}
-use Rattle.table.specs.declared.DefaultAttribute.{DefaultAttribute}
-use Rattle.table.specs.declared.DefaultAttribute.the-variants.{Lemma, Gloss, Href, Loc, LinkHref, Id, Who, NoDefault}
-use Rattle.table.specs.Names.{defaultOf}
+use Rattle.table.specs.Names.{defaultName}
 use Rattle.cursor.specs.Names.{pastOne}
 use Rattle.findings.specs.Finding.{Finding, Kind, errorSeverity, infoSeverity}
 use Rattle.findings.specs.Codes.{invalidAttributes, emptyListForm, keyAloneForm, emptyValueForm, unterminatedForm, unquotedAttributeValue, defaultAttributeNotDefined}
@@ -98,15 +97,9 @@ abbrev pub body : List ℕ → List ℕ
 body text = cut (trim (afterBar text)) (afterBar text)
 
 -- the marker has an attribute that a bare value sets
-abbrev pub hasDefault : DefaultAttribute → Bool
-hasDefault NoDefault = false
-hasDefault Lemma = true
-hasDefault Gloss = true
-hasDefault Href = true
-hasDefault Loc = true
-hasDefault LinkHref = true
-hasDefault Id = true
-hasDefault Who = true
+abbrev pub hasDefault : Option (List ℕ) → Bool
+hasDefault none = false
+hasDefault (some name) = true
 
 abbrev pub holdsEquals : List ℕ → Bool
 holdsEquals s = ltb (findByte (eqb 0x3D) s) (length s)
@@ -116,7 +109,7 @@ unfoldable pub attributeKinds : List ℕ → List ℕ → List Kind
 attributeKinds marker text =
     pick (eqb (length (body text)) 0) (emptyList ∷ [])
     (pick (holdsEquals (body text)) (attributeScan between (chars (body text)))
-    (pick (hasDefault (defaultOf marker)) [] (noDefault ∷ [])))
+    (pick (hasDefault (defaultName marker)) [] (noDefault ∷ [])))
 
 -- "DefaultAttributeNotDefined its owner's node; else 0"
 unfoldable pub findingsAt : ℕ → ℕ → ℕ → ℕ → List Kind → List Finding

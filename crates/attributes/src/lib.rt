@@ -17,6 +17,7 @@ ghost use Rattle.tape.specs.Forest.{forest};
 ghost use Rattle.cursor.specs.Names.{nameOf};
 ghost use Rattle.cursor.specs.Inner.{Run, Spanned};
 ghost use Rattle.findings.specs.Finding.{findingOf, severityOf};
+ghost use Rattle.table.specs.Names.{attributeName};
 ghost use Rattle.attributes.specs.Attributes.{hasDefault, kind, attributeScan, between, afterBar, attributeKinds, findingsAt, attributesFindings};
 ghost use Rattle.attributes.specs.Inner.{leads, endsKey, escapes, closingPlace, findingOfKind, ofNode};
 ghost use Rattle.text.specs.Pick.{pick};
@@ -31,7 +32,7 @@ pub struct Where {
 }
 
 fn has_default(d: DefaultAttribute) -> bool
-    ensures { λ r. ⌜ r ≡ hasDefault d ⌝ }
+    ensures { λ r. ⌜ r ≡ hasDefault (attributeName d) ⌝ }
 {
     match d {
         DefaultAttribute::NoDefault => false,

@@ -3,3 +3,4 @@ pub mod Named
 pub mod Entry
 pub mod Runs
 pub mod OfKind
+pub mod WellFormed

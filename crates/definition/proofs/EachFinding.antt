@@ -18,7 +18,7 @@ use Rattle.text.proofs.Bool.{and-left, and-right}
 use Rattle.tape.specs.Nodes.{Node, chapterKind, verseKind, textKind, attributeKind}
 use Rattle.tape.specs.Forest.{Forest, end, leaf, node}
 use Rattle.table.specs.Entries.{Entry}
-use Rattle.table.specs.Names.{defaultOf}
+use Rattle.table.specs.Names.{defaultName}
 use Rattle.cursor.specs.Names.{nameOf}
 use Rattle.findings.specs.Finding.{Finding, Kind, errorSeverity, warningSeverity, infoSeverity}
 use Rattle.findings.specs.Codes as codes
@@ -173,7 +173,7 @@ module _ (P : ℕ → ℕ → ℕ → Type 0) where
 
     each-kinds : (marker text : List ℕ) → EachKind P (attributeKinds marker text)
     unfolding attributeKinds codesOf among
-    each-kinds marker text = test (eqb (length (body text)) 0) (holdsEquals (body text)) (hasDefault (defaultOf marker))
+    each-kinds marker text = test (eqb (length (body text)) 0) (holdsEquals (body text)) (hasDefault (defaultName marker))
       where
         test : (a b c : Bool) → EachKind P (pick a (emptyList ∷ []) (pick b (attributeScan between (chars (body text))) (pick c [] (noDefault ∷ []))))
         test true b c = (h errorSeverity codes.invalidAttributes _ refl, tt)

@@ -9,3 +9,4 @@ pub mod Few
 pub mod Givens
 pub mod Unclosed
 pub mod Pair
+pub mod WellFormed

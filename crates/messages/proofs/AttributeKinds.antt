@@ -8,7 +8,7 @@ use lib.ListN.{length}
 use Rattle.text.specs.Blank.{blank}
 use Rattle.text.specs.Characters.{chars}
 use Rattle.text.specs.declared.Decoded.{Decoded}
-use Rattle.table.specs.Names.{defaultOf}
+use Rattle.table.specs.Names.{defaultName}
 use Rattle.findings.specs.Finding.{Kind}
 use Rattle.attributes.specs.Attributes.{emptyList, keyAlone, emptyValue, unterminated, unquotedValue, noDefault, Mode, between, key, value, opened, quoted, escaping, unquoted, inQuotes, ScanStep, go, report, stop, scanStep, endOfText, scanOn, attributeScan, body, hasDefault, holdsEquals, attributeKinds}
 use Rattle.messages.proofs.Every.{AllOf}
@@ -66,7 +66,7 @@ module _ (P : Kind → Type 0) (six : OfAttributes P) where
 
   pub all-kinds : (marker text : List ℕ) → AllOf P (attributeKinds marker text)
   unfolding attributeKinds
-  all-kinds marker text = by (eqb (length (body text)) 0) (holdsEquals (body text)) (hasDefault (defaultOf marker))
+  all-kinds marker text = by (eqb (length (body text)) 0) (holdsEquals (body text)) (hasDefault (defaultName marker))
     where
       by : (a b c : Bool) → AllOf P (pick a (emptyList ∷ []) (pick b (attributeScan between (chars (body text))) (pick c [] (noDefault ∷ []))))
       by true b c = (six .empty-list, tt)

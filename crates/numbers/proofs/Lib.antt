@@ -3,3 +3,4 @@ pub mod Gathered
 pub mod Labels
 pub mod Readable
 pub mod NumberNine
+pub mod WellFormed

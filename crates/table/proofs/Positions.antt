@@ -11,7 +11,7 @@ use Rattle.table.specs.declared.TextRole.the-variants.{Boundary}
 use Rattle.table.specs.declared.DefaultAttribute.the-variants.{Lemma, Gloss, Href, Loc, LinkHref, Id, Who, NoDefault}
 use Rattle.table.specs.Entries.{categoryOf, roleOf}
 use Rattle.text.specs.Pick.{pick}
-use Rattle.table.specs.Names.{lemmaNames, rb, xt, ref, jmp, periph, qt, defaultOf}
+use Rattle.table.specs.Names.{lemmaNames, rb, xt, ref, jmp, periph, qt, defaultName, attributeName}
 use Rattle.table.specs.Books.{codeFrom}
 use Rattle.table.specs.Inner.{attributeAt, attributeBy, categoryAt, roleAt}
 use Rattle.text.specs.Literal.{ascii}
@@ -70,8 +70,9 @@ unfoldable pub owners : List (List ℕ)
 owners = (119 ∷ []) ∷ (119 ∷ 97 ∷ []) ∷ (119 ∷ 103 ∷ []) ∷ (119 ∷ 104 ∷ []) ∷ rb ∷ xt ∷ ref ∷ jmp ∷ periph ∷ []
 
 default-by : (a b c d e f g h i q : Bool) →
-    pick (a || (b || (c || (d || false)))) Lemma (pick e Gloss (pick f Href (pick g Loc (pick h LinkHref (pick i Id (pick q Who NoDefault)))))) ≡
-    attributeBy (pick a (some 0) (pick b (some 1) (pick c (some 2) (pick d (some 3) (pick e (some 4) (pick f (some 5) (pick g (some 6) (pick h (some 7) (pick i (some 8) none))))))))) q
+    attributeName (attributeBy (pick a (some 0) (pick b (some 1) (pick c (some 2) (pick d (some 3) (pick e (some 4) (pick f (some 5) (pick g (some 6) (pick h (some 7) (pick i (some 8) none))))))))) q) ≡
+    pick (a || (b || (c || (d || false)))) (some (ascii "lemma"))
+    (pick e (some (ascii "gloss")) (pick f (some (ascii "href")) (pick g (some (ascii "loc")) (pick h (some (ascii "link-href")) (pick i (some (ascii "id")) (pick q (some (ascii "who")) none))))))
 default-by true b c d e f g h i q = refl
 default-by false true c d e f g h i q = refl
 default-by false false true d e f g h i q = refl
@@ -81,9 +82,10 @@ default-by false false false false false true g h i q = refl
 default-by false false false false false false true h i q = refl
 default-by false false false false false false false true i q = refl
 default-by false false false false false false false false true q = refl
-default-by false false false false false false false false false q = refl
+default-by false false false false false false false false false true = refl
+default-by false false false false false false false false false false = refl
 
-pub default-is : (s : List ℕ) → defaultOf s ≡ attributeBy (codeFrom 0 owners s) (starting qt s)
-unfolding ascii defaultOf oneOf lemmaNames codeFrom owners
+pub default-is : (s : List ℕ) → attributeName (attributeBy (codeFrom 0 owners s) (starting qt s)) ≡ defaultName s
+unfolding ascii defaultName oneOf lemmaNames codeFrom owners
 default-is s =
     default-by (equal (119 ∷ []) s) (equal (119 ∷ 97 ∷ []) s) (equal (119 ∷ 103 ∷ []) s) (equal (119 ∷ 104 ∷ []) s) (equal rb s) (equal xt s) (equal ref s) (equal jmp s) (equal periph s) (starting qt s)

@@ -91,16 +91,27 @@ periph = ascii "periph"
 abbrev pub qt : List ℕ
 qt = ascii "qt"
 
--- the Rust's `default_attribute`: the attribute that a marker's bare value sets
-unfoldable pub defaultOf : List ℕ → DefaultAttribute
-defaultOf s =
-    pick (oneOf lemmaNames s) Lemma
-    (pick (equal rb s) Gloss
-    (pick (equal xt s) Href
-    (pick (equal ref s) Loc
-    (pick (equal jmp s) LinkHref
-    (pick (equal periph s) Id
-    (pick (starting qt s) Who NoDefault))))))
+-- the Rust's `default_attribute`: the name of the attribute that a marker's bare value sets, if there is one
+unfoldable pub defaultName : List ℕ → Option (List ℕ)
+defaultName s =
+    pick (oneOf lemmaNames s) (some (ascii "lemma"))
+    (pick (equal rb s) (some (ascii "gloss"))
+    (pick (equal xt s) (some (ascii "href"))
+    (pick (equal ref s) (some (ascii "loc"))
+    (pick (equal jmp s) (some (ascii "link-href"))
+    (pick (equal periph s) (some (ascii "id"))
+    (pick (starting qt s) (some (ascii "who")) none))))))
+
+-- what the answer says
+abbrev pub attributeName : DefaultAttribute → Option (List ℕ)
+attributeName Lemma = some (ascii "lemma")
+attributeName Gloss = some (ascii "gloss")
+attributeName Href = some (ascii "href")
+attributeName Loc = some (ascii "loc")
+attributeName LinkHref = some (ascii "link-href")
+attributeName Id = some (ascii "id")
+attributeName Who = some (ascii "who")
+attributeName NoDefault = none
 
 -- FRT, INT, BAK, OTH, CNC, GLO, TDX, NDX: the Rust's `is_front_matter_code`
 unfoldable pub frontMatter : List (List ℕ)

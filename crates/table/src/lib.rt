@@ -9,7 +9,7 @@ ghost use Rattle.text.specs.Characters.{findByte};
 ghost use Rattle.table.specs.Lines.{nameByte, categories, roles, badTable};
 ghost use Rattle.table.specs.Entries;
 ghost use Rattle.table.specs.Entries.{nth, infoOf, entryOfInfo, layoutPlace, categoryOf, roleOf};
-ghost use Rattle.table.specs.Names.{undigited, strippedLength, tailOff, entryNamed, lookedUp, foundOf, defaultOf, frontMatter, noteOnly, gluedDigit};
+ghost use Rattle.table.specs.Names.{undigited, strippedLength, tailOff, entryNamed, lookedUp, foundOf, defaultName, attributeName, frontMatter, noteOnly, gluedDigit};
 ghost use Rattle.table.specs.Books.{codeFrom, bookOf, idOf};
 ghost use Rattle.table.specs.Inner.{linesOf, triples, nameLength, valueOf, stepBy, stepWith, behindKey, stepOf, headOf, further, pastOf, LinesRead, attributeAt, categoryAt, roleAt, stripped, unglued, Indexed, leaves};
 ghost use Rattle.text.specs.Bytes.{oneOf, starting};
@@ -239,7 +239,7 @@ fn attribute(p: usize) -> DefaultAttribute
 }
 
 pub fn default_attribute(name: &[u8]) -> DefaultAttribute
-    ensures { λ r. ⌜ r ≡ defaultOf (now (name .entry)) ⌝ }
+    ensures { λ r. ⌜ attributeName r ≡ defaultName (now (name .entry)) ⌝ }
 {
     match word_in(b"w\nwa\nwg\nwh\nrb\nxt\nref\njmp\nperiph\n", name) {
         Value::Known(p) => attribute(p),

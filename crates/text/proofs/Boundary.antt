@@ -60,7 +60,7 @@ seq-width (suc (suc (suc zero))) l h k = refl
 seq-width (suc (suc (suc (suc zero)))) l h k = refl
 seq-width (suc (suc (suc (suc (suc w))))) l h k = absurd (omega arith)
 
-seq-decode : (row : List Range) (b : ℕ) (a t : List ℕ) → List·Memᴰ row table3-7 → fits row (b ∷ a) ≡ true → decode (b ∷ a ++ t) .width ≡ suc (length a)
+pub seq-decode : (row : List Range) (b : ℕ) (a t : List ℕ) → List·Memᴰ row table3-7 → fits row (b ∷ a) ≡ true → decode (b ∷ a ++ t) .width ≡ suc (length a)
 unfolding decode
 seq-decode row b a t m f =
     let long : suc (length a) ≡ length row = fits-length row (b ∷ a) f in

@@ -16,3 +16,4 @@ pub mod Cuts
 pub mod Find
 pub mod Hits
 pub mod Blocks
+pub mod WellFormed

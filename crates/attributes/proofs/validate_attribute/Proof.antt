@@ -10,7 +10,7 @@ use Rattle.attributes.proofs.Whole.{kinds-none, kinds-scan, kinds-bare}
 use Rattle.attributes.specs.Attributes.{emptyList, noDefault, between, attributeScan, body, hasDefault, attributeKinds}
 use Rattle.cursor.specs.Names.{nameOf}
 use Rattle.findings.specs.Finding.{Kind, findingOf}
-use Rattle.table.specs.Names.{defaultOf}
+use Rattle.table.specs.Names.{defaultName}
 use Rattle.text.specs.Characters.{chars}
 use Rattle.text.specs.Pick.{cut, pick}
 use Rattle.text.specs.Words.{trim}
@@ -44,7 +44,7 @@ due-bare : (c : tie.After-has-default) → Due (c .before .before .before .befor
 due-bare c =
     let a = c .before .before .before .before .before .before .before .before .before .before .before .args in
     let e = c .before .before .before in
-    owing-as (kinds-bare (nameOf (now (a .marker))) (now (a .text)) (now (e .before .before .before .trim .result)) (is-body (e .before .before .before)) (e .before .before .if1 .left) (e .before .find-byte .result) (e .before .find-byte .ensures) (c .has-default .result) (c .has-default .ensures ∙ ap hasDefault (c .before .default-attribute .ensures ∙ ap defaultOf (c .before .before .name-of .ensures))) (e .if2 .left)) (due-all (c .before .before .before .before .before .before .before .before .before .before .before))
+    owing-as (kinds-bare (nameOf (now (a .marker))) (now (a .text)) (now (e .before .before .before .trim .result)) (is-body (e .before .before .before)) (e .before .before .if1 .left) (e .before .find-byte .result) (e .before .find-byte .ensures) (c .has-default .result) (c .has-default .ensures ∙ ap hasDefault (c .before .default-attribute .ensures ∙ ap defaultName (c .before .before .name-of .ensures))) (e .if2 .left)) (due-all (c .before .before .before .before .before .before .before .before .before .before .before))
 
 after-bar-requires : tie.Need-after-bar-requires
 after-bar-requires c κs = search needs

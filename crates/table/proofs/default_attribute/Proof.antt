@@ -7,7 +7,7 @@ use denote.Ref.{now}
 use mathlib.Core.Path.{_≡_, sym, ap, _∙_}
 use mathlib.Core.Option.{Option, some, none}
 use Rattle.table.specs.Books.{codeFrom}
-use Rattle.table.specs.Names.{qt, defaultOf}
+use Rattle.table.specs.Names.{qt, defaultName, attributeName}
 use Rattle.table.specs.Inner.{valueOf, linesOf, attributeBy}
 use Rattle.table.proofs.Positions.{owners, default-is}
 use Rattle.table.proofs.default_attribute.Statement.{statement}
@@ -42,16 +42,16 @@ unfolding ascii owners linesOf
 returns c =
     let s = now (c .before .before .before .before .before .before .before .args .name) in
     let o : some (c .before .before .p .given .0 .0) ≡ codeFrom 0 owners s = sym (ap valueOf (c .before .before .p .given .1)) ∙ c .before .before .before .before .word-in .ensures in
-    c .attribute .ensures ∙ ap (λ (x : Option ℕ). attributeBy x (starting qt s)) o ∙ sym (default-is s)
+    ap attributeName (c .attribute .ensures ∙ ap (λ (x : Option ℕ). attributeBy x (starting qt s)) o) ∙ default-is s
 
-unowned : (c : tie.After-starts-with) (t : Bool) → c .starts-with .result ≡ t → pick t Who NoDefault ≡ defaultOf (now (c .before .before .before .before .before .before .before .args .name))
+unowned : (c : tie.After-starts-with) (t : Bool) → c .starts-with .result ≡ t → attributeName (pick t Who NoDefault) ≡ defaultName (now (c .before .before .before .before .before .before .before .args .name))
 unfolding ascii owners linesOf
 unowned c t e =
     let d = c .before .before in
     let s = now (c .before .before .before .before .before .before .before .args .name) in
     let o : none ≡ codeFrom 0 owners s = sym (ap valueOf (d .enum-told .given .1)) ∙ d .before .before .word-in .ensures in
     let q : starting qt s ≡ t = sym (c .starts-with .ensures) ∙ e in
-    sym (default-is s ∙ rw (← o, q))
+    (rw (← o, q) at (default-is s))
 
 returns-2 : tie.Need-returns-2
 returns-2 c = unowned (c .before) _ (c .if1 .taken)
