@@ -1,4 +1,5 @@
-"""Definitions whose name another file had too: the name of each is its own now.
+"""Definitions by their names of today: those whose name another file had too, those with plainer names, and those that stand in
+another file. Prepared work has `openToldBy` beside `openTold`, and follows it.
 
 A name is found where it is meant: in the file that defines it, and in files that import it from there, by its name or through the
 name of its module. Files of code have it in ghost imports and in contracts.

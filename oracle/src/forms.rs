@@ -240,6 +240,11 @@ mod tests {
         (16, r"milestone \x-e-s has no matching \x-e-e", (0, 0, 0)),
         (16, r"milestone \-e has no matching \-s", (1, 0, 0)),
         (
+            23,
+            r#"\rb is missing its required "gloss" attribute"#,
+            (0, 0, 0),
+        ),
+        (
             24,
             r"body paragraph \p appears before any \c (chapter)",
             (0, 0, 0),

@@ -6,3 +6,4 @@ pub mod Turns
 pub mod Whole
 pub mod Few
 pub mod Keys
+pub mod EachKind

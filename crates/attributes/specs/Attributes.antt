@@ -20,7 +20,7 @@ use Rattle.findings.specs.Codes.{invalidAttributes, emptyListForm, keyAloneForm
 abbrev pub kind : ℕ → ℕ → ℕ → Kind
 kind severity code form = record { severity = severity; code = code; form = form }
 
--- "InvalidAttributes: 0 empty list, 1 key without a value, 2 empty value (the info), 3 unterminated"
+-- InvalidAttributes, by its forms (docs/DECISIONS.md): 0 empty list, 1 key without a value, 2 empty value (the info), 3 unterminated
 abbrev pub emptyList : Kind
 emptyList = kind errorSeverity invalidAttributes emptyListForm
 

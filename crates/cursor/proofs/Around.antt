@@ -20,26 +20,26 @@ use Rattle.cursor.specs.Steps.{holdsNodes, firstChild, pastNode, nextSib
 
 module _ (t : List ℕ) (i k : ℕ) (x : Bool) (is-kind : k ≡ kindAt t i) (holds : x ≡ holdsNodes k) where
   -- the test as it stands in the definitions
-  told : (v : Bool) → x ≡ v → holdsNodes (kindAt t i) ≡ v
-  told v e = ap holdsNodes (sym is-kind) ∙ sym holds ∙ e
+  holds-as : (v : Bool) → x ≡ v → holdsNodes (kindAt t i) ≡ v
+  holds-as v e = ap holdsNodes (sym is-kind) ∙ sym holds ∙ e
 
   pub child-none : not x ≡ true → none ≡ firstChild t i
   unfolding firstChild
-  child-none y = rw (told false (not-true x y))
+  child-none y = rw (holds-as false (not-true x y))
 
   pub child-there : (l : ℕ) → not x ≡ false → l ≡ linkAt t i → i + 1 < l → some (i + 1) ≡ firstChild t i
   unfolding firstChild
-  child-there l y e h = rw (told true (not-false x y), ← e, lt-ltb (i + 1) l h)
+  child-there l y e h = rw (holds-as true (not-false x y), ← e, lt-ltb (i + 1) l h)
 
   pub child-empty : (l : ℕ) → not x ≡ false → l ≡ linkAt t i → l ≤ i + 1 → none ≡ firstChild t i
   unfolding firstChild
-  child-empty l y e h = rw (told true (not-false x y), ← e, le-ltb (i + 1) l h)
+  child-empty l y e h = rw (holds-as true (not-false x y), ← e, le-ltb (i + 1) l h)
 
   pub past-inner : (l : ℕ) → x ≡ true → l ≡ linkAt t i → l + 1 ≡ pastNode t i
-  past-inner l y e = rw (told true y, e)
+  past-inner l y e = rw (holds-as true y, e)
 
   pub past-leaf : x ≡ false → i + 1 ≡ pastNode t i
-  past-leaf y = rw (told false y)
+  past-leaf y = rw (holds-as false y)
 
 module _ (t : List ℕ) (i p : ℕ) (is-past : p ≡ pastNode t i) where
   pub next-off : count t ≤ p → none ≡ nextSibling t i

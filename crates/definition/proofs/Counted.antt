@@ -1,4 +1,4 @@
--- The counts of a checked document add up, and its verses are at most its nodes.
+-- The counts of a checked document add up, what is written fits, and its verses are at most its nodes.
 -- Assumes nothing.
 use Prim.Native.Nat.{ℕ, zero, suc, _+_, _*_, _-_, _<_, _≤_}
 use native.Mathlib.Nat.{le-refl}

@@ -1,4 +1,4 @@
--- Demand 3: a longer paper that begins like a shorter one keeps the shorter's findings, closing findings aside, and leaves unclosed just those of its starts that no added end takes.
+-- Demand 3: a longer document that begins like a shorter one keeps the shorter's findings, closing findings aside, and leaves unclosed just those of its starts that no added end takes.
 -- Assumes nothing.
 use Prim.Native.Nat.{ℕ, zero, suc, _+_, _-_, _<_, _≤_}
 use native.Mathlib.Nat.{le-refl}
@@ -77,5 +77,5 @@ module _ (l l′ : Lent) (same-table : l .table ≡ l′ .table) (short : refusa
   pub longer-keeps-findings : Beginning (running (l .table) (top (l .source) (l .tape))) (running (l′ .table) (top (l′ .source) (l′ .tape)))
   longer-keeps-findings = rw (← same-table) (keeps-findings (l .table) (l .source) (l .tape) (l′ .source) (l′ .tape) (checked-accepted l short) (checked-accepted l′ long) (alike .alike))
 
-  pub longer-unclosed : those (λ e. ltb (e .node) (linkAt (l .tape) 0)) (unclosedOf (l′ .table) (top (l′ .source) (l′ .tape))) ≡ those (λ e. not (takenFrom (linkAt (l .tape) 0) (e .node) (marks (visits (l′ .table) (top (l′ .source) (l′ .tape)))))) (unclosedOf (l .table) (top (l .source) (l .tape)))
-  longer-unclosed = rw (← same-table) (leaves-unclosed (l .table) (l .source) (l .tape) (l′ .source) (l′ .tape) (checked-accepted l short) (checked-accepted l′ long) (alike .alike))
+  pub longer-open-starts : those (λ e. ltb (e .node) (linkAt (l .tape) 0)) (unclosedOf (l′ .table) (top (l′ .source) (l′ .tape))) ≡ those (λ e. not (takenFrom (linkAt (l .tape) 0) (e .node) (marks (visits (l′ .table) (top (l′ .source) (l′ .tape)))))) (unclosedOf (l .table) (top (l .source) (l .tape)))
+  longer-open-starts = rw (← same-table) (leaves-unclosed (l .table) (l .source) (l .tape) (l′ .source) (l′ .tape) (checked-accepted l short) (checked-accepted l′ long) (alike .alike))

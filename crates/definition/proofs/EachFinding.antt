@@ -6,25 +6,22 @@ use mathlib.Core.Bool.{Bool, true, false, not, false≢true, _&&_, _||_}
 use mathlib.Core.List.{List, [], _∷_, _++_}
 use mathlib.Core.Option.{Option, some, none}
 use lib.Dec.{eqb}
-use lib.ListN.{length}
 use borrow.Author.Tests.{eqb-true}
-use Rattle.text.specs.Pick.{cut, pick}
+use Rattle.text.specs.Pick.{cut, pick, AllOf}
+use Rattle.text.proofs.Every.{all-append}
+use Rattle.attributes.proofs.EachKind.{all-kinds}
 use Rattle.text.specs.Bytes.{equal, all}
 use Rattle.text.specs.Words.{blankText}
-use Rattle.text.specs.Blank.{blank}
-use Rattle.text.specs.Characters.{chars}
-use Rattle.text.specs.declared.Decoded.{Decoded}
 use Rattle.text.proofs.Bool.{and-left, and-right}
 use Rattle.tape.specs.Nodes.{Node, chapterKind, verseKind, textKind, attributeKind}
 use Rattle.tape.specs.Forest.{Forest, end, leaf, node}
 use Rattle.table.specs.Entries.{Entry}
-use Rattle.table.specs.Names.{defaultName}
 use Rattle.cursor.specs.Names.{nameOf}
-use Rattle.findings.specs.Finding.{Finding, Kind, errorSeverity, warningSeverity, infoSeverity}
+use Rattle.findings.specs.Finding.{Finding, Kind, errorSeverity, infoSeverity}
 use Rattle.findings.specs.Codes as codes
 use Rattle.findings.specs.Written.{only}
 use Rattle.attachment.specs.Attached.{among}
-use Rattle.attributes.specs.Attributes.{emptyList, noDefault, Mode, between, key, value, opened, quoted, escaping, unquoted, inQuotes, ScanStep, go, report, stop, scanStep, endOfText, scanOn, attributeScan, body, hasDefault, holdsEquals, attributeKinds, findingsAt, attributeFindings, attributesFindings}
+use Rattle.attributes.specs.Attributes.{attributeKinds, findingsAt, attributeFindings, attributesFindings}
 use Rattle.rows.specs.Cells.{ColumnRange}
 use Rattle.rows.specs.Row.{cellIn, outOfOrder, byColumns, rowFrom, rowFindings}
 use Rattle.definition.specs.State.{WalkState, WalkContext, Anchor, past, initial, outside}
@@ -80,28 +77,19 @@ among-all p n (x ∷ xs) h k = test (eqb x n) refl k (λ l. among-all p n xs (an
     test true e l later = rw (eqb-true x n e) at (and-left (p x) (all p xs) h)
     test false e l later = later l
 
--- of the severity, the code and the form of every finding; of every kind, of a step of the scan of attributes, of the checks of a node
+-- P holds of the severity, the code and the form of every finding; likewise of every kind, and of the finding of every check
 abbrev pub EachFinding : (ℕ → ℕ → ℕ → Type 0) → List Finding → Type 0
-EachFinding P [] = Unit {0}
-EachFinding P (f ∷ fs) = P (f .severity) (f .code) (f .form) × EachFinding P fs
+EachFinding P fs = AllOf (λ (f : Finding). P (f .severity) (f .code) (f .form)) fs
 
 abbrev EachKind : (ℕ → ℕ → ℕ → Type 0) → List Kind → Type 0
-EachKind P [] = Unit {0}
-EachKind P (k ∷ ks) = P (k .severity) (k .code) (k .form) × EachKind P ks
+EachKind P ks = AllOf (λ (k : Kind). P (k .severity) (k .code) (k .form)) ks
 
-abbrev OfStep : (ℕ → ℕ → ℕ → Type 0) → ScanStep → Type 0
-OfStep P (go m) = Unit {0}
-OfStep P (report k m) = P (k .severity) (k .code) (k .form)
-OfStep P (stop k) = P (k .severity) (k .code) (k .form)
-
-abbrev pub EachCheck : (ℕ → ℕ → ℕ → Type 0) → List Check → Type 0
-EachCheck P [] = Unit {0}
-EachCheck P (c ∷ cs) = P (c .finding .severity) (c .finding .code) (c .finding .form) × EachCheck P cs
+abbrev EachCheck : (ℕ → ℕ → ℕ → Type 0) → List Check → Type 0
+EachCheck P cs = AllOf (λ (c : Check). P (c .finding .severity) (c .finding .code) (c .finding .form)) cs
 
 module _ (P : ℕ → ℕ → ℕ → Type 0) where
-  pub each-append : (fs gs : List Finding) → EachFinding P fs → EachFinding P gs → EachFinding P (fs ++ gs)
-  each-append [] gs p q = q
-  each-append (f ∷ fs) gs p q = (p .0, each-append fs gs (p .1) q)
+  each-append : (fs gs : List Finding) → EachFinding P fs → EachFinding P gs → EachFinding P (fs ++ gs)
+  each-append fs gs p q = all-append (λ (f : Finding). P (f .severity) (f .code) (f .form)) fs gs p q
 
   each-only : (b : Bool) (f : Finding) → P (f .severity) (f .code) (f .form) → EachFinding P (only b f)
   each-only true f h = (h, tt)
@@ -115,18 +103,6 @@ module _ (P : ℕ → ℕ → ℕ → Type 0) where
   unfolding given
   each-given [] h = tt
   each-given (c ∷ cs) h = each-append (only (c .holds) (c .finding)) (given cs) (each-only (c .holds) (c .finding) (h .0)) (each-given cs (h .1))
-
-  step-pick : (b : Bool) (x y : ScanStep) → OfStep P x → OfStep P y → OfStep P (pick b x y)
-  step-pick true x y p q = p
-  step-pick false x y p q = q
-
-  step-quotes : (c : ℕ) → OfStep P (inQuotes c)
-  step-quotes c = step-pick (eqb c 0x5C) (go escaping) (go quoted) tt tt
-
-  each-on : (s : ScanStep) (rest : Mode → List Kind) → OfStep P s → ((m : Mode) → EachKind P (rest m)) → EachKind P (scanOn s rest)
-  each-on (go m) rest p k = k m
-  each-on (report j m) rest p k = (p, k m)
-  each-on (stop j) rest p k = (p, tt)
 
   each-at : (start len number owner : ℕ) (ks : List Kind) → EachKind P ks → EachFinding P (findingsAt start len number owner ks)
   unfolding findingsAt
@@ -146,47 +122,26 @@ module _ (P : ℕ → ℕ → ℕ → Type 0) where
     each-row e (leaf x r) = each-cell (cellIn x) x e (λ n. rowFrom n r) (λ n. each-row n r)
     each-row e (node x c r) = each-cell (cellIn x) x e (λ n. rowFrom n r) (λ n. each-row n r)
 
-    each-step : (m : Mode) (c : ℕ) → OfStep P (scanStep m c)
-    unfolding scanStep codesOf among
-    each-step between c = step-pick (blank c) _ _ tt (step-pick (eqb c 0x3D) _ _ tt tt)
-    each-step key c = step-pick (eqb c 0x3D) _ _ tt (step-pick (blank c) _ _ (h errorSeverity codes.invalidAttributes _ refl) tt)
-    each-step value c = step-pick (eqb c 0x22) _ _ tt (step-pick (blank c) _ _ (h errorSeverity codes.unquotedAttributeValue _ refl) (h errorSeverity codes.unquotedAttributeValue _ refl))
-    each-step opened c = step-pick (eqb c 0x22) _ _ (h infoSeverity codes.invalidAttributes _ refl) (step-quotes c)
-    each-step quoted c = step-pick (eqb c 0x22) _ _ tt (step-quotes c)
-    each-step escaping c = step-quotes c
-    each-step unquoted c = step-pick (blank c) _ _ tt tt
-
-    each-end : (m : Mode) → EachKind P (endOfText m)
+    each-kind : (marker text : List ℕ) → EachKind P (attributeKinds marker text)
     unfolding codesOf among
-    each-end between = tt
-    each-end key = (h errorSeverity codes.invalidAttributes _ refl, tt)
-    each-end value = (h errorSeverity codes.unquotedAttributeValue _ refl, tt)
-    each-end opened = (h errorSeverity codes.invalidAttributes _ refl, tt)
-    each-end quoted = (h errorSeverity codes.invalidAttributes _ refl, tt)
-    each-end escaping = (h errorSeverity codes.invalidAttributes _ refl, tt)
-    each-end unquoted = tt
-
-    each-scan : (m : Mode) (cs : List Decoded) → EachKind P (attributeScan m cs)
-    unfolding attributeScan
-    each-scan m [] = each-end m
-    each-scan m (c ∷ cs) = each-on (scanStep m (c .cp)) (λ n. attributeScan n cs) (each-step m (c .cp)) (λ n. each-scan n cs)
-
-    each-kinds : (marker text : List ℕ) → EachKind P (attributeKinds marker text)
-    unfolding attributeKinds codesOf among
-    each-kinds marker text = test (eqb (length (body text)) 0) (holdsEquals (body text)) (hasDefault (defaultName marker))
-      where
-        test : (a b c : Bool) → EachKind P (pick a (emptyList ∷ []) (pick b (attributeScan between (chars (body text))) (pick c [] (noDefault ∷ []))))
-        test true b c = (h errorSeverity codes.invalidAttributes _ refl, tt)
-        test false true c = each-scan between (chars (body text))
-        test false false true = tt
-        test false false false = (h errorSeverity codes.defaultAttributeNotDefined _ refl, tt)
+    each-kind marker text =
+        all-kinds (λ (k : Kind). P (k .severity) (k .code) (k .form))
+        (record {
+          empty-list = h errorSeverity codes.invalidAttributes _ refl;
+          key-alone = h errorSeverity codes.invalidAttributes _ refl;
+          empty-value = h infoSeverity codes.invalidAttributes _ refl;
+          not-ended = h errorSeverity codes.invalidAttributes _ refl;
+          not-quoted = h errorSeverity codes.unquotedAttributeValue _ refl;
+          no-default = h errorSeverity codes.defaultAttributeNotDefined _ refl;
+        })
+        marker text
 
     each-attributes : (owner : ℕ) (marker : List ℕ) (f : Forest) → EachFinding P (attributesFindings owner marker f)
     unfolding attributesFindings
     each-attributes owner marker end = tt
     each-attributes owner marker (leaf x r) =
         each-append (pick (eqb (x .kind) attributeKind) (attributeFindings owner marker x) []) (attributesFindings owner marker r)
-        (each-pick (eqb (x .kind) attributeKind) (attributeFindings owner marker x) (each-at (x .start) (x .len) (x .number) owner (attributeKinds marker (x .text)) (each-kinds marker (x .text))))
+        (each-pick (eqb (x .kind) attributeKind) (attributeFindings owner marker x) (each-at (x .start) (x .len) (x .number) owner (attributeKinds marker (x .text)) (each-kind marker (x .text))))
         (each-attributes owner marker r)
     each-attributes owner marker (node x c r) = each-attributes owner marker r
 

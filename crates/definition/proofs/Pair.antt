@@ -1,4 +1,4 @@
--- Two papers that begin alike, so that demand 3's premises are met: a start that the longer's end takes.
+-- Two documents that begin alike, so that demand 3's premises are met: a start that the longer's end takes.
 -- Assumes nothing.
 use Prim.Native.Nat.{ℕ, zero, suc, _*_, _<_, _≤_}
 use native.Mathlib.Omega.{arith}
@@ -43,20 +43,20 @@ below-each p (suc n) i h l = test (eqb i n) refl (λ k. below-each p n i (and-ri
     test false e later = let k : i ≡ n → ⊥ = eqb-false i n e in later (omega arith)
 
 abbrev pub shorter : Lent
-shorter = worked.lentOf worked.shorterPaper
+shorter = worked.lentOf worked.shorterDocument
 
 abbrev pub longer : Lent
-longer = worked.lentOf worked.longerPaper
+longer = worked.lentOf worked.longerDocument
 
 pub shorter-accepted : refusal shorter ≡ none
-unfolding ascii worked.shorterPaper worked.exampleTable worked.tapeOf utf8.table3-7 utf8.begins utf8.widthBy utf8.widthOf utf8.decoded utf8.decode inAny blankRanges blank charsPast bytesBefore findByte trimStart kept trim blankText wordFrom half word equal all oneOf lines.lines lines.categories lines.roles entries.position entries.entriesOf entries.entries entries.nth namePart refusal repeated utf8.scan utf8.afterWidth utf8.firstIllFormed lines.badFrom lines.badTable reading.step reading.read reading.tapeRefusal firstBad label.splits label.labelRefusal infoAt
+unfolding ascii worked.shorterDocument worked.exampleTable worked.tapeOf utf8.table3-7 utf8.begins utf8.widthBy utf8.widthOf utf8.decoded utf8.decode inAny blankRanges blank charsPast bytesBefore findByte trimStart kept trim blankText wordFrom half word equal all oneOf lines.lines lines.categories lines.roles entries.position entries.entriesOf entries.entries entries.nth namePart refusal repeated utf8.scan utf8.afterWidth utf8.firstIllFormed lines.badFrom lines.badTable reading.step reading.read reading.tapeRefusal firstBad label.splits label.labelRefusal infoAt
 shorter-accepted = refl
 
 pub longer-accepted : refusal longer ≡ none
-unfolding ascii worked.longerPaper worked.exampleTable worked.tapeOf utf8.table3-7 utf8.begins utf8.widthBy utf8.widthOf utf8.decoded utf8.decode inAny blankRanges blank charsPast bytesBefore findByte trimStart kept trim blankText wordFrom half word equal all oneOf lines.lines lines.categories lines.roles entries.position entries.entriesOf entries.entries entries.nth namePart refusal repeated utf8.scan utf8.afterWidth utf8.firstIllFormed lines.badFrom lines.badTable reading.step reading.read reading.tapeRefusal firstBad label.splits label.labelRefusal infoAt
+unfolding ascii worked.longerDocument worked.exampleTable worked.tapeOf utf8.table3-7 utf8.begins utf8.widthBy utf8.widthOf utf8.decoded utf8.decode inAny blankRanges blank charsPast bytesBefore findByte trimStart kept trim blankText wordFrom half word equal all oneOf lines.lines lines.categories lines.roles entries.position entries.entriesOf entries.entries entries.nth namePart refusal repeated utf8.scan utf8.afterWidth utf8.firstIllFormed lines.badFrom lines.badTable reading.step reading.read reading.tapeRefusal firstBad label.splits label.labelRefusal infoAt
 longer-accepted = refl
 
--- the bytes of the nodes are the same, and two opens that start at one byte are not one of each
+-- the bytes of the nodes are the same, and no MarkerOpen that the longer adds starts where one of the shorter's does
 abbrev sameByte : ℕ → Bool
 sameByte k = ltb k 16 || eqb (byte (shorter .tape) k) (byte (longer .tape) k)
 
@@ -64,15 +64,15 @@ abbrev apartFrom : ℕ → ℕ → Bool
 apartFrom i j = ltb j (linkAt (shorter .tape) 0) || not (isOpen (kindAt (shorter .tape) i) && (isOpen (kindAt (longer .tape) j) && eqb (startAt (shorter .tape) i) (startAt (longer .tape) j)))
 
 same-bytes : below sameByte (16 * linkAt (shorter .tape) 0) ≡ true
-unfolding below worked.shorterPaper worked.longerPaper worked.tapeOf half word
+unfolding below worked.shorterDocument worked.longerDocument worked.tapeOf half word
 same-bytes = refl
 
 all-apart : below (λ i. below (apartFrom i) (count (longer .tape))) (linkAt (shorter .tape) 0) ≡ true
-unfolding below worked.shorterPaper worked.longerPaper worked.tapeOf half word
+unfolding below worked.shorterDocument worked.longerDocument worked.tapeOf half word
 all-apart = refl
 
 pub begin-alike : BeginAlike (shorter .source) (shorter .tape) (longer .source) (longer .tape)
-unfolding ascii worked.shorterPaper worked.longerPaper worked.tapeOf half word
+unfolding ascii worked.shorterDocument worked.longerDocument worked.tapeOf half word
 begin-alike =
     record {
       alike =

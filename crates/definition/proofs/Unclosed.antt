@@ -21,7 +21,7 @@ use Rattle.definition.specs.Milestones.{visits, marks, takenFrom}
 use Rattle.definition.specs.Document.{unclosed, closing, walked, running, findings, unclosedOf, those, isUnclosed}
 use Rattle.definition.specs.Outcome.{Lent, refusal, listOf}
 use Rattle.definition.proofs.EachFinding.{EachFinding, codesOf, isGiven, among-all, each-running, each-missing}
-use Rattle.definition.proofs.Demand3.{longer-unclosed}
+use Rattle.definition.proofs.Demand3.{longer-open-starts}
 
 -- what a test picks of two lists joined, and what a second test picks of that
 pub those-append : (p : Finding → Bool) (fs gs : List Finding) → those p (fs ++ gs) ≡ those p fs ++ those p gs
@@ -42,7 +42,7 @@ those-both p q (f ∷ fs) = test (p f) (those-both p q fs)
     test true e = ap (λ (xs : List Finding). pick (q f) (f ∷ xs) xs) e
     test false e = e
 
--- a finding of code and form that is none of an unclosed start
+-- a code and a form other than an unclosed start's
 abbrev Other : ℕ → ℕ → ℕ → Type 0
 Other severity code form = (eqb code milestoneMismatch && eqb form unclosedStart) ≡ false
 
@@ -86,10 +86,10 @@ unclosed-listed table f =
     ∙ closing-unclosed (walked table f .state)
 
 module _ (l l′ : Lent) (same-table : l .table ≡ l′ .table) (short : refusal l ≡ none) (long : refusal l′ ≡ none) (alike : BeginAlike (l .source) (l .tape) (l′ .source) (l′ .tape)) where
-  pub longer-unclosed-listed : those (λ e. isUnclosed e && ltb (e .node) (linkAt (l .tape) 0)) (listOf l′) ≡ those (λ e. isUnclosed e && not (takenFrom (linkAt (l .tape) 0) (e .node) (marks (visits (l′ .table) (top (l′ .source) (l′ .tape)))))) (listOf l)
-  longer-unclosed-listed =
+  pub longer-unclosed : those (λ e. isUnclosed e && ltb (e .node) (linkAt (l .tape) 0)) (listOf l′) ≡ those (λ e. isUnclosed e && not (takenFrom (linkAt (l .tape) 0) (e .node) (marks (visits (l′ .table) (top (l′ .source) (l′ .tape)))))) (listOf l)
+  longer-unclosed =
       those-both isUnclosed (λ e. ltb (e .node) (linkAt (l .tape) 0)) (listOf l′)
       ∙ ap (those (λ e. ltb (e .node) (linkAt (l .tape) 0))) (unclosed-listed (l′ .table) (top (l′ .source) (l′ .tape)))
-      ∙ longer-unclosed l l′ same-table short long alike
+      ∙ longer-open-starts l l′ same-table short long alike
       ∙ ap (those (λ e. not (takenFrom (linkAt (l .tape) 0) (e .node) (marks (visits (l′ .table) (top (l′ .source) (l′ .tape))))))) (sym (unclosed-listed (l .table) (top (l .source) (l .tape))))
       ∙ sym (those-both isUnclosed (λ e. not (takenFrom (linkAt (l .tape) 0) (e .node) (marks (visits (l′ .table) (top (l′ .source) (l′ .tape)))))) (listOf l))

@@ -134,7 +134,7 @@ bookCode (node x c r) = bookCode r
 abbrev pub isBook : List ℕ → Bool
 isBook code = known (bookOf code)
 
--- `id`: DuplicateId, InvalidBookCode ("0 should be uppercase, 1 not valid")
+-- `id`: DuplicateId, InvalidBookCode, by its forms (docs/DECISIONS.md): 0 should be uppercase, 1 not valid
 abbrev pub idChecks : Bool → WalkState → List ℕ → Node → List Check
 idChecks named st code x =
     when (named && st .hasId) (error x duplicateId 0)

@@ -117,7 +117,7 @@ example3 =
     ∷ [])
     ([])
 
--- a code in small letters; a second `\id`, whose code is none
+-- a code in small letters; a second `\id`, whose code is no book's
 unfoldable pub example4 : Example
 example4 =
     example (ascii "\\id gen\n\\id XYZ\n\\c 1\n")
@@ -135,7 +135,7 @@ example4 =
     ∷ found warningSeverity invalidBookCode 8 3 4 1 0 0
     ∷ [])
 
--- the anchor is kept past a paragraph: by its start offset the second `\ca` is the attached one
+-- the anchor is kept past a paragraph: the second `\ca` starts where the attached number does, and counts as attached
 unfoldable pub example5 : Example
 example5 =
     example (ascii "\\id GEN\n\\c 1\n\\ca 2\\ca*\\p 2\\ca*")
@@ -335,8 +335,8 @@ example15 =
     ∷ [])
 
 -- a start that no end takes
-unfoldable pub shorterPaper : Example
-shorterPaper =
+unfoldable pub shorterDocument : Example
+shorterDocument =
     example (ascii "\\id GEN\n\\c 1\n\\qt-s\\*")
     (row rootKind 0 0 20 7
     ∷ row markerOpenKind 0 0 3 3
@@ -349,9 +349,9 @@ shorterPaper =
     (found errorSeverity milestoneMismatch 13 5 5 0 0 0
     ∷ [])
 
--- a paper that begins like it, with an end that takes the start
-unfoldable pub longerPaper : Example
-longerPaper =
+-- a document that begins like it, with an end that takes the start
+unfoldable pub longerDocument : Example
+longerDocument =
     example (ascii "\\id GEN\n\\c 1\n\\qt-s\\*\\qt-e\\*")
     (row rootKind 0 0 27 9
     ∷ row markerOpenKind 0 0 3 3
@@ -382,8 +382,8 @@ examples =
     ∷ example13
     ∷ example14
     ∷ example15
-    ∷ shorterPaper
-    ∷ longerPaper
+    ∷ shorterDocument
+    ∷ longerDocument
     ∷ []
 
 unfoldable pub findingsOf : List Example → List (List Finding)

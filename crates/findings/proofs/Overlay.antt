@@ -13,7 +13,7 @@ use lib.Seq.{sets, sets-eq, take-at, drop-append-add, drop-drop, length-take-le}
 use borrow.Author.Tests.{lt-ltb, le-ltb}
 use Rattle.findings.specs.Finding.{Finding, wordsOf}
 use Rattle.findings.specs.declared.Counts.{Counts}
-use Rattle.findings.specs.Written.{total, room, put, overlay, encode, decode, only}
+use Rattle.findings.specs.Written.{total, room, put, overlay, encode, findingsIn, only}
 use Rattle.text.specs.Pick.{pick}
 use Rattle.findings.specs.Inner.{bySeverity, counted, Wrote, countLimit, Room}
 
@@ -161,10 +161,10 @@ encode-append [] gs = refl
 encode-append (f ∷ fs) gs = ap (wordsOf f ++_) (encode-append fs gs) ∙ sym (append-assoc (wordsOf f) (encode fs) (encode gs))
 
 -- the words of findings are these findings
-pub decode-encode : (fs : List Finding) → decode (encode fs) ≡ fs
-unfolding decode encode
-decode-encode [] = refl
-decode-encode (f ∷ fs) = ap (_∷_ f) (decode-encode fs)
+pub findings-in-words : (fs : List Finding) → findingsIn (encode fs) ≡ fs
+unfolding findingsIn encode
+findings-in-words [] = refl
+findings-in-words (f ∷ fs) = ap (_∷_ f) (findings-in-words fs)
 
 pub encode-length : (fs : List Finding) → length (encode fs) ≡ 8 * length fs
 unfolding encode

@@ -35,16 +35,16 @@ encode [] = []
 encode (f ∷ fs) = wordsOf f ++ encode fs
 
 -- the findings that words are, eight for each; a rest of fewer is none
-unfoldable pub decode : List ℕ → List Finding
-decode [] = []
-decode (a ∷ []) = []
-decode (a ∷ b ∷ []) = []
-decode (a ∷ b ∷ c ∷ []) = []
-decode (a ∷ b ∷ c ∷ d ∷ []) = []
-decode (a ∷ b ∷ c ∷ d ∷ e ∷ []) = []
-decode (a ∷ b ∷ c ∷ d ∷ e ∷ f ∷ []) = []
-decode (a ∷ b ∷ c ∷ d ∷ e ∷ f ∷ g ∷ []) = []
-decode (a ∷ b ∷ c ∷ d ∷ e ∷ f ∷ g ∷ h ∷ words) = record { severity = a; code = b; start = c; len = d; node = e; form = f; first = g; second = h } ∷ decode words
+unfoldable pub findingsIn : List ℕ → List Finding
+findingsIn [] = []
+findingsIn (a ∷ []) = []
+findingsIn (a ∷ b ∷ []) = []
+findingsIn (a ∷ b ∷ c ∷ []) = []
+findingsIn (a ∷ b ∷ c ∷ d ∷ []) = []
+findingsIn (a ∷ b ∷ c ∷ d ∷ e ∷ []) = []
+findingsIn (a ∷ b ∷ c ∷ d ∷ e ∷ f ∷ []) = []
+findingsIn (a ∷ b ∷ c ∷ d ∷ e ∷ f ∷ g ∷ []) = []
+findingsIn (a ∷ b ∷ c ∷ d ∷ e ∷ f ∷ g ∷ h ∷ words) = record { severity = a; code = b; start = c; len = d; node = e; form = f; first = g; second = h } ∷ findingsIn words
 
 -- one finding, or none
 abbrev pub only : Bool → Finding → List Finding

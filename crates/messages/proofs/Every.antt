@@ -1,22 +1,15 @@
--- What holds of every element of a list, and of every finding that a list of checks gives.
+-- What holds of every finding that a list of checks gives.
 -- Assumes nothing.
 use mathlib.Core.Path.{_≡_, refl}
 use mathlib.Core.Bool.{Bool, true, false}
-use mathlib.Core.List.{List, [], _∷_, _++_}
+use mathlib.Core.List.{List, [], _∷_}
 use Rattle.tape.specs.Nodes.{Node}
 use Rattle.findings.specs.Finding.{Finding}
 use Rattle.findings.specs.Written.{only}
 use Rattle.definition.specs.Checks.{Check, given}
 use Rattle.definition.specs.Milestones.{sameBase, without}
-use Rattle.text.specs.Pick.{pick}
-
-abbrev pub AllOf : {A : Type 0} → (A → Type 0) → List A → Type 0
-AllOf P [] = Unit {0}
-AllOf P (x ∷ xs) = P x × AllOf P xs
-
-pub all-append : {A : Type 0} (P : A → Type 0) (xs ys : List A) → AllOf P xs → AllOf P ys → AllOf P (xs ++ ys)
-all-append P [] ys p q = q
-all-append P (x ∷ xs) ys p q = (p .0, all-append P xs ys (p .1) q)
+use Rattle.text.specs.Pick.{pick, AllOf}
+use Rattle.text.proofs.Every.{all-append}
 
 -- of what is left when one is taken out
 pub all-without : (P : Node → Type 0) (x : Node) (xs : List Node) → AllOf P xs → AllOf P (without x xs)

@@ -9,10 +9,10 @@ use mathlib.Core.Option.{Option, some, none}
 use lib.Dec.{eqb, ltb}
 use lib.ListN.{length}
 use borrow.Author.Tests.{lt-ltb, le-leb, ne-eqb, ltb-true}
-use Rattle.text.specs.Pick.{cut, pick}
+use Rattle.text.specs.Pick.{cut, pick, AllOf}
 use Rattle.text.specs.Words.{blankText}
 use Rattle.tape.specs.Nodes.{Node, count, kindAt, linkAt, isOpen, nodeAt, chapterKind, verseKind, textKind, attributeKind}
-use Rattle.tape.specs.Forest.{Forest, end, leaf, node, forest, Nested, done, one, inner, top}
+use Rattle.tape.specs.Forest.{Forest, end, node, forest, Nested, done, one, inner, top}
 use Rattle.tape.proofs.Nest.{nested-le, forest-done, forest-leaf, forest-node}
 use Rattle.table.specs.Entries.{Entry, milestoneCategory}
 use Rattle.cursor.specs.Names.{nameOf}
@@ -34,9 +34,10 @@ use Rattle.definition.proofs.Demand3.{checked-accepted}
 use Rattle.message_texts.specs.Texts.{documentTexts, numberTexts, markerTexts, attributeTexts}
 use Rattle.message_texts.specs.Filled.{allTexts, codeOf, formOf}
 use Rattle.messages.specs.Message.{requestOf, shownOf, textBy, messageText}
-use Rattle.messages.proofs.Every.{AllOf, all-append, all-without, WhenHeld, all-only, all-pick, all-given}
+use Rattle.messages.proofs.Every.{all-without, WhenHeld, all-only, all-pick, all-given}
+use Rattle.text.proofs.Every.{all-append}
 use Rattle.messages.proofs.LowLetters.{next-low, breaks-some}
-use Rattle.messages.proofs.AttributeKinds.{OfAttributes, all-kinds}
+use Rattle.attributes.proofs.EachKind.{OfAttributes, all-kinds}
 use Rattle.text.proofs.Bool.{and-left, and-right}
 use Rattle.findings.specs.Codes.{milestoneMismatch, unclosedStart, leadingZeros, textBeforeId, endAlone, invalidBookCode, misplacedNumberMarker, invalidVerseSequence}
 use Rattle.text.specs.Bytes.{equal, oneOf, upper}

@@ -4,7 +4,6 @@ pub mod Shown
 pub mod Nine
 pub mod Every
 pub mod LowLetters
-pub mod AttributeKinds
 pub mod HasMessage
 pub mod Digits
 pub mod Lengths

@@ -60,9 +60,9 @@ module _ (e : Entry) (s t : List ℕ) (i : ℕ) (opens : List OpenStart) (l : Li
   alone = isMilestone e x && (not (isStart x) && not (waits x (openNodes s t opens (r .«open_len»))))
 
   -- without a finding the counts are the same
-  quiet : false ≡ alone → {opens′ : List OpenStart} {q : State} → MilestoneStep e s t i opens r opens′ q → Milestoned e s t i opens l r opens′ l q
+  no-finding : false ≡ alone → {opens′ : List OpenStart} {q : State} → MilestoneStep e s t i opens r opens′ q → Milestoned e s t i opens l r opens′ l q
   unfolding overlay counted
-  quiet h {opens′} {q} st =
+  no-finding h {opens′} {q} st =
       record {
         wrote = one-wrote alone false (error x milestoneMismatch endAlone) (error x milestoneMismatch endAlone) h refl (countsOf r) (countsOf r) l l (countsOf q) refl (record { words = refl; counts = st .counts });
         step = subst (λ (k : Counts). MilestoneStep e s t i opens (withCounts r k) opens′ q) (sym (st .counts)) st;
@@ -98,7 +98,7 @@ module _ (e : Entry) (s t : List ℕ) (i : ℕ) (opens : List OpenStart) (l : Li
 
   -- no milestone
   pub other : isMilestone e x ≡ false → Milestoned e s t i opens l r opens l r
-  other h = let z : false ≡ alone = rw h in quiet z (stepped opens (r .«open_len») (rw h) o (omega arith))
+  other h = let z : false ≡ alone = rw h in no-finding z (stepped opens (r .«open_len») (rw h) o (omega arith))
 
   -- a start
   started : (b : OpenStart) → isMilestone e x ≡ true → isStart x ≡ true → b .node ≡ i → b .«base_len» ≡ length (baseOf x) → Spanned s t i → r .«open_len» < length opens → Milestoned e s t i opens l r (set opens (r .«open_len») b) l (withOpens r (r .«open_len» + 1))
@@ -106,7 +106,7 @@ module _ (e : Entry) (s t : List ℕ) (i : ℕ) (opens : List OpenStart) (l : Li
       let m : Measured s t (b .node) (b .«base_len») = rw here (record { spanned = sp; is = len }) in
       let w : openNodes s t (set opens (r .«open_len») b) (r .«open_len» + 1) ≡ x ∷ openNodes s t opens (r .«open_len») = starts-pushed opens (r .«open_len») b room s t ∙ ap (λ (n : ℕ). nodeAt s t n ∷ openNodes s t opens (r .«open_len»)) here in
       let v : false ≡ alone = rw (y, z) in
-      quiet v (stepped (set opens (r .«open_len») b) (r .«open_len» + 1) (rw (y, z) w) (opens-pushed opens (r .«open_len») b room s t o m) (omega arith))
+      no-finding v (stepped (set opens (r .«open_len») b) (r .«open_len» + 1) (rw (y, z) w) (opens-pushed opens (r .«open_len») b room s t o m) (omega arith))
 
   -- an end
   module _ (y : isMilestone e x ≡ true) (z : isStart x ≡ false) where
@@ -135,7 +135,7 @@ module _ (e : Entry) (s t : List ℕ) (i : ℕ) (opens : List OpenStart) (l : Li
         let found : nearestIn s t opens (suc (r .«open_len» - 1)) (baseOf x) ≡ At at = ap (λ (n : ℕ). nearestIn s t opens n (baseOf x)) (sym up) ∙ n in
         let taken : without x (openNodes s t opens (r .«open_len»)) ≡ openNodes s t opens′ (r .«open_len» - 1) = ap (λ (n : ℕ). without x (openNodes s t opens n)) up ∙ one-taken s t opens opens′ at x (r .«open_len» - 1) g found in
         let o′ : Opens s t opens (r .«open_len» - 1 + 1) = rw up′ at o in
-        quiet (alone-is (At at) n) (stepped opens′ (r .«open_len» - 1) (rw (y, z) (sym taken)) (opens-gone s t opens opens′ (r .«open_len» - 1) at g (omega arith) len o′) (omega arith))
+        no-finding (alone-is (At at) n) (stepped opens′ (r .«open_len» - 1) (rw (y, z) (sym taken)) (opens-gone s t opens opens′ (r .«open_len» - 1) at g (omega arith) len o′) (omega arith))
 
   -- by what is read of the node, the entry that it takes, and what is counted
   pub countable : (step : Step) → Read e s t i step → (p : Paired) → p ≡ pairedBy step (takenBy s t opens (r .«open_len») step) (r .«open_len») → Room (countsOf r) (given (milestoneChecks e (stateOf s t [] opens r) x)) → Countable t i p r

@@ -17,3 +17,4 @@ pub mod Find
 pub mod Hits
 pub mod Blocks
 pub mod WellFormed
+pub mod Every

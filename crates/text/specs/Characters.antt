@@ -36,6 +36,6 @@ unfoldable pub between : List Decoded → ℕ → Bool
 between [] at = eqb at 0
 between (c ∷ cs) at = eqb at 0 || (leb (c .width) at && between cs (at - c .width))
 
--- the place is inside the text, or at its end, and no further byte of a sequence stands there
+-- the place is 0 or the text's end, or it lies inside and holds no further byte of a sequence (80 to BF)
 abbrev pub isBoundary : List ℕ → ℕ → Bool
 isBoundary s at = eqb at 0 || (eqb at (length s) || (leb at (length s) && not (within 0x80 0xBF (getD s at 0))))

@@ -1,4 +1,4 @@
--- Ranges of numbers, tests on numbers, and the choice between two values by a test, for every crate.
+-- Ranges of numbers, tests on numbers, the choice between two values by a test, parts of a list, and what holds of every element, for every crate.
 use Prim.Native.Nat.{ℕ, _+_}
 use mathlib.Core.Bool.{Bool, true, false, not, _&&_, _||_}
 use mathlib.Core.List.{List, [], _∷_}
@@ -50,3 +50,8 @@ end p = p .start + p .len
 -- what stands in a part of the list
 abbrev pub cut : Part → List ℕ → List ℕ
 cut p s = take (p .len) (drop (p .start) s)
+
+-- the property holds of every element of the list
+abbrev pub AllOf : {A : Type 0} → (A → Type 0) → List A → Type 0
+AllOf P [] = Unit {0}
+AllOf P (x ∷ xs) = P x × AllOf P xs

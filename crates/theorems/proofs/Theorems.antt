@@ -1,4 +1,4 @@
--- The main theorems. Each has the sentence of document 01 that it answers, its full type, and a proof that cites the crate which proves it.
+-- The main theorems. Each group has the sentence of document 01 that it answers; each theorem has its full type, and a proof that cites the crate which proves it. Numbers 11 to 13 are given by `tally` and `message`, whose contracts say when (docs/PROMISES.md).
 -- Assumes nothing.
 use Prim.Native.Nat.{ℕ, _+_, _*_, _<_, _≤_}
 use mathlib.Core.Path.{_≡_, refl, _∙_}
@@ -39,10 +39,10 @@ use Rattle.cursor.specs.Info.{infoAt}
 use Rattle.numbers.specs.Label.{baseLen, isGlued, labelOf, splits, numbered}
 use Rattle.numbers.proofs.WellFormed as labels
 use Rattle.findings.specs.Finding.{Finding}
-use Rattle.findings.specs.Written.{wholeRecords, room, encode, decode}
+use Rattle.findings.specs.Written.{wholeRecords, room, encode, findingsIn}
 use Rattle.definition.specs.Milestones.{visits, marks, freeStarts, takenFrom}
 use Rattle.definition.specs.Document.{walked, running, findings, unclosedOf, isUnclosed, those, Beginning}
-use Rattle.definition.specs.Outcome.{Lent, refusal, listOf, checkedOf, answer, listAfter, seenAfter, openAfter}
+use Rattle.definition.specs.Outcome.{Lent, refusal, listOf, checkedOf, answer, listAfter, seenAfter, openAfter, cleared, noStart}
 use Rattle.definition.specs.declared.OpenStart.{OpenStart}
 use Rattle.definition.specs.Examples as examples
 use Rattle.definition.proofs.OpenStart as open-start
@@ -59,7 +59,7 @@ use Rattle.validate.proofs.Answer as answers
 use Rattle.validate.proofs.check as entry
 use Rattle.validate.proofs.Lists as lists
 use Rattle.messages.specs.Message.{requestOf, messageText}
-use Rattle.messages.proofs.Every.{AllOf}
+use Rattle.text.specs.Pick.{AllOf}
 use Rattle.messages.proofs.HasMessage as message
 use Rattle.tally.specs.Tally.{tallyRefusal, tallyOf, sum}
 use Rattle.tally.proofs.Sums as sums
@@ -113,7 +113,7 @@ check-contract 𝓤 H 𝓜 𝓖 𝓡 = refl
 -- ---- Which number is given
 
 -- "A marker that turns everything back is shut out by demand 1, since each number has its condition and occurs under no other."
--- A number is given with a place exactly if its condition (specs/Conditions.antt) holds there and no earlier number's condition holds anywhere.
+-- Of the numbers 1 to 10, one is given with a place exactly if its condition (specs/Conditions.antt) holds there and no earlier number's condition holds anywhere.
 pub one-number : (l : Lent) (number place : ℕ) → (refusal l ≡ refuse number place) ↔ (Condition l number place × ((earlier at : ℕ) → earlier < number → Condition l earlier at → ⊥))
 one-number l number place = composed.one-number l number place
 
@@ -147,7 +147,7 @@ span-is s t i well-formed = well.span-is s t i well-formed
 pub splits-is : (text : List ℕ) → Made text → (e : Option Entry) → splits e text ≡ (isGlued e (nameOf text) && not (between (chars (nameOf text)) (baseLen e (nameOf text))))
 splits-is text made e = labels.splits-is made e
 
--- The text and the name of every node of a checked document are well-formed, and so are the labels of its Chapters and Verses; so that a row of Table 3-7 begins at every character, and U+FFFD stands for no ill-formed byte.
+-- The text and the name of every node but the root of a checked document are well-formed, and so are the labels of its Chapters and Verses; so that a row of Table 3-7 begins at every character, and U+FFFD stands for no ill-formed byte.
 pub node-made : (l : Lent) → refusal l ≡ none → (i : ℕ) → 1 ≤ i → i < count (l .tape) → Made (nodeAt (l .source) (l .tape) i .text)
 node-made l none-given i from inside = well.node-made l none-given i from inside
 
@@ -165,6 +165,14 @@ each-decodes s made at between-two inside = decoding.each-decodes made at (chara
 pub accepted : (s t : List ℕ) → (tapeRefusal s t ≡ none) ↔ Accepted s t
 accepted s t = tape.accepted s t
 
+-- "Each gives number and place and writes nothing."
+pub refused-unchanged : (l : Lent) (number place : ℕ) → refusal l ≡ refuse number place → (listAfter l ≡ l .list) × (seenAfter l ≡ l .seen) × (openAfter l ≡ l .openStarts)
+refused-unchanged l number place given = (rw given, rw given, rw given)
+
+-- "After a checked document the first n entries of both working lists are zero (n nodes), the rest unchanged."
+pub working-lists-cleared : (l : Lent) → refusal l ≡ none → (seenAfter l ≡ cleared 0 (count (l .tape)) (l .seen)) × (openAfter l ≡ cleared noStart (count (l .tape)) (l .openStarts))
+working-lists-cleared l none-given = (rw none-given, rw none-given)
+
 -- ---- Demand 3
 
 -- "Two documents begin alike when the shorter's source is a beginning of the longer's, and its nodes from 1 on before the root's link, which are its top-level nodes with all inside them, are the longer's first nodes from 1 on; what the longer adds are its nodes after these, or none; root fields aren't compared, and no MarkerOpen that the longer adds starts at a byte where one of the shorter's starts, since attachment goes by start offset."
@@ -181,33 +189,33 @@ unclosed-listed table f = unclosed.unclosed-listed table f
 pub longer-unclosed : (l l′ : Lent) → l .table ≡ l′ .table → refusal l ≡ none → refusal l′ ≡ none → BeginAlike (l .source) (l .tape) (l′ .source) (l′ .tape)
     → those (λ e. isUnclosed e && ltb (e .node) (linkAt (l .tape) 0)) (listOf l′)
     ≡ those (λ e. isUnclosed e && not (takenFrom (linkAt (l .tape) 0) (e .node) (marks (visits (l′ .table) (top (l′ .source) (l′ .tape)))))) (listOf l)
-longer-unclosed l l′ table short long alike = unclosed.longer-unclosed-listed l l′ table short long alike
+longer-unclosed l l′ table short long alike = unclosed.longer-unclosed l l′ table short long alike
 
 -- "its lists are those that the check writes, by demand 2 those of the definition"
--- The words of the shorter's first k findings, closing findings aside, begin both lists at exit, wherever both have room for k findings.
+-- The first 8k words of both lists at exit are the same, for every k up to the number of the shorter's findings, closing findings aside, for which both lists have room; by `written-words` they are the words of the first k findings.
 pub longer-keeps-words : (l l′ : Lent) → l .table ≡ l′ .table → refusal l ≡ none → refusal l′ ≡ none → BeginAlike (l .source) (l .tape) (l′ .source) (l′ .tape)
     → (k : ℕ) → k ≤ length (running (l .table) (top (l .source) (l .tape))) → k ≤ room (l .list) → k ≤ room (l′ .list)
     → take (8 * k) (listAfter l′) ≡ take (8 * k) (listAfter l)
 longer-keeps-words l l′ table short long alike k = lists.longer-keeps-words l l′ table short long alike k
 
--- The second half for the words of lists that aren't cut: `decode` reads eight words as a finding.
+-- The second half for the words of lists that aren't cut: `findingsIn` reads eight words as a finding.
 pub longer-unclosed-words : (l l′ : Lent) → l .table ≡ l′ .table → refusal l ≡ none → refusal l′ ≡ none → BeginAlike (l .source) (l .tape) (l′ .source) (l′ .tape) → checkedOf l .cut ≡ false → checkedOf l′ .cut ≡ false
-    → those (λ e. isUnclosed e && ltb (e .node) (linkAt (l .tape) 0)) (decode (take (8 * checkedOf l′ .total) (listAfter l′)))
-    ≡ those (λ e. isUnclosed e && not (takenFrom (linkAt (l .tape) 0) (e .node) (marks (visits (l′ .table) (top (l′ .source) (l′ .tape)))))) (decode (take (8 * checkedOf l .total) (listAfter l)))
+    → those (λ e. isUnclosed e && ltb (e .node) (linkAt (l .tape) 0)) (findingsIn (take (8 * checkedOf l′ .total) (listAfter l′)))
+    ≡ those (λ e. isUnclosed e && not (takenFrom (linkAt (l .tape) 0) (e .node) (marks (visits (l′ .table) (top (l′ .source) (l′ .tape)))))) (findingsIn (take (8 * checkedOf l .total) (listAfter l)))
 longer-unclosed-words l l′ table short long alike uncut uncut′ = lists.longer-unclosed-words l l′ table short long alike uncut uncut′
 
 -- The words of a list that isn't cut are its findings.
-pub uncut-words : (l : Lent) → refusal l ≡ none → checkedOf l .cut ≡ false → decode (take (8 * checkedOf l .total) (listAfter l)) ≡ listOf l
+pub uncut-words : (l : Lent) → refusal l ≡ none → checkedOf l .cut ≡ false → findingsIn (take (8 * checkedOf l .total) (listAfter l)) ≡ listOf l
 uncut-words l none-given uncut = lists.uncut-words l none-given uncut
 
--- Two documents meet these premises: neither is turned back, they begin alike, and the longer's added end takes the shorter's unclosed start.
-pub shorter-accepted : refusal (examples.lentOf examples.shorterPaper) ≡ none
+-- Two documents meet these premises: neither is turned back, and they begin alike. By `worked-examples` the shorter's list has one unclosed start, which the longer's added end takes: the longer's list has none.
+pub shorter-accepted : refusal (examples.lentOf examples.shorterDocument) ≡ none
 shorter-accepted = pair.shorter-accepted
 
-pub longer-accepted : refusal (examples.lentOf examples.longerPaper) ≡ none
+pub longer-accepted : refusal (examples.lentOf examples.longerDocument) ≡ none
 longer-accepted = pair.longer-accepted
 
-pub begin-alike : BeginAlike (examples.lentOf examples.shorterPaper .source) (examples.lentOf examples.shorterPaper .tape) (examples.lentOf examples.longerPaper .source) (examples.lentOf examples.longerPaper .tape)
+pub begin-alike : BeginAlike (examples.lentOf examples.shorterDocument .source) (examples.lentOf examples.shorterDocument .tape) (examples.lentOf examples.longerDocument .source) (examples.lentOf examples.longerDocument .tape)
 begin-alike = pair.begin-alike
 
 -- "A visited end takes the nearest earlier visited start of the same base that no end took before; an end passed over takes none."
@@ -263,7 +271,7 @@ pub trial-items : items.outcomesOf items.items ≡ items.wantedOutcomes items.it
 trial-items = settled.trial-items
 
 -- "An empty list for every passage, one stock finding, or lists never written: each breaks demand 2."
--- Each of seventeen documents has the findings that are written beside it: the listing's document, one for each slip that document 01 names, and others. None of them is turned back.
+-- Each of seventeen documents has the findings that are written beside it: the listing's document, one for each of the four slips that document 01 lists after 'Also:', and others. None of them is turned back.
 pub worked-examples : examples.findingsOf examples.examples ≡ examples.wantedFindings examples.examples
 worked-examples = worked.worked-examples
 

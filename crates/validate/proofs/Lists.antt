@@ -16,15 +16,15 @@ use Rattle.tape.specs.Forest.{top}
 use Rattle.tape.specs.Alike.{BeginAlike}
 use Rattle.refusals.proofs.First.{which}
 use Rattle.findings.specs.Finding.{Finding}
-use Rattle.findings.specs.Written.{room, overlay, encode, decode}
-use Rattle.findings.proofs.Overlay.{overlay-is, overlay-cut, encode-append, encode-length, decode-encode}
+use Rattle.findings.specs.Written.{room, overlay, encode, findingsIn}
+use Rattle.findings.proofs.Overlay.{overlay-is, overlay-cut, encode-append, encode-length, findings-in-words}
 use Rattle.tape.specs.Nodes.{linkAt}
 use Rattle.definition.specs.Milestones.{visits, marks, takenFrom}
 use Rattle.definition.specs.Document.{running, closing, walked, those, isUnclosed}
 use Rattle.definition.specs.Outcome.{Lent, of1, of2, of3, ofTape, of9, of10, refusal, listOf, checkedOf, listAfter}
 use Rattle.definition.proofs.Demand3.{longer-keeps-findings}
 use Rattle.definition.proofs.Counted.{uncut-fits}
-use Rattle.definition.proofs.Unclosed.{longer-unclosed-listed}
+use Rattle.definition.proofs.Unclosed.{longer-unclosed}
 
 few : (n : ℕ) (fs : List Finding) → length (take n fs) ≤ n
 few zero fs = omega arith
@@ -66,18 +66,18 @@ module _ (l l′ : Lent) (same-table : l .table ≡ l′ .table) (short : refusa
 
 -- the findings that a list's words are, where it isn't cut
 abbrev pub writtenFindings : Lent → List Finding
-writtenFindings l = decode (take (8 * checkedOf l .total) (listAfter l))
+writtenFindings l = findingsIn (take (8 * checkedOf l .total) (listAfter l))
 
 pub uncut-words : (l : Lent) → refusal l ≡ none → checkedOf l .cut ≡ false → writtenFindings l ≡ listOf l
 unfolding checkedOf
 uncut-words l e uncut =
-    ap decode (first-words l (length (listOf l)) (listOf l) [] e (sym (append-nil (listOf l))) refl (uncut-fits l uncut))
-    ∙ decode-encode (listOf l)
+    ap findingsIn (first-words l (length (listOf l)) (listOf l) [] e (sym (append-nil (listOf l))) refl (uncut-fits l uncut))
+    ∙ findings-in-words (listOf l)
 
 -- demand 3's second half for the words of lists that aren't cut
 module _ (l l′ : Lent) (same-table : l .table ≡ l′ .table) (short : refusal l ≡ none) (long : refusal l′ ≡ none) (alike : BeginAlike (l .source) (l .tape) (l′ .source) (l′ .tape)) (all : checkedOf l .cut ≡ false) (all′ : checkedOf l′ .cut ≡ false) where
   pub longer-unclosed-words : those (λ e. isUnclosed e && ltb (e .node) (linkAt (l .tape) 0)) (writtenFindings l′) ≡ those (λ e. isUnclosed e && not (takenFrom (linkAt (l .tape) 0) (e .node) (marks (visits (l′ .table) (top (l′ .source) (l′ .tape)))))) (writtenFindings l)
-  longer-unclosed-words = rw (uncut-words l short all, uncut-words l′ long all′) (longer-unclosed-listed l l′ same-table short long alike)
+  longer-unclosed-words = rw (uncut-words l short all, uncut-words l′ long all′) (longer-unclosed l l′ same-table short long alike)
 
 -- which of the numbers is given: the first whose own part gives it, no earlier one being given
 pub data Given (l : Lent) (r : Refusal) : Type 0 where
@@ -88,9 +88,9 @@ pub data Given (l : Lent) (r : Refusal) : Type 0 where
   by9 : of1 l ≡ none → of2 l ≡ none → of3 l ≡ none → ofTape l ≡ none → of9 l ≡ some r → Given l r
   by10 : of1 l ≡ none → of2 l ≡ none → of3 l ≡ none → ofTape l ≡ none → of9 l ≡ none → of10 l ≡ some r → Given l r
 
-pub one-number : (l : Lent) (r : Refusal) → (refusal l ≡ some r) ↔ Given l r
+pub first-part-gives : (l : Lent) (r : Refusal) → (refusal l ≡ some r) ↔ Given l r
 unfolding refusal
-one-number l r = (there, back)
+first-part-gives l r = (there, back)
   where
     there : refusal l ≡ some r → Given l r
     there e = one (which (of1 l) (orElse (of2 l) (orElse (of3 l) (orElse (ofTape l) (orElse (of9 l) (of10 l))))) r e)

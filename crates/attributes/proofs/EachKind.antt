@@ -10,9 +10,8 @@ use Rattle.text.specs.Characters.{chars}
 use Rattle.text.specs.declared.Decoded.{Decoded}
 use Rattle.table.specs.Names.{defaultName}
 use Rattle.findings.specs.Finding.{Kind}
 use Rattle.attributes.specs.Attributes.{emptyList, keyAlone, emptyValue, unterminated, unquotedValue, noDefault, Mode, between, key, value, opened, quoted, escaping, unquoted, inQuotes, ScanStep, go, report, stop, scanStep, endOfText, scanOn, attributeScan, body, hasDefault, holdsEquals, attributeKinds}
-use Rattle.messages.proofs.Every.{AllOf}
-use Rattle.text.specs.Pick.{pick}
+use Rattle.text.specs.Pick.{pick, AllOf}
 
 pub record OfAttributes (P : Kind → Type 0) : Type 0 where
   pub empty-list : P emptyList

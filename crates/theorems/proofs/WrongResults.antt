@@ -1,0 +1,749 @@
+-- For each promise, results of wrong functions that contradict it.
+-- Assumes nothing.
+use Prim.Native.Nat.{ℕ, zero, suc, _+_, _<_, _≤_}
+use native.Mathlib.Omega.{arith}
+use mathlib.Core.Path.{_≡_, refl, _∙_, sym, ap}
+use mathlib.Core.Bool.{true}
+use mathlib.Core.List.{List, [], _∷_, _++_}
+use mathlib.Core.Option.{Option, some, none}
+use lib.ListN.{length, getD, set}
+use borrow.Author.Tests.{eqb-false, ltb-true, leb-true}
+use Rattle.text.specs.Literal.{ascii}
+use Rattle.text.specs.Pick.{inAny}
+use Rattle.text.specs.Blank.{blankRanges, blank}
+use Rattle.text.specs.Utf8 as utf8
+use Rattle.text.specs.Bytes.{equal, all, oneOf}
+use Rattle.text.specs.Characters.{charsPast, bytesBefore, findByte}
+use Rattle.text.specs.Words.{trimStart, kept, trim, blankText, wordFrom}
+use Rattle.text.specs.Number.{allDigits, valueFrom, digitsFrom, digits, parsed}
+use Rattle.buffer.specs.Over.{Put, over}
+use Rattle.buffer.specs.Decimal.{decimal, decimalFuel}
+use Rattle.refusals.specs.Refusal.{Refusal, firstBad}
+use Rattle.tape.specs.Nodes.{Node, half, word, nodes, nodeAt}
+use Rattle.tape.specs.Forest as forests
+use Rattle.tape.specs.Forest.{followed, runs}
+use Rattle.tape.specs.Reading as reading
+use Rattle.table.specs.Lines as lines
+use Rattle.table.specs.Entries as entries
+use Rattle.table.specs.Names as names
+use Rattle.table.specs.Books as books
+use Rattle.table.specs.declared.MarkerInfo.{MarkerInfo}
+use Rattle.table.specs.declared.Category.the-variants.{Milestone}
+use Rattle.table.specs.declared.TextRole.the-variants.{Content}
+use Rattle.cursor.specs.Inner.{Spanned}
+use Rattle.cursor.specs.Names.{namePart}
+use Rattle.cursor.specs.Info.{infoAt}
+use Rattle.numbers.specs.Verse.{partOf, versePart, verseEnd, next, inSequence}
+use Rattle.numbers.specs.Label as label
+use Rattle.attributes.specs.Attributes as attributes
+use Rattle.attachment.specs.Attached.{isAlternate, isPublished, plain, runOf, startOffsets, among}
+use Rattle.findings.specs.Inner.{Wrote, counted, countLimit}
+use Rattle.findings.specs.Written.{put, overlay}
+use Rattle.findings.specs.declared.Counts.{Counts}
+use Rattle.definition.specs.State.{WalkState, Anchor, outside}
+use Rattle.definition.specs.Checks as checks
+use Rattle.definition.specs.Milestones.{baseOf, milestoneChecks, waits, afterMilestone}
+use Rattle.definition.specs.Walk.{Walked, walk, openChecked}
+use Rattle.definition.specs.Document.{textBefore, unclosed, closing}
+use Rattle.definition.specs.Outcome.{Lent, repeated, cleared, noStart, refusal, answer, listAfter, seenAfter, openAfter, checkedOf, ofSeverity}
+use Rattle.definition.specs.Outcome as outcome
+use Rattle.definition.specs.declared.OpenStart.{OpenStart}
+use Rattle.definition.specs.Examples as worked
+use Rattle.state.specs.Inner.{Opens, stateOf, anchorOf, openNodes, latest, countsOf, withCounts, withAnchor}
+use Rattle.state.specs.InnerSetters.{putHasId, putHasChapter}
+use Rattle.state.specs.declared.State.{State}
+use Rattle.milestones.specs.Inner.{nearestIn, removed, baseAt, takenBy, opensBy, pairedBy, Placed, withOpens}
+use Rattle.milestones.specs.InnerStep.{Milestoned, Steppable}
+use Rattle.milestones.specs.declared.Found.{Found}
+use Rattle.milestones.specs.declared.Found.the-variants.{At, Nothing}
+use Rattle.milestones.specs.declared.Step.{Step}
+use Rattle.milestones.specs.declared.Step.the-variants as step
+use Rattle.milestones.specs.declared.Paired.{Paired}
+use Rattle.milestones.specs.declared.Paired.the-variants as paired
+use Rattle.closing.specs.Inner.{Left}
+use Rattle.validate.specs.Entry.{lent, answerOf}
+use Rattle.validate.specs.Inner.{fresh}
+use Rattle.validate.specs.declared.Report.{Report}
+use Rattle.validate.specs.declared.Answer.the-variants as answers
+use Rattle.message_texts.specs.Filled.{filled, joined, allTexts, codeOf, formOf}
+use Rattle.message_texts.specs.Texts.{documentTexts, numberTexts, markerTexts, attributeTexts}
+use Rattle.messages.specs.Message.{Request, shownOf, messageText}
+use Rattle.messages.specs.Answer.{firstNine, messageAnswer, messageAfter, messageAnswerOf}
+use Rattle.messages.specs.Answer as text-answer
+use Rattle.messages.specs.Messages.{textsFrom, endsFrom, messagesAnswer, messagesAfter, endsAfter, messagesAnswerOf}
+use Rattle.messages.specs.Messages as text-answers
+use Rattle.messages.specs.declared.MessageAnswer.the-variants as message-answers
+use Rattle.messages.specs.declared.MessagesAnswer.the-variants as messages-answers
+use Rattle.tally.specs.Tally.{tallyRefusal, withCode, countsFrom, countsAfter, tallyAnswerOf}
+use Rattle.tally.specs.declared.Tallied.the-variants as tallied
+use Rattle.listing.specs.Lines.{refusedLines, checkedLines}
+use Rattle.harkoxin.specs.Words.{answerWords, messagesWords}
+use Rattle.harkoxin.specs.Report.{reportAnswer, reportText}
+
+-- ---- Inputs, and what the laws read of results
+
+-- the open start of a node with a base of two bytes
+abbrev start : ℕ → OpenStart
+start n = record { node = n; «base_len» = 2 }
+
+-- example 9, lent to the check: its nodes 5 and 7 are starts of the base `qt`, which stands at byte 28, and its node 9 is an end
+abbrev here : Lent
+here = worked.lentOf worked.example9
+
+-- the node of an entry, and an entry of a list of numbers
+abbrev nodeIn : ℕ → List OpenStart → ℕ
+nodeIn k opens = getD opens k noStart .node
+
+abbrev wordIn : ℕ → List ℕ → ℕ
+wordIn k words = getD words k 0
+
+-- the entry that a search finds, from 1; 0 for none
+abbrev entryFound : Found → ℕ
+entryFound Nothing = 0
+entryFound (At k) = suc k
+
+-- how many open starts a marker leaves, from 1; 0 for an end without an open start
+abbrev leftOpen : Paired → ℕ
+leftOpen paired.Alone = 0
+leftOpen (paired.Now k) = suc k
+
+-- the number of the first node
+abbrev firstNumber : List Node → ℕ
+firstNumber [] = 0
+firstNumber (x ∷ xs) = x .number
+
+-- a word of a check's answer: from 0 the verdict (0 checked, 1 cut, 2 refused), a refusal's number and place, the total
+abbrev said : ℕ → outcome.Answer → ℕ
+said k a = wordIn k (answerWords a)
+
+-- a refusal's number in an answer for a text, 0 for none
+abbrev numberSaid : text-answer.MessageAnswer → ℕ
+numberSaid (text-answer.refused r) = r .number
+numberSaid (text-answer.written n) = 0
+
+-- whether texts are all written (0), stopped (1) or refused (2), and how many are written
+abbrev verdictSaid : text-answers.MessagesAnswer → ℕ
+verdictSaid (text-answers.refused r) = 2
+verdictSaid (text-answers.all records bytes) = 0
+verdictSaid (text-answers.stopped records bytes r) = 1
+
+abbrev recordsSaid : text-answers.MessagesAnswer → ℕ
+recordsSaid (text-answers.refused r) = 0
+recordsSaid (text-answers.all records bytes) = records
+recordsSaid (text-answers.stopped records bytes r) = records
+
+-- 1 for a refusal, 0 for none
+abbrev turnedBack : Option Refusal → ℕ
+turnedBack none = 0
+turnedBack (some r) = 1
+
+-- ---- milestones::push
+
+-- a push that leaves the list as it was
+push-nothing : noStart ∷ noStart ∷ [] ≡ set (noStart ∷ noStart ∷ []) 0 (start 5) → ⊥
+push-nothing e = eqb-false 0 5 refl (ap (nodeIn 0) e)
+
+-- a push that writes one entry further
+push-elsewhere : noStart ∷ start 5 ∷ [] ≡ set (noStart ∷ noStart ∷ []) 0 (start 5) → ⊥
+push-elsewhere e = eqb-false 0 5 refl (ap (nodeIn 0) e)
+
+-- a push that writes over the entry before
+push-over : start 5 ∷ noStart ∷ [] ≡ set (start 3 ∷ noStart ∷ []) 1 (start 5) → ⊥
+push-over e = eqb-false 5 3 refl (ap (nodeIn 0) e)
+
+-- ---- milestones::nearest
+
+-- the search in example 9 for the base that stands at a place
+abbrev nearestHere : ℕ → ℕ → ℕ → Found
+nearestHere k at len = nearestIn (here .source) (here .tape) (start 5 ∷ start 7 ∷ []) k (baseAt (here .source) at len)
+
+-- these inputs meet what the search requires
+nearest-allowed : Opens (here .source) (here .tape) (start 5 ∷ start 7 ∷ []) 2 × (28 + 2 ≤ length (here .source))
+unfolding ascii worked.example9 worked.tapeOf namePart bytesBefore charsPast word blank inAny blankRanges utf8.decode utf8.decoded utf8.widthOf utf8.widthBy utf8.table3-7 utf8.begins
+nearest-allowed = (record { room = leb-true 2 2 refl; spanned = spanned; bases = bases }, leb-true 30 57 refl)
+  where
+    spanned : (j : ℕ) → j < 2 → Spanned (here .source) (here .tape) (nodeIn j (start 5 ∷ start 7 ∷ []))
+    spanned zero l = record { inside = ltb-true 5 19 refl; fits = leb-true 18 57 refl }
+    spanned (suc zero) l = record { inside = ltb-true 7 19 refl; fits = leb-true 25 57 refl }
+    spanned (suc (suc j)) l = absurd (omega arith)
+
+    bases : (j : ℕ) → j < 2 → getD (start 5 ∷ start 7 ∷ []) j noStart .«base_len» ≡ length (baseOf (nodeAt (here .source) (here .tape) (nodeIn j (start 5 ∷ start 7 ∷ []))))
+    bases zero l = refl
+    bases (suc zero) l = refl
+    bases (suc (suc j)) l = absurd (omega arith)
+
+-- the right results
+nearest-right : (nearestHere 2 28 2 ≡ At 1) × (nearestHere 1 28 2 ≡ At 0) × (nearestHere 2 1 2 ≡ Nothing)
+unfolding nearestIn ascii worked.example9 worked.tapeOf equal namePart bytesBefore charsPast word blank inAny blankRanges utf8.decode utf8.decoded utf8.widthOf utf8.widthBy utf8.table3-7 utf8.begins
+nearest-right = (refl, refl, refl)
+
+-- a search that finds nothing
+nearest-nothing : Nothing ≡ nearestHere 2 28 2 → ⊥
+nearest-nothing e = eqb-false 0 2 refl (ap entryFound (e ∙ nearest-right .0))
+
+-- a search that finds the earliest start and not the latest
+nearest-earliest : At 0 ≡ nearestHere 2 28 2 → ⊥
+nearest-earliest e = eqb-false 1 2 refl (ap entryFound (e ∙ nearest-right .0))
+
+-- a search that looks past the first k entries
+nearest-past : At 1 ≡ nearestHere 1 28 2 → ⊥
+nearest-past e = eqb-false 2 1 refl (ap entryFound (e ∙ nearest-right .1))
+
+-- a search that takes any base for its own: `id` stands at byte 1
+nearest-any : At 1 ≡ nearestHere 2 1 2 → ⊥
+nearest-any e = eqb-false 2 0 refl (ap entryFound (e ∙ nearest-right .2))
+
+-- ---- milestones::remove
+
+-- a removal that leaves the list as it was
+remove-nothing : start 3 ∷ start 5 ∷ start 7 ∷ [] ≡ removed (start 3 ∷ start 5 ∷ start 7 ∷ []) 3 1 → ⊥
+unfolding removed
+remove-nothing e = eqb-false 5 7 refl (ap (nodeIn 1) e)
+
+-- a removal of the first entry in place of the one asked for
+remove-first : start 5 ∷ start 7 ∷ start 7 ∷ [] ≡ removed (start 3 ∷ start 5 ∷ start 7 ∷ []) 3 1 → ⊥
+unfolding removed
+remove-first e = eqb-false 5 3 refl (ap (nodeIn 0) e)
+
+-- a removal that empties the entry and moves none down
+remove-empties : start 3 ∷ noStart ∷ start 7 ∷ [] ≡ removed (start 3 ∷ start 5 ∷ start 7 ∷ []) 3 1 → ⊥
+unfolding removed
+remove-empties e = eqb-false 0 7 refl (ap (nodeIn 1) e)
+
+-- ---- milestones::pair
+
+-- the open starts, and how many they are, after a marker of example 9 that finds the start of node 5 open
+abbrev opensHere : Step → List OpenStart
+opensHere s = opensBy s (takenBy (here .source) (here .tape) (start 5 ∷ noStart ∷ []) 1 s) (start 5 ∷ noStart ∷ []) 1
+
+abbrev pairedHere : Step → Paired
+pairedHere s = pairedBy s (takenBy (here .source) (here .tape) (start 5 ∷ noStart ∷ []) 1 s) 1
+
+-- these inputs meet what it requires, with an end whose base stands at byte 28
+pair-allowed : Opens (here .source) (here .tape) (start 5 ∷ noStart ∷ []) 1 × (1 < length (start 5 ∷ noStart ∷ [])) × Placed (here .source) (step.End 28 2)
+unfolding ascii worked.example9 worked.tapeOf namePart bytesBefore charsPast word blank inAny blankRanges utf8.decode utf8.decoded utf8.widthOf utf8.widthBy utf8.table3-7 utf8.begins
+pair-allowed = (record { room = leb-true 1 2 refl; spanned = spanned; bases = bases }, ltb-true 1 2 refl, leb-true 30 57 refl)
+  where
+    spanned : (j : ℕ) → j < 1 → Spanned (here .source) (here .tape) (nodeIn j (start 5 ∷ noStart ∷ []))
+    spanned zero l = record { inside = ltb-true 5 19 refl; fits = leb-true 18 57 refl }
+    spanned (suc j) l = absurd (omega arith)
+
+    bases : (j : ℕ) → j < 1 → getD (start 5 ∷ noStart ∷ []) j noStart .«base_len» ≡ length (baseOf (nodeAt (here .source) (here .tape) (nodeIn j (start 5 ∷ noStart ∷ []))))
+    bases zero l = refl
+    bases (suc j) l = absurd (omega arith)
+
+-- the right results of an end with this base, and of one with the base `id`, which stands at byte 1
+pair-right : (pairedHere (step.End 28 2) ≡ paired.Now 0) × (pairedHere (step.End 1 2) ≡ paired.Alone)
+unfolding nearestIn ascii worked.example9 worked.tapeOf equal namePart bytesBefore charsPast word blank inAny blankRanges utf8.decode utf8.decoded utf8.widthOf utf8.widthBy utf8.table3-7 utf8.begins
+pair-right = (refl, refl)
+
+-- a start that is not added
+pair-start-lost : start 5 ∷ noStart ∷ [] ≡ opensHere (step.Start (start 7)) → ⊥
+pair-start-lost e = eqb-false 0 7 refl (ap (nodeIn 1) e)
+
+-- a start that is not counted
+pair-start-uncounted : paired.Now 1 ≡ pairedHere (step.Start (start 7)) → ⊥
+pair-start-uncounted e = eqb-false 2 3 refl (ap leftOpen e)
+
+-- a marker that is neither and is added
+pair-neither-added : start 5 ∷ start 7 ∷ [] ≡ opensHere step.Neither → ⊥
+pair-neither-added e = eqb-false 7 0 refl (ap (nodeIn 1) e)
+
+-- an end that leaves its start open
+pair-end-keeps : paired.Now 1 ≡ pairedHere (step.End 28 2) → ⊥
+pair-end-keeps e = eqb-false 2 1 refl (ap leftOpen (e ∙ pair-right .0))
+
+-- an end that misses its start
+pair-end-alone : paired.Alone ≡ pairedHere (step.End 28 2) → ⊥
+pair-end-alone e = eqb-false 0 1 refl (ap leftOpen (e ∙ pair-right .0))
+
+-- an end that takes a start of another base
+pair-end-any : paired.Now 0 ≡ pairedHere (step.End 1 2) → ⊥
+pair-end-any e = eqb-false 1 0 refl (ap leftOpen (e ∙ pair-right .1))
+
+-- ---- milestones::milestone
+
+-- the table's entry of a milestone
+abbrev milestoneInfo : MarkerInfo
+milestoneInfo = record { «name_start» = 0; «name_len» = 0; category = Milestone; «text_role» = Content }
+
+-- what is promised of a node of example 9 that finds no start open
+abbrev MilestonedHere : ℕ → List ℕ → List OpenStart → List ℕ → State → Type 0
+MilestonedHere i l opens l′ q = Milestoned (entries.entryOfInfo milestoneInfo) (here .source) (here .tape) i (here .openStarts) l fresh opens l′ q
+
+-- the record of the definition for it, so many errors, the counts with its findings, and the open starts after it
+abbrev errors : ℕ → Counts
+errors n = record { errors = n; warnings = 0; infos = 0 }
+
+abbrev stateHere : WalkState
+stateHere = stateOf (here .source) (here .tape) [] (here .openStarts) fresh
+
+abbrev countsHere : ℕ → Counts
+countsHere i = counted (errors 0) (checks.given (milestoneChecks (entries.entryOfInfo milestoneInfo) stateHere (nodeAt (here .source) (here .tape) i)))
+
+abbrev openHere : ℕ → List Node
+openHere i = afterMilestone (entries.entryOfInfo milestoneInfo) stateHere (nodeAt (here .source) (here .tape) i) .openStarts
+
+-- nodes 5 and 9 meet what it requires
+milestone-allowed : Steppable (entries.entryOfInfo milestoneInfo) (here .source) (here .tape) 5 (here .openStarts) fresh × Steppable (entries.entryOfInfo milestoneInfo) (here .source) (here .tape) 9 (here .openStarts) fresh
+unfolding checks.given waits openNodes half repeated ascii worked.example9 worked.tapeOf equal namePart bytesBefore charsPast word blank inAny blankRanges utf8.decode utf8.decoded utf8.widthOf utf8.widthBy utf8.table3-7 utf8.begins
+milestone-allowed = (
+  record { spanned = record { inside = ltb-true 5 19 refl; fits = leb-true 18 57 refl }; low = ltb-true 5 4294967296 refl; known = none-open; more = ltb-true 0 19 refl; room = leb-true 0 countLimit refl },
+  record { spanned = record { inside = ltb-true 9 19 refl; fits = leb-true 32 57 refl }; low = ltb-true 9 4294967296 refl; known = none-open; more = ltb-true 0 19 refl; room = leb-true 1 countLimit refl },
+)
+  where
+    none-open : Opens (here .source) (here .tape) (here .openStarts) 0
+    none-open = record { room = leb-true 0 19 refl; spanned = λ j l. absurd (omega arith); bases = λ j l. absurd (omega arith) }
+
+-- the right results: an end has one finding, a start none, and it is open after it
+milestone-right : (countsHere 9 ≡ errors 1) × (countsHere 5 ≡ errors 0) × (openHere 5 ≡ nodeAt (here .source) (here .tape) 5 ∷ [])
+unfolding counted checks.given waits afterMilestone openNodes half latest ascii worked.example9 worked.tapeOf equal namePart bytesBefore charsPast word blank inAny blankRanges utf8.decode utf8.decoded utf8.widthOf utf8.widthBy utf8.table3-7 utf8.begins
+milestone-right = (refl, refl, refl)
+
+-- an end without an open start that has no finding
+milestone-end-passed : (l l′ : List ℕ) (opens : List OpenStart) → MilestonedHere 9 l opens l′ fresh → ⊥
+milestone-end-passed l l′ opens m = eqb-false 0 1 refl (ap (λ c. c .errors) (m .wrote .counts ∙ milestone-right .0))
+
+-- an end without an open start that has two findings
+milestone-end-twice : (l l′ : List ℕ) (opens : List OpenStart) → MilestonedHere 9 l opens l′ (withCounts fresh (errors 2)) → ⊥
+milestone-end-twice l l′ opens m = eqb-false 2 1 refl (ap (λ c. c .errors) (m .wrote .counts ∙ milestone-right .0))
+
+-- a start that has a finding
+milestone-start-found : (l l′ : List ℕ) (opens : List OpenStart) → MilestonedHere 5 l opens l′ (withCounts (withOpens fresh 1) (errors 1)) → ⊥
+milestone-start-found l l′ opens m = eqb-false 1 0 refl (ap (λ c. c .errors) (m .wrote .counts ∙ milestone-right .1))
+
+-- a start that is not added
+milestone-start-lost : (l l′ : List ℕ) (opens : List OpenStart) → MilestonedHere 5 l opens l′ fresh → ⊥
+unfolding openNodes
+milestone-start-lost l l′ opens m = eqb-false 0 1 refl (ap (λ st. length (st .openStarts)) (m .step .state []) ∙ ap length (milestone-right .2))
+
+-- a start that adds another node
+milestone-start-other : (l l′ : List ℕ) (rest : List OpenStart) → MilestonedHere 5 l (start 7 ∷ rest) l′ (withOpens fresh 1) → ⊥
+unfolding openNodes
+milestone-start-other l l′ rest m = eqb-false 7 5 refl (ap (λ st. firstNumber (st .openStarts)) (m .step .state []) ∙ ap firstNumber (milestone-right .2))
+
+-- ---- closing::clear_opens
+
+-- a clearing that leaves the list as it was
+clear-opens-nothing : start 3 ∷ start 5 ∷ start 7 ∷ [] ≡ cleared noStart 2 (start 3 ∷ start 5 ∷ start 7 ∷ []) → ⊥
+unfolding repeated
+clear-opens-nothing e = eqb-false 3 0 refl (ap (nodeIn 0) e)
+
+-- a clearing that stops one entry early
+clear-opens-short : noStart ∷ start 5 ∷ start 7 ∷ [] ≡ cleared noStart 2 (start 3 ∷ start 5 ∷ start 7 ∷ []) → ⊥
+unfolding repeated
+clear-opens-short e = eqb-false 5 0 refl (ap (nodeIn 1) e)
+
+-- a clearing that goes on past n entries
+clear-opens-past : noStart ∷ noStart ∷ noStart ∷ [] ≡ cleared noStart 2 (start 3 ∷ start 5 ∷ start 7 ∷ []) → ⊥
+unfolding repeated
+clear-opens-past e = eqb-false 0 7 refl (ap (nodeIn 2) e)
+
+-- ---- closing::clear_seen
+
+-- a clearing that leaves the list as it was
+clear-seen-nothing : _≡_ {A = List ℕ} (3 ∷ 5 ∷ 7 ∷ []) (cleared 0 2 (3 ∷ 5 ∷ 7 ∷ [])) → ⊥
+unfolding repeated
+clear-seen-nothing e = eqb-false 3 0 refl (ap (wordIn 0) e)
+
+-- a clearing that goes on past n entries
+clear-seen-past : _≡_ {A = List ℕ} (0 ∷ 0 ∷ 0 ∷ []) (cleared 0 2 (3 ∷ 5 ∷ 7 ∷ [])) → ⊥
+unfolding repeated
+clear-seen-past e = eqb-false 0 7 refl (ap (wordIn 2) e)
+
+-- ---- closing::unclosed
+
+-- the words of the findings of unclosed starts, nodes 5 and 7
+abbrev words5 : List ℕ
+words5 = 0 ∷ 16 ∷ 13 ∷ 5 ∷ 5 ∷ 0 ∷ 0 ∷ 0 ∷ []
+
+abbrev words7 : List ℕ
+words7 = 0 ∷ 16 ∷ 20 ∷ 5 ∷ 7 ∷ 0 ∷ 0 ∷ 0 ∷ []
+
+-- the record with both open, and what is promised of it over a list with room for two findings
+abbrev bothOpen : State
+bothOpen = withOpens fresh 2
+
+abbrev UnclosedHere : List ℕ → Counts → Type 0
+UnclosedHere l′ c = Wrote (unclosed (openNodes (here .source) (here .tape) (start 5 ∷ start 7 ∷ []) (bothOpen .«open_len»))) (repeated 0 16) (countsOf bothOpen) l′ c
+
+-- these inputs meet what it requires
+unclosed-allowed : Left (here .source) (here .tape) (start 5 ∷ start 7 ∷ []) bothOpen
+unfolding openNodes unclosed
+unclosed-allowed = record { known = nearest-allowed .0; room = leb-true 2 countLimit refl }
+
+-- the latest start first
+unclosed-latest-first : UnclosedHere (words7 ++ words5) (errors 2) → ⊥
+unfolding worked.example9 worked.tapeOf half word openNodes unclosed repeated put overlay counted
+unclosed-latest-first w = eqb-false 7 5 refl (ap (wordIn 4) (w .words))
+
+-- one finding for both starts
+unclosed-once : UnclosedHere (words5 ++ repeated 0 8) (errors 1) → ⊥
+unfolding worked.example9 worked.tapeOf half word openNodes unclosed repeated put overlay counted
+unclosed-once w = eqb-false 1 2 refl (ap (λ c. c .errors) (w .counts))
+
+-- findings that are counted and not written
+unclosed-unwritten : UnclosedHere (repeated 0 16) (errors 2) → ⊥
+unfolding worked.example9 worked.tapeOf half word openNodes unclosed repeated put overlay counted
+unclosed-unwritten w = eqb-false 0 16 refl (ap (wordIn 1) (w .words))
+
+-- ---- validate::check
+
+-- a document with one finding, the unclosed start that is its node 5, lent with lists
+abbrev document : List ℕ → List OpenStart → List ℕ → Lent
+document seen opens list = lent worked.exampleTable (worked.shorterDocument .source) (worked.tapeOf (worked.shorterDocument .nodes)) seen opens list
+
+-- where its working lists hold something, and its list has room for the finding
+abbrev roomy : Lent
+roomy = document (repeated 4 7) (repeated (start 5) 7) (repeated 0 8)
+
+-- where its list has no room
+abbrev cramped : Lent
+cramped = document (repeated 0 7) (repeated noStart 7) []
+
+-- where its list of open starts has one entry for seven nodes, so that number 10 turns it back
+abbrev tooShort : Lent
+tooShort = document (repeated 4 7) (start 5 ∷ []) (repeated 0 8)
+
+-- a document without a node, which number 4 turns back
+abbrev empty : Lent
+empty = lent worked.exampleTable [] [] (4 ∷ []) (start 5 ∷ []) (0 ∷ [])
+
+-- the right answers of the four, as words
+answers-right : (answerWords (answer roomy) ≡ 0 ∷ 0 ∷ 0 ∷ 1 ∷ 1 ∷ 0 ∷ 1 ∷ 0 ∷ 0 ∷ []) × (answerWords (answer cramped) ≡ 1 ∷ 0 ∷ 0 ∷ 1 ∷ 0 ∷ 0 ∷ 1 ∷ 0 ∷ 0 ∷ []) × (answerWords (answer empty) ≡ 2 ∷ 4 ∷ 0 ∷ 0 ∷ 0 ∷ 0 ∷ 0 ∷ 0 ∷ 0 ∷ []) × (answerWords (answer tooShort) ≡ 2 ∷ 10 ∷ 7 ∷ 0 ∷ 0 ∷ 0 ∷ 0 ∷ 0 ∷ 0 ∷ [])
+unfolding checkedOf ofSeverity ascii worked.shorterDocument worked.exampleTable worked.tapeOf utf8.table3-7 utf8.begins utf8.widthBy utf8.widthOf utf8.decoded utf8.decode inAny blankRanges blank charsPast bytesBefore blankText wordFrom half word equal all oneOf lines.lines lines.categories lines.roles entries.position entries.entriesOf entries.entries entries.nth namePart refusal repeated utf8.scan utf8.afterWidth utf8.firstIllFormed lines.badFrom lines.badTable reading.step reading.read reading.tapeRefusal firstBad label.splits label.labelRefusal infoAt nodes runs names.frontMatter names.noteOnly books.bookCodes books.codeFrom books.bookOf attributes.attributesFindings label.labelOf among checks.given checks.afterChapter checks.leafChecked checks.bookCode checks.afterId checks.numberMarkers afterMilestone openChecked walk textBefore unclosed closing
+answers-right = (refl, refl, refl, refl)
+
+-- the right lists after a document that is checked, and after one that is turned back
+checked-right : (listAfter roomy ≡ words5) × (seenAfter roomy ≡ repeated 0 7) × (openAfter roomy ≡ repeated noStart 7)
+unfolding put overlay ascii worked.shorterDocument worked.exampleTable worked.tapeOf utf8.table3-7 utf8.begins utf8.widthBy utf8.widthOf utf8.decoded utf8.decode inAny blankRanges blank charsPast bytesBefore blankText wordFrom half word equal all oneOf lines.lines lines.categories lines.roles entries.position entries.entriesOf entries.entries entries.nth namePart refusal repeated utf8.scan utf8.afterWidth utf8.firstIllFormed lines.badFrom lines.badTable reading.step reading.read reading.tapeRefusal firstBad label.splits label.labelRefusal infoAt nodes runs names.frontMatter names.noteOnly books.bookCodes books.codeFrom books.bookOf attributes.attributesFindings label.labelOf among checks.given checks.afterChapter checks.leafChecked checks.bookCode checks.afterId checks.numberMarkers afterMilestone openChecked walk textBefore unclosed closing
+checked-right = (refl, refl, refl)
+
+refused-right : (listAfter tooShort ≡ repeated 0 8) × (seenAfter tooShort ≡ repeated 4 7) × (openAfter tooShort ≡ start 5 ∷ [])
+unfolding ascii worked.shorterDocument worked.exampleTable worked.tapeOf utf8.table3-7 utf8.begins utf8.widthBy utf8.widthOf utf8.decoded utf8.decode inAny blankRanges blank charsPast bytesBefore blankText wordFrom half word equal all oneOf lines.lines lines.categories lines.roles entries.position entries.entriesOf entries.entries entries.nth namePart refusal repeated utf8.scan utf8.afterWidth utf8.firstIllFormed lines.badFrom lines.badTable reading.step reading.read reading.tapeRefusal firstBad label.splits label.labelRefusal infoAt label.labelOf
+refused-right = (refl, refl, refl)
+
+empty-list : listAfter empty ≡ 0 ∷ []
+unfolding ascii worked.exampleTable equal lines.lines lines.categories lines.roles refusal utf8.scan utf8.firstIllFormed lines.badFrom lines.badTable reading.tapeRefusal all oneOf
+empty-list = refl
+
+-- a check that turns back a good document
+check-refuses : (number place : ℕ) → answerOf (answers.Refused number place) ≡ answer roomy → ⊥
+check-refuses number place e = eqb-false 2 0 refl (ap (said 0) e ∙ ap (wordIn 0) (answers-right .0))
+
+-- a check that finds nothing
+check-finds-nothing : (r : Report) → r .total ≡ 0 → answerOf (answers.Checked r) ≡ answer roomy → ⊥
+check-finds-nothing r nothing e = eqb-false 0 1 refl (sym nothing ∙ ap (said 3) e ∙ ap (wordIn 3) (answers-right .0))
+
+-- a check that calls a whole list cut
+check-whole-as-cut : (r : Report) → answerOf (answers.Cut r) ≡ answer roomy → ⊥
+check-whole-as-cut r e = eqb-false 1 0 refl (ap (said 0) e ∙ ap (wordIn 0) (answers-right .0))
+
+-- a check that calls a cut list whole
+check-cut-as-whole : (r : Report) → answerOf (answers.Checked r) ≡ answer cramped → ⊥
+check-cut-as-whole r e = eqb-false 0 1 refl (ap (said 0) e ∙ ap (wordIn 0) (answers-right .1))
+
+-- a check that leaves the list unwritten
+check-unwritten : repeated 0 8 ≡ listAfter roomy → ⊥
+unfolding repeated
+check-unwritten e = eqb-false 0 16 refl (ap (wordIn 1) (e ∙ checked-right .0))
+
+-- a check that leaves the chapters seen in their list
+check-seen-kept : repeated 4 7 ≡ seenAfter roomy → ⊥
+unfolding repeated
+check-seen-kept e = eqb-false 4 0 refl (ap (wordIn 0) (e ∙ checked-right .1))
+
+-- a check that leaves the open starts in their list
+check-opens-kept : repeated (start 5) 7 ≡ openAfter roomy → ⊥
+unfolding repeated
+check-opens-kept e = eqb-false 5 0 refl (ap (nodeIn 0) (e ∙ checked-right .2))
+
+-- a check that passes a document without a node
+check-passes-empty : (r : Report) → answerOf (answers.Checked r) ≡ answer empty → ⊥
+check-passes-empty r e = eqb-false 0 2 refl (ap (said 0) e ∙ ap (wordIn 0) (answers-right .2))
+
+-- a refusal with another number
+check-other-number : (place : ℕ) → answerOf (answers.Refused 10 place) ≡ answer empty → ⊥
+check-other-number place e = eqb-false 10 4 refl (ap (said 1) e ∙ ap (wordIn 1) (answers-right .2))
+
+-- a refusal with another place
+check-other-place : answerOf (answers.Refused 4 1) ≡ answer empty → ⊥
+check-other-place e = eqb-false 1 0 refl (ap (said 2) e ∙ ap (wordIn 2) (answers-right .2))
+
+-- a refusal that writes to the list
+check-refused-writes : 1 ∷ [] ≡ listAfter empty → ⊥
+check-refused-writes e = eqb-false 1 0 refl (ap (wordIn 0) (e ∙ empty-list))
+
+-- a check that passes a list of open starts which is too short
+check-passes-short : (r : Report) → answerOf (answers.Checked r) ≡ answer tooShort → ⊥
+check-passes-short r e = eqb-false 0 2 refl (ap (said 0) e ∙ ap (wordIn 0) (answers-right .3))
+
+-- a refusal that writes the finding
+check-refused-finds : words5 ≡ listAfter tooShort → ⊥
+unfolding repeated
+check-refused-finds e = eqb-false 16 0 refl (ap (wordIn 1) (e ∙ refused-right .0))
+
+-- a refusal that clears the chapters seen
+check-refused-clears-seen : repeated 0 7 ≡ seenAfter tooShort → ⊥
+unfolding repeated
+check-refused-clears-seen e = eqb-false 0 4 refl (ap (wordIn 0) (e ∙ refused-right .1))
+
+-- a refusal that clears the open starts
+check-refused-clears-opens : noStart ∷ [] ≡ openAfter tooShort → ⊥
+check-refused-clears-opens e = eqb-false 0 5 refl (ap (nodeIn 0) (e ∙ refused-right .2))
+
+-- ---- harkoxin::harkoxin_check
+
+-- a document whose list is cut, written as checked
+harkoxin-cut-as-checked : _≡_ {A = List ℕ} (0 ∷ 0 ∷ 0 ∷ 1 ∷ 0 ∷ 0 ∷ 1 ∷ 0 ∷ 0 ∷ []) (over (repeated 9 9) 0 (answerWords (answer cramped))) → ⊥
+unfolding over repeated
+harkoxin-cut-as-checked e = eqb-false 0 1 refl (ap (wordIn 0) (e ∙ ap (over (repeated 9 9) 0) (answers-right .1)))
+
+-- a refusal without its verdict
+harkoxin-verdict-lost : _≡_ {A = List ℕ} (0 ∷ 4 ∷ 0 ∷ 0 ∷ 0 ∷ 0 ∷ 0 ∷ 0 ∷ 0 ∷ []) (over (repeated 9 9) 0 (answerWords (answer empty))) → ⊥
+unfolding over repeated
+harkoxin-verdict-lost e = eqb-false 0 2 refl (ap (wordIn 0) (e ∙ ap (over (repeated 9 9) 0) (answers-right .2)))
+
+-- an answer that is not written
+harkoxin-unwritten : repeated 9 9 ≡ over (repeated 9 9) 0 (answerWords (answer cramped)) → ⊥
+unfolding over repeated
+harkoxin-unwritten e = eqb-false 9 1 refl (ap (wordIn 0) (e ∙ ap (over (repeated 9 9) 0) (answers-right .1)))
+
+-- ---- harkoxin::harkoxin_report
+
+-- the words of both answers, with room for a text of 40 bytes
+abbrev reportHere : Lent → List ℕ
+reportHere l = over (repeated 9 14) 0 (answerWords (answer l) ++ messagesWords (reportAnswer l 40))
+
+-- the text of the finding
+abbrev mismatch : List ℕ
+mismatch = ascii "milestone \\qt-s has no matching \\qt-e"
+
+-- the right results
+report-right : (reportHere roomy ≡ 0 ∷ 0 ∷ 0 ∷ 1 ∷ 1 ∷ 0 ∷ 1 ∷ 0 ∷ 0 ∷ 0 ∷ 0 ∷ 0 ∷ 1 ∷ 37 ∷ []) × (reportHere cramped ≡ 1 ∷ 0 ∷ 0 ∷ 1 ∷ 0 ∷ 0 ∷ 1 ∷ 0 ∷ 0 ∷ 0 ∷ 0 ∷ 0 ∷ 0 ∷ 0 ∷ []) × (reportHere empty ≡ 2 ∷ 4 ∷ 0 ∷ 0 ∷ 0 ∷ 0 ∷ 0 ∷ 0 ∷ 0 ∷ 2 ∷ 4 ∷ 0 ∷ 0 ∷ 0 ∷ [])
+unfolding checkedOf ofSeverity ascii worked.shorterDocument worked.exampleTable worked.tapeOf utf8.table3-7 utf8.begins utf8.widthBy utf8.widthOf utf8.decoded utf8.decode inAny blankRanges blank charsPast bytesBefore blankText wordFrom half word equal all oneOf lines.lines lines.categories lines.roles entries.position entries.entriesOf entries.entries entries.nth namePart refusal repeated utf8.scan utf8.afterWidth utf8.firstIllFormed lines.badFrom lines.badTable reading.step reading.read reading.tapeRefusal firstBad label.splits label.labelRefusal infoAt nodes runs names.frontMatter names.noteOnly books.bookCodes books.codeFrom books.bookOf attributes.attributesFindings label.labelOf among checks.given checks.afterChapter checks.leafChecked checks.bookCode checks.afterId checks.numberMarkers afterMilestone openChecked walk textBefore unclosed closing firstNine messageText allTexts documentTexts numberTexts markerTexts attributeTexts codeOf formOf joined filled shownOf textsFrom endsFrom over put overlay
+report-right = (refl, refl, refl)
+
+report-text : reportText roomy (repeated 0 40) ≡ mismatch ++ repeated 0 3
+unfolding checkedOf ofSeverity ascii worked.shorterDocument worked.exampleTable worked.tapeOf utf8.table3-7 utf8.begins utf8.widthBy utf8.widthOf utf8.decoded utf8.decode inAny blankRanges blank charsPast bytesBefore blankText wordFrom half word equal all oneOf lines.lines lines.categories lines.roles entries.position entries.entriesOf entries.entries entries.nth namePart refusal repeated utf8.scan utf8.afterWidth utf8.firstIllFormed lines.badFrom lines.badTable reading.step reading.read reading.tapeRefusal firstBad label.splits label.labelRefusal infoAt nodes runs names.frontMatter names.noteOnly books.bookCodes books.codeFrom books.bookOf attributes.attributesFindings label.labelOf among checks.given checks.afterChapter checks.leafChecked checks.bookCode checks.afterId checks.numberMarkers afterMilestone openChecked walk textBefore unclosed closing firstNine messageText allTexts documentTexts numberTexts markerTexts attributeTexts codeOf formOf joined filled shownOf textsFrom endsFrom over put overlay
+report-text = refl
+
+-- a document whose list is cut, written as checked
+report-cut-as-checked : _≡_ {A = List ℕ} (0 ∷ 0 ∷ 0 ∷ 1 ∷ 0 ∷ 0 ∷ 1 ∷ 0 ∷ 0 ∷ 0 ∷ 0 ∷ 0 ∷ 0 ∷ 0 ∷ []) (reportHere cramped) → ⊥
+report-cut-as-checked e = eqb-false 0 1 refl (ap (wordIn 0) (e ∙ report-right .1))
+
+-- a refusal whose second verdict says that all texts are written
+report-verdict-lost : _≡_ {A = List ℕ} (2 ∷ 4 ∷ 0 ∷ 0 ∷ 0 ∷ 0 ∷ 0 ∷ 0 ∷ 0 ∷ 0 ∷ 0 ∷ 0 ∷ 0 ∷ 0 ∷ []) (reportHere empty) → ⊥
+report-verdict-lost e = eqb-false 0 2 refl (ap (wordIn 9) (e ∙ report-right .2))
+
+-- a report of the findings without their texts
+report-no-texts : _≡_ {A = List ℕ} (0 ∷ 0 ∷ 0 ∷ 1 ∷ 1 ∷ 0 ∷ 1 ∷ 0 ∷ 0 ∷ 0 ∷ 0 ∷ 0 ∷ 0 ∷ 0 ∷ []) (reportHere roomy) → ⊥
+report-no-texts e = eqb-false 0 1 refl (ap (wordIn 12) (e ∙ report-right .0))
+
+-- a text that is counted and not written: its first byte is `m`
+report-text-unwritten : repeated 0 40 ≡ reportText roomy (repeated 0 40) → ⊥
+unfolding ascii repeated
+report-text-unwritten e = eqb-false 0 0x6D refl (ap (wordIn 0) (e ∙ report-text))
+
+-- ---- messages::message
+
+-- a request for a text about node 5
+abbrev asked : ℕ → ℕ → Request
+asked code form = record { code = code; form = form; node = 5; first = 0; second = 0 }
+
+abbrev answerHere : Request → ℕ → text-answer.MessageAnswer
+answerHere q room = messageAnswer (roomy .table) (roomy .source) (roomy .tape) q (repeated 0 room)
+
+abbrev textHere : Request → ℕ → List ℕ
+textHere q room = messageAfter (roomy .table) (roomy .source) (roomy .tape) q (repeated 0 room)
+
+-- the right results: MilestoneMismatch of form 0 with room, with too little room, and a code that has no text
+message-right : (answerHere (asked 16 0) 40 ≡ text-answer.written 37) × (answerHere (asked 16 0) 9 ≡ text-answer.refused (record { number = 13; place = 37 })) × (answerHere (asked 0 0) 40 ≡ text-answer.refused (record { number = 12; place = 0 }))
+unfolding ascii worked.shorterDocument worked.exampleTable worked.tapeOf utf8.table3-7 utf8.begins utf8.widthBy utf8.widthOf utf8.decoded utf8.decode inAny blankRanges blank charsPast bytesBefore half word equal oneOf lines.lines lines.categories lines.roles entries.entriesOf entries.entries entries.nth namePart refusal repeated utf8.scan utf8.afterWidth utf8.firstIllFormed lines.badFrom lines.badTable reading.step reading.read reading.tapeRefusal firstBad label.splits label.labelRefusal infoAt firstNine messageText allTexts documentTexts numberTexts markerTexts attributeTexts codeOf formOf joined filled shownOf all
+message-right = (refl, refl, refl)
+
+message-text : (textHere (asked 16 0) 40 ≡ mismatch ++ repeated 0 3) × (textHere (asked 16 0) 9 ≡ repeated 0 9)
+unfolding ascii worked.shorterDocument worked.exampleTable worked.tapeOf utf8.table3-7 utf8.begins utf8.widthBy utf8.widthOf utf8.decoded utf8.decode inAny blankRanges blank charsPast bytesBefore half word equal oneOf lines.lines lines.categories lines.roles entries.entriesOf entries.entries entries.nth namePart refusal repeated utf8.scan utf8.afterWidth utf8.firstIllFormed lines.badFrom lines.badTable reading.step reading.read reading.tapeRefusal firstBad label.splits label.labelRefusal infoAt firstNine messageText allTexts documentTexts numberTexts markerTexts attributeTexts codeOf formOf joined filled shownOf over all
+message-text = (refl, refl)
+
+-- number 12 for a code that has a text
+message-refused : (place : ℕ) → messageAnswerOf (message-answers.Refused 12 place) ≡ answerHere (asked 16 0) 40 → ⊥
+message-refused place e = eqb-false 12 0 refl (ap numberSaid (e ∙ message-right .0))
+
+-- a text for a code that has none
+message-invented : (n : ℕ) → messageAnswerOf (message-answers.Written n) ≡ answerHere (asked 0 0) 40 → ⊥
+message-invented n e = eqb-false 0 12 refl (ap numberSaid (e ∙ message-right .2))
+
+-- a text that is cut where it has too little room
+message-cut : (n : ℕ) → messageAnswerOf (message-answers.Written n) ≡ answerHere (asked 16 0) 9 → ⊥
+message-cut n e = eqb-false 0 13 refl (ap numberSaid (e ∙ message-right .1))
+
+-- the text of form 1 in place of form 0: it has `e` where the other has `s`
+message-other-form : ascii "milestone \\qt-e has no matching \\qt-s" ++ repeated 0 3 ≡ textHere (asked 16 0) 40 → ⊥
+unfolding ascii repeated
+message-other-form e = eqb-false 0x65 0x73 refl (ap (wordIn 14) (e ∙ message-text .0))
+
+-- a text that is not written
+message-unwritten : repeated 0 40 ≡ textHere (asked 16 0) 40 → ⊥
+unfolding ascii repeated
+message-unwritten e = eqb-false 0 0x6D refl (ap (wordIn 0) (e ∙ message-text .0))
+
+-- ---- messages::messages
+
+-- the texts of a list with one finding, the one of node 5
+abbrev answersHere : ℕ → text-answers.MessagesAnswer
+answersHere room = messagesAnswer (roomy .table) (roomy .source) (roomy .tape) words5 room
+
+abbrev textsHere : List ℕ
+textsHere = messagesAfter (roomy .table) (roomy .source) (roomy .tape) words5 (repeated 0 40)
+
+abbrev endsHere : List ℕ
+endsHere = endsAfter (roomy .table) (roomy .source) (roomy .tape) words5 40 (0 ∷ [])
+
+-- the right results
+messages-right : (answersHere 40 ≡ text-answers.all 1 37) × (answersHere 9 ≡ text-answers.stopped 0 0 (record { number = 13; place = 37 })) × (textsHere ≡ mismatch ++ repeated 0 3) × (endsHere ≡ 37 ∷ [])
+unfolding ascii worked.shorterDocument worked.exampleTable worked.tapeOf utf8.table3-7 utf8.begins utf8.widthBy utf8.widthOf utf8.decoded utf8.decode inAny blankRanges blank charsPast bytesBefore half word equal oneOf lines.lines lines.categories lines.roles entries.entriesOf entries.entries entries.nth namePart refusal repeated utf8.scan utf8.afterWidth utf8.firstIllFormed lines.badFrom lines.badTable reading.step reading.read reading.tapeRefusal firstBad label.splits label.labelRefusal infoAt firstNine messageText allTexts documentTexts numberTexts markerTexts attributeTexts codeOf formOf joined filled shownOf textsFrom endsFrom over all
+messages-right = (refl, refl, refl, refl)
+
+-- no text for a list that has a finding
+messages-none : (bytes : ℕ) → messagesAnswerOf (messages-answers.All 0 bytes) ≡ answersHere 40 → ⊥
+messages-none bytes e = eqb-false 0 1 refl (ap recordsSaid (e ∙ messages-right .0))
+
+-- texts that stop though there is room
+messages-stopped : (bytes number place : ℕ) → messagesAnswerOf (messages-answers.Stopped 1 bytes number place) ≡ answersHere 40 → ⊥
+messages-stopped bytes number place e = eqb-false 1 0 refl (ap verdictSaid (e ∙ messages-right .0))
+
+-- texts that are all written though there is no room
+messages-all : (records bytes : ℕ) → messagesAnswerOf (messages-answers.All records bytes) ≡ answersHere 9 → ⊥
+messages-all records bytes e = eqb-false 0 1 refl (ap verdictSaid (e ∙ messages-right .1))
+
+-- a text that is not written
+messages-unwritten : repeated 0 40 ≡ textsHere → ⊥
+unfolding ascii repeated
+messages-unwritten e = eqb-false 0 0x6D refl (ap (wordIn 0) (e ∙ messages-right .2))
+
+-- a text without its end
+messages-no-end : 0 ∷ [] ≡ endsHere → ⊥
+messages-no-end e = eqb-false 0 37 refl (ap (wordIn 0) (e ∙ messages-right .3))
+
+-- ---- tally::tally
+
+-- a record whose severity is over 2, and one whose code is over 34
+abbrev badSeverity : List ℕ
+badSeverity = 3 ∷ 16 ∷ 13 ∷ 5 ∷ 5 ∷ 0 ∷ 0 ∷ 0 ∷ []
+
+abbrev badCode : List ℕ
+badCode = 0 ∷ 35 ∷ 13 ∷ 5 ∷ 5 ∷ 0 ∷ 0 ∷ 0 ∷ []
+
+-- the right counts of a record with the code 16: its count stands at 16
+tally-right : countsAfter words5 (repeated 9 35) ≡ set (repeated 0 35) 16 1
+unfolding tallyRefusal firstBad withCode countsFrom over repeated
+tally-right = refl
+
+-- a finding that is not counted
+tally-nothing : repeated 0 35 ≡ countsAfter words5 (repeated 9 35) → ⊥
+unfolding repeated
+tally-nothing e = eqb-false 0 1 refl (ap (wordIn 16) (e ∙ tally-right))
+
+-- a count in the wrong place
+tally-elsewhere : set (repeated 0 35) 15 1 ≡ countsAfter words5 (repeated 9 35) → ⊥
+unfolding repeated
+tally-elsewhere e = eqb-false 1 0 refl (ap (wordIn 15) (e ∙ tally-right))
+
+-- counts that are added to what the list held
+tally-added : set (repeated 9 35) 16 10 ≡ countsAfter words5 (repeated 9 35) → ⊥
+unfolding repeated
+tally-added e = eqb-false 10 1 refl (ap (wordIn 16) (e ∙ tally-right))
+
+-- a good record that is turned back
+tally-refuses : (number place : ℕ) → tallyAnswerOf (tallied.Refused number place) ≡ tallyRefusal words5 → ⊥
+unfolding tallyRefusal firstBad
+tally-refuses number place e = eqb-false 1 0 refl (ap turnedBack e)
+
+-- a bad record that is let in
+tally-bad-severity : tallyAnswerOf tallied.Counted ≡ tallyRefusal badSeverity → ⊥
+unfolding tallyRefusal firstBad
+tally-bad-severity e = eqb-false 0 1 refl (ap turnedBack e)
+
+tally-bad-code : tallyAnswerOf tallied.Counted ≡ tallyRefusal badCode → ⊥
+unfolding tallyRefusal firstBad
+tally-bad-code e = eqb-false 0 1 refl (ap turnedBack e)
+
+-- a list that is let in though its length is no multiple of 8
+tally-bad-length : tallyAnswerOf tallied.Counted ≡ tallyRefusal (0 ∷ words5) → ⊥
+unfolding tallyRefusal firstBad
+tally-bad-length e = eqb-false 0 1 refl (ap turnedBack e)
+
+-- a refusal that writes
+tally-refused-writes : repeated 0 35 ≡ countsAfter badCode (repeated 9 35) → ⊥
+unfolding tallyRefusal firstBad repeated
+tally-refused-writes e = eqb-false 0 9 refl (ap (wordIn 0) e)
+
+-- ---- listing::put_refused
+
+-- the line `place=` missing: 26 bytes in place of 34
+put-refused-short : (l l′ : List ℕ) → Put (refusedLines 4 0) l 0 l′ 26 → ⊥
+unfolding refusedLines ascii decimal decimalFuel
+put-refused-short l l′ p = eqb-false 26 34 refl (p .end)
+
+-- the place as the number, and the number as the place
+put-refused-swapped : Put (refusedLines 4 7) (repeated 0 34) 0 (refusedLines 7 4) 34 → ⊥
+unfolding refusedLines ascii decimal decimalFuel repeated over
+put-refused-swapped p = eqb-false 0x37 0x34 refl (ap (wordIn 24) (p .list))
+
+-- ---- listing::put_checked
+
+-- the line `findings=` missing: 44 bytes in place of 55
+put-checked-short : (l l′ : List ℕ) → Put (checkedLines 1 0 0 1) l 0 l′ 44 → ⊥
+unfolding checkedLines ascii decimal decimalFuel
+put-checked-short l l′ p = eqb-false 44 55 refl (p .end)
+
+-- the errors as warnings
+put-checked-swapped : Put (checkedLines 1 0 0 1) (repeated 0 55) 0 (checkedLines 0 1 0 1) 55 → ⊥
+unfolding checkedLines ascii decimal decimalFuel repeated over
+put-checked-swapped p = eqb-false 0x30 0x31 refl (ap (wordIn 23) (p .list))
+
+-- ---- walk::walk
+
+-- the walk of some nodes of an example, from a record, as the promise has it
+abbrev walkAt : worked.Example → ℕ → ℕ → State → Walked
+walkAt x from to r = walk worked.exampleTable outside (anchorOf (x .source) (worked.tapeOf (x .nodes)) (r .anchor) from) (forests.forest (x .source) (worked.tapeOf (x .nodes)) from to) (stateOf (x .source) (worked.tapeOf (x .nodes)) (repeated 0 13) (repeated noStart 13) r)
+
+-- so many warnings
+abbrev warnings : ℕ → Counts
+warnings n = record { errors = 0; warnings = n; infos = 0 }
+
+-- after `\id` and the chapter that is node 4
+abbrev afterChapter : State
+afterChapter = putHasId true (putHasChapter true (withAnchor fresh 4))
+
+-- the kind of an anchor, 0 for none
+abbrev anchorKind : Option Anchor → ℕ
+anchorKind none = 0
+anchorKind (some a) = a .kind
+
+-- the right results: the children of `\p` have one warning in example 1; the anchor after its nodes is the chapter; the `\ca` of example 5 have no finding, from the start on or after the chapter
+walk-right : (counted (warnings 0) (walkAt worked.example1 1 9 fresh .findings) ≡ warnings 1) × (anchorKind (walkAt worked.example1 1 9 fresh .anchor) ≡ 3) × (counted (warnings 0) (walkAt worked.example5 1 13 fresh .findings) ≡ warnings 0) × (counted (warnings 0) (walkAt worked.example5 5 13 afterChapter .findings) ≡ warnings 0)
+unfolding ascii worked.exampleTable worked.tapeOf utf8.table3-7 utf8.begins utf8.widthBy utf8.widthOf utf8.decoded utf8.decode inAny blankRanges blank charsPast bytesBefore findByte trimStart kept trim blankText wordFrom allDigits valueFrom digitsFrom digits parsed half word nodes followed runs equal all oneOf lines.lines lines.categories lines.roles entries.position entries.entriesOf entries.entries entries.nth names.frontMatter names.noteOnly books.bookCodes books.codeFrom books.bookOf attributes.attributesFindings namePart partOf versePart verseEnd next inSequence label.labelOf isAlternate isPublished plain runOf startOffsets among checks.given checks.afterChapter checks.afterVerse checks.leafChecked checks.bookCode checks.afterId checks.numberMarkers afterMilestone openChecked walk counted worked.example1 worked.example5 latest openNodes
+walk-right = (refl, refl, refl, refl)
+
+-- a walk that passes over the children of a marker
+walk-no-children : (l l′ : List ℕ) → Wrote (walkAt worked.example1 1 9 fresh .findings) l (warnings 0) l′ (warnings 0) → ⊥
+walk-no-children l l′ w = eqb-false 0 1 refl (ap (λ c. c .warnings) (w .counts ∙ walk-right .0))
+
+-- a walk that hands no anchor on
+walk-anchor-lost : anchorOf (worked.example1 .source) (worked.tapeOf (worked.example1 .nodes)) 0 9 ≡ walkAt worked.example1 1 9 fresh .anchor → ⊥
+walk-anchor-lost e = eqb-false 0 3 refl (ap anchorKind e ∙ walk-right .1)
+
+-- a walk that hands on the anchor of a marker's children, the verse that is node 6
+walk-anchor-of-children : anchorOf (worked.example1 .source) (worked.tapeOf (worked.example1 .nodes)) 6 9 ≡ walkAt worked.example1 1 9 fresh .anchor → ⊥
+unfolding worked.example1 worked.tapeOf
+walk-anchor-of-children e = eqb-false 4 3 refl (ap anchorKind e ∙ walk-right .1)
+
+-- a walk that does not hand a chapter on to its siblings as their anchor, and so finds a `\ca` misplaced
+walk-anchor-dropped : (n : ℕ) (l l′ : List ℕ) → Wrote (walkAt worked.example5 1 13 fresh .findings) l (warnings 0) l′ (warnings (suc n)) → ⊥
+walk-anchor-dropped n l l′ w = let z : suc n ≡ 0 = ap (λ c. c .warnings) (w .counts ∙ walk-right .2) in absurd (omega arith)
+
+-- a walk that forgets the anchor which it is given
+walk-anchor-forgotten : (n : ℕ) (l l′ : List ℕ) → Wrote (walkAt worked.example5 5 13 afterChapter .findings) l (warnings 0) l′ (warnings (suc n)) → ⊥
+walk-anchor-forgotten n l l′ w = let z : suc n ≡ 0 = ap (λ c. c .warnings) (w .counts ∙ walk-right .3) in absurd (omega arith)
