@@ -50,8 +50,8 @@ module _ (table s t : List ℕ) where
       ap (orElse (of1 d)) (or-assoc (of2 d) (of3 d) (fromTape table s t 65535 65535) ∙ ap (λ (z : Option Refusal). orElse (of2 d) (orElse (of3 d) z)) (long-enough (tapeRefusal s t) refl))
 
   module _ (g : InputCheck) (says : checkRefusal g ≡ fromTable table s t 65535 65535) where
-    pub refused-so : (a b : ℕ) → g ≡ input.Refused a b → firstNine table s t ≡ refuse a b
-    refused-so a b e = sym nine ∙ sym says ∙ ap checkRefusal e
+    pub nine-refused : (a b : ℕ) → g ≡ input.Refused a b → firstNine table s t ≡ refuse a b
+    nine-refused a b e = sym nine ∙ sym says ∙ ap checkRefusal e
 
     pub passed : (n : ℕ) → g ≡ input.Accepted n → firstNine table s t ≡ none
     passed n e = sym nine ∙ sym says ∙ ap checkRefusal e

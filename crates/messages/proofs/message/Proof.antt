@@ -1,7 +1,7 @@
 -- `messages::message` meets its contract.
 -- Assumes nothing.
 use denote.Ref.{now}
-use Rattle.messages.proofs.Nine.{shut, passed, is-accepted, is-short}
+use Rattle.messages.proofs.Nine.{nine-refused, passed, is-accepted, is-short}
 use borrow.Author.Needs.{needs}
 use Rattle.messages.proofs.message.Statement.{statement}
 use Rattle.messages.proofs.message.Tie as tie
@@ -33,7 +33,7 @@ returns : tie.Need-returns
 returns c =
     let g = c .before .before .before .before .check-input in
     let a = c .before .before .before .before .before .before .before .before .before .before .args in
-    let z = shut (now (a .table)) (now (a .source)) (now (a .tape)) (g .result) (g .ensures .0) _ _ (c .before .number .given .1) in
+    let z = nine-refused (now (a .table)) (now (a .source)) (now (a .tape)) (g .result) (g .ensures .0) _ _ (c .before .number .given .1) in
     (rw z, rw z)
 
 same-length : tie.Need-same-length
