@@ -1,4 +1,4 @@
--- For each promise, results of wrong functions that contradict it.
+-- Results of wrong functions, each of which contradicts a promise.
 -- Assumes nothing.
 use Prim.Native.Nat.{ℕ, zero, suc, _+_, _<_, _≤_}
 use native.Mathlib.Omega.{arith}

@@ -17,6 +17,7 @@ use Rattle.definition.specs.Checks.{breaks, expectedAfter}
 pub data Outcome : Type 0 where
   passes : Outcome
   finding : Outcome
+  unread : Outcome
   position : ℕ → Option ℕ → Outcome
   columns : ℕ → ℕ → Outcome
   noColumns : Outcome
@@ -25,9 +26,13 @@ pub data Outcome : Type 0 where
 abbrev pub verse : ℕ → Option ℕ → Position
 verse n letter = record { number = n; letter = letter }
 
--- a label where a position is expected: the check of a verse gives InvalidVerseSequence exactly if the label breaks the sequence
+-- a label where a position is expected: the check of a verse gives InvalidVerseSequence exactly if the label breaks the sequence; a label that can't be read is neither in order nor out of it
+abbrev pub orderBy : Option Position → Position → Outcome
+orderBy none expected = unread
+orderBy (some p) expected = pick (breaks (some p) expected) finding passes
+
 abbrev pub order : Position → List ℕ → Outcome
-order expected label = pick (breaks (versePart label) expected) finding passes
+order expected label = orderBy (versePart label) expected
 
 abbrev pub positionOutcome : Position → Outcome
 positionOutcome p = position (p .number) (p .letter)
