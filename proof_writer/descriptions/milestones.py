@@ -5,8 +5,8 @@ DEFAULTS = {'OpenStart': 'noStart'}
 
 BASE = '(baseAt source₀ at₀ len₀)'
 PAIR = 'source₀ tape₀ opens₀ k₀ step₀'
-END_INSIDE = f'end-inside {PAIR} _ _ told-step _ _ (says-nearest .1) told-nearest'
-MILESTONE = '(entryOfInfo m₀) source₀ tape₀ i₀ opens₀ list₀ rec₀ (req .known) (z-step-of .0) says-step-of'
+END_INSIDE = f'end-inside {PAIR} _ _ told-step _ (says-nearest .1) _ told-nearest'
+MILESTONE = '(entryOfInfo m₀) source₀ tape₀ i₀ opens₀ list₀ rec₀ (req .known) (stepMeans source₀ (z-step-of .0)) (says-step-of .0)'
 
 WALKS = {
     'push': dict(
@@ -51,14 +51,14 @@ WALKS = {
             'remove': f'({END_INSIDE}, known-room source₀ tape₀ opens₀ $opens k₀ (req .0) len-nearest-opens)'},
         arms={
             'Start': f'pair-start {PAIR} _ _ told-step says-push',
-            'End, At': f'pair-end {PAIR} _ _ told-step _ _ _ _ (says-nearest .0) (says-nearest .1) told-nearest says-remove',
-            'End, Nothing': f'pair-alone {PAIR} _ _ told-step _ _ (says-nearest .0) (says-nearest .1) told-nearest',
+            'End, At': f'pair-end {PAIR} _ _ told-step _ (says-nearest .1) _ _ _ (says-nearest .0) told-nearest says-remove',
+            'End, Nothing': f'pair-alone {PAIR} _ _ told-step _ (says-nearest .1) _ (says-nearest .0) told-nearest',
             'Neither': f'pair-neither {PAIR} told-step'}),
 
     'milestone': dict(
         calls={
             'step_of': '(req .spanned, req .low)',
-            'pair': '(req .known, req .more, read-placed (entryOfInfo m₀) source₀ tape₀ i₀ (z-step-of .0) says-step-of)',
-            'after_pair': f'(req .spanned .inside, countable {MILESTONE} (z-pair .0) (says-pair .1) (req .room))'},
-        returns=f'milestoned {MILESTONE} (req .spanned) (req .more) _ (says-pair .0) len-pair-opens (z-pair .0) (says-pair .1) _ _ says-after-pair'),
+            'pair': '(req .known, req .more, says-step-of .1)',
+            'after_pair': f'(req .spanned .inside, countable {MILESTONE} (openAfterPair (z-pair .0)) (says-pair .1) (req .room))'},
+        returns=f'milestoned {MILESTONE} (req .spanned) (req .more) _ (says-pair .0) len-pair-opens (openAfterPair (z-pair .0)) (says-pair .1) _ _ says-after-pair'),
 }

@@ -6,7 +6,7 @@ WITH = '(visit-with (contextOf context₀) (entryOfInfo m₀) list₀ (req .0) (
 VISIT = 'table₀ index₀ entries₀ source₀ tape₀ depth₀ (contextOf context₀) i₀ to₀ (entryOfInfo m₀) numbers₀ seen₀ opens₀ list₀ rec₀'
 WHOLE = '(walkAt table₀ source₀ tape₀ (contextOf context₀) from₀ to₀ seen₀ opens₀ rec₀)'
 WALK = 'table₀ index₀ entries₀ source₀ tape₀ depth₀ (contextOf context₀) from₀ to₀'
-PASSED = '_ says-past-node _ _ _ _ len-visit-leaf-seen says-visit-leaf _ says-marker'
+MARKER = '_ says-past-node _ says-kind-at test-kind-at _ says-marker-info'
 
 WALKS = {
     'visit_leaf': dict(
@@ -51,9 +51,10 @@ walk = dict(
     calls={
         'anchored': '(req .0 .accepted, req .0 .nested, req .0 .within, req .0 .anchored)',
         'past_node': 'going-below kept test-while',
-        'marker': '(kept .ready .indexed, going-below kept test-while)',
+        'kind_at': 'going-below kept test-while',
         'visit_leaf': 'passable kept test-while _ says-past-node',
-        'visit': dict(requires=f'visit-asks kept test-while {PASSED} _ told-marker', less='same-depth _')},
+        'marker_info': '(kept .ready .indexed, going-below kept test-while)',
+        'visit': dict(requires=f'visit-asks kept test-while {MARKER} _ told-marker-info', less='same-depth _')},
     cuts={
         'numbers': dict(
             values='numbers',
@@ -65,8 +66,9 @@ walk = dict(
         measure='to₀ - $i',
         start=f'going-start {WALK} seen₀ opens₀ list₀ rec₀ _ (req .0) (req .1) after-numbers',
         again={
-            'Known': f'going-visited kept test-while {PASSED} _ told-marker _ _ _ _ len-visit-seen len-visit-opens says-visit',
-            'Missing': f'going-past kept test-while {PASSED} told-marker'},
+            'kind_at': 'going-past-leaf kept test-while _ says-past-node _ says-kind-at test-kind-at _ _ _ _ len-visit-leaf-seen says-visit-leaf',
+            'Known': f'going-visited kept test-while {MARKER} _ told-marker-info _ _ _ _ len-visit-seen len-visit-opens says-visit',
+            'Missing': f'going-passed-over kept test-while {MARKER} told-marker-info'},
         less='going-nearer kept test-while _ says-past-node'),
     returns='going-end kept test-while')
 

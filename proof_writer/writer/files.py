@@ -11,7 +11,7 @@ from . import mir
 WRITTEN = '-- Written by proof_writer/write'
 MODEL = '{M : Type 1} (𝓤 : URA M) (H : Heap 𝓤) (A : Atoms 𝓤)'
 TABLES = '(tablesOf 𝓤 H 𝓜 (tables 𝓤 H 𝓜 𝓡 code.env))'
-ALWAYS = ['use prog.Wp.{afterTurn}', 'use contract.Running.{tablesOf}', 'use denote.Struct.Laws as LL', 'use denote.Enum.Laws as EL']
+ALWAYS = ['use prog.Wp.{afterTurn}', 'use contract.Running.{tablesOf}', 'use denote.Struct.Laws as LL', 'use denote.Enum.Laws as EL', 'use mir.Facts.{T-not-not}']
 
 # what a contract's file names beside what the contract names
 CONTRACT_WORDS = ['Terms', 'stated-as', 'val', 'shr', 'same', 'mut', 'ref′', 'of-number', 'of-truth', 'of-nothing', 'of-struct', 'of-enum', 'w8', 'w16', 'w32', 'w64',

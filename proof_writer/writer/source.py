@@ -1,4 +1,4 @@
-"""What the writer reads of src/lib.rt: declared types, functions with their contracts, and where contracts' names come from."""
+"""What the writer reads of a crate's source, src/lib.rt or a program's src/main.rt: declared types, functions with their contracts, and where contracts' names come from."""
 import os
 import re
 
@@ -119,7 +119,10 @@ class CrateSource:
         self.sources = sources
         self.name = name
         self.folder = os.path.join(sources.root, 'crates', name)
-        with open(os.path.join(self.folder, 'src', 'lib.rt')) as file:
+        source = os.path.join(self.folder, 'src', 'lib.rt')
+        if not os.path.exists(source):
+            source = os.path.join(self.folder, 'src', 'main.rt')
+        with open(source) as file:
             self.text = re.sub(r'//[^\n]*', '', file.read()) + '\n'
         self.used_types = {m[2]: m[1] for m in re.finditer(r'^use (\w+)::(\w+);', self.text, re.M)}
         self.ghost = {}

@@ -5,8 +5,8 @@ from .kinds import BOOL, UNIT, Array, Declared, UInt
 from .state import Value
 from .terms import bracketed, dashed
 
-# From this number on the toolchain writes a literal as `intBig`, whose bound is a proof.
-LARGE_LITERAL = 65535
+# From this number on, or from a smaller one above 512, the toolchain writes a literal as `intBig`, whose bound is a proof.
+LARGE_LITERAL = 2048
 SYMBOL = {'add': '+', 'sub': '-', 'mul': '*'}
 
 
@@ -124,9 +124,10 @@ class Statements:
         operator = value[1] if isinstance(value[1], str) else value[1][0]
         one, a = self.operand(value[2], state)
         two, b = self.operand(value[3], state)
-        if operator in ('lt', 'le', 'eq'):
-            test = {'lt': 'ltb', 'le': 'leb', 'eq': 'eqb'}[operator]
-            result = Value('plain', BOOL, '%s %s %s' % (test, bracketed(a.d), bracketed(b.d)), test=(operator, a.d, b.d))
+        if operator in ('lt', 'le', 'eq', 'ne'):
+            test = {'lt': 'ltb', 'le': 'leb', 'eq': 'eqb', 'ne': 'eqb'}[operator]
+            d = '%s %s %s' % (test, bracketed(a.d), bracketed(b.d))
+            result = Value('plain', BOOL, 'not (%s)' % d if operator == 'ne' else d, test=(operator, a.d, b.d), origin=a.origin)
             return '', '(bin ! %s %s tt)' % (one, two), result
         if operator == 'offset':
             result = Value('element', at=a.at, key=a.key)

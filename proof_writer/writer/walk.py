@@ -160,7 +160,8 @@ class Walk(Statements, Calls):
         return re.sub(r'\$(\w+)', lambda m: bracketed(values[m[1]]), self.cycle['measures'][function.name])
 
     def filled(self, text, state):
-        """A description's text: `$name` is the present value of a parameter or local, `@name` that its length is known."""
+        """A description's text: `$name` is the present value of a parameter or local, `@name` that its length is known, `#name` what a
+        local array was made of."""
         def value(m):
             name = m[1]
             if name in state.now:
@@ -175,7 +176,10 @@ class Walk(Statements, Calls):
         def length(m):
             local = self.locals_named[m[1]]
             return state.lengths[m[1]] if m[1] in state.lengths else state.cells[local].fact
-        text = re.sub(r'@(\w+)', length, re.sub(r'\$(\w+)', value, text))
+
+        def made(m):
+            return '(filled-%d .all)' % self.locals_named[m[1]]
+        text = re.sub(r'#(\w+)', made, re.sub(r'@(\w+)', length, re.sub(r'\$(\w+)', value, text)))
         return re.sub(r'[^\s(){},;]+', lambda m: bracketed(self.known.get(m[0], m[0])), text)
 
     # ---- branches
@@ -185,6 +189,9 @@ class Walk(Statements, Calls):
         if value.test is None:
             return 'is-%s %s %s' % ('true' if holds else 'false', bracketed(value.d), proof)
         operator, a, b = value.test
+        if operator == 'ne':    # the test is the negation of `eqb a b`
+            operator, proof = 'eq', proof if holds else '(T-not-not (eqb %s %s) %s)' % (bracketed(a), bracketed(b), proof)
+            holds = not holds
         laws = {('lt', True): 'ltb→lt', ('lt', False): 'nltb→le', ('le', True): 'leb→le', ('le', False): 'nleb→lt', ('eq', True): 'eqb→eq', ('eq', False): 'ne-of'}
         return '%s %s %s %s' % (laws[operator, holds], bracketed(a), bracketed(b), proof)
 

@@ -35,6 +35,10 @@ owing-start w ks l c r = record { roomy = r; left = left-start (at w ks) l c }
 pub owing-as : {w : Where} {fs₀ : List Finding} {l₀ : List ℕ} {c₀ : Counts} {ks ks′ : List Kind} {l : List ℕ} {c : Counts} → ks ≡ ks′ → Owing w fs₀ l₀ c₀ ks l c → Owing w fs₀ l₀ c₀ ks′ l c
 owing-as e o = rw (← e) o
 
+-- where the list and the counts are as they were
+pub owing-still : {w : Where} {fs₀ : List Finding} {l₀ : List ℕ} {c₀ : Counts} {ks : List Kind} {l l′ : List ℕ} {c c′ : Counts} → l′ ≡ l → c′ ≡ c → Owing w fs₀ l₀ c₀ ks l c → Owing w fs₀ l₀ c₀ ks l′ c′
+owing-still e f o = rw (e, f) o
+
 module _ {w : Where} {fs₀ : List Finding} {l₀ : List ℕ} {c₀ : Counts} {l : List ℕ} {c : Counts} where
   pub owing-end : Owing w fs₀ l₀ c₀ [] l c → Wrote fs₀ l₀ c₀ l c
   unfolding findingsAt

@@ -4,7 +4,7 @@ use mathlib.Core.Path.{_≡_, refl, sym, _∙_}
 use mathlib.Core.Bool.{Bool, true, false, not, false≢true, _&&_, _||_, and-false}
 use mathlib.Core.List.{List, [], _∷_, _++_}
 use Prim.Native.Nat.{ℕ, zero, suc, _+_, _-_, _<_, _≤_}
-use native.Mathlib.Nat.{not-suc-le-zero, add-zero}
+use native.Mathlib.Nat.{not-suc-le-zero, add-zero, le-refl}
 use native.Mathlib.Omega.{arith}
 use lib.Dec.{eqb, ltb, leb·suc-suc}
 use lib.ListN.{length, getD, drop, length-drop, drop-of-length-le}
@@ -17,9 +17,14 @@ use Rattle.text.proofs.Rows.{place}
 use Rattle.text.proofs.Find.{find-bytes}
 use Rattle.findings.specs.Finding.{Kind}
 use Rattle.attributes.specs.Attributes.{Mode, between, value, opened, quoted, escaping, go, inQuotes, scanStep, attributeScan, emptyValue, unterminated}
-use Rattle.attributes.specs.Inner.{leads, escapes, closingPlace}
+use Rattle.attributes.specs.Inner.{leads, escapes}
 use Rattle.attributes.proofs.Scanning.{scan-end, scan-char, scan-byte, same-code, neither, stay, leads-at}
 use Rattle.text.proofs.Bool.{and-left}
+
+-- how many bytes of a value stand before the quote that closes it, all where none does. The byte before them is a backslash, or isn't
+unfoldable pub closingPlace : Bool → List ℕ → ℕ
+closingPlace escaped [] = 0
+closingPlace escaped (b ∷ s) = pick (eqb b 0x22 && not escaped) 0 (suc (closingPlace (eqb b 0x5C) s))
 
 -- a quote or a backslash
 abbrev special : ℕ → Bool
@@ -106,26 +111,6 @@ same-test : (a n : ℕ) → eqb n 0 ≡ eqb (a + n) a
 same-test a zero = rw (add-zero a) (sym (eq-eqb a a refl))
 same-test a (suc n) = ne-eqb (suc n) 0 (λ e. omega arith) ∙ sym (ne-eqb (a + suc n) a (λ e. omega arith))
 
--- from the byte after a `=` on: a value whose quote is never closed, and one whose quote is
-module _ (s : List ℕ) (k close : ℕ) (quote : leads 0x22 (drop (k + 1) s) ≡ true) (is : close ≡ k + 2 + closingPlace false (drop (k + 2) s)) where
-  opens : attributeScan value (chars (drop (k + 1) s)) ≡ attributeScan opened (chars (drop (k + 2) s))
-  unfolding scanStep
-  opens =
-      let e : k + 1 + 1 ≡ k + 2 = omega arith in
-      scan-byte value 0x22 (drop (k + 1) s) (omega arith) quote ∙ rw (drop-drop 1 (k + 1) s, e)
-
-  pub unclosed : close ≡ length s → attributeScan value (chars (drop (k + 1) s)) ≡ unterminated ∷ []
-  unclosed h =
-      let l = length-drop (k + 2) s in
-      opens ∙ opened-closes (drop (k + 2) s) ∙ rw (le-ltb (closingPlace false (drop (k + 2) s)) (length (drop (k + 2) s)) (omega arith))
-
-  pub closed : close < length s → attributeScan value (chars (drop (k + 1) s)) ≡ pick (eqb close (k + 2)) (emptyValue ∷ []) [] ++ attributeScan between (chars (drop (close + 1) s))
-  closed h =
-      let l = length-drop (k + 2) s in
-      let d : k + 2 + suc (closingPlace false (drop (k + 2) s)) ≡ close + 1 = omega arith in
-      opens ∙ opened-closes (drop (k + 2) s)
-      ∙ rw (lt-ltb (closingPlace false (drop (k + 2) s)) (length (drop (k + 2) s)) (omega arith), drop-drop (suc (closingPlace false (drop (k + 2) s))) (k + 2) s, d, is, same-test (k + 2) (closingPlace false (drop (k + 2) s)))
-
 -- how far the search for the closing quote goes at a byte that is none
 jump : (l : List ℕ) (r : ℕ) → r ≡ pick (escapes l) 2 1 → leads 0x22 l ≡ false → 0 < length l → (0 < r) × (r ≤ length l) × (closingPlace false l ≡ r + closingPlace false (drop r l))
 unfolding closingPlace
@@ -143,26 +128,58 @@ jump (b ∷ x ∷ s) r e h g = rw (e, h) (test (eqb b 0x5C) (eqb x 0x22) refl)
     test false true q = rw q (omega arith, omega arith, omega arith)
     test false false q = rw q (omega arith, omega arith, omega arith)
 
--- the search, from one place to the next
-module _ (s : List ℕ) (i : ℕ) where
-  pub quote-ends : length s ≤ i → i + closingPlace false (drop i s) ≡ i
+-- The search for the quote that closes a value, from a place in it on, has come to another place: the quote lies as far from the one as from the other.
+pub record Seeking (s : List ℕ) (from j : ℕ) : Type 0 where
+  pub past : from ≤ j
+  pub inside : j ≤ length s
+  pub as-far : from + closingPlace false (drop from s) ≡ j + closingPlace false (drop j s)
+
+pub seeking-start : (s : List ℕ) (from : ℕ) → from ≤ length s → Seeking s from from
+seeking-start s from h = record { past = le-refl from; inside = h; as-far = refl }
+
+module _ {s : List ℕ} {from j : ℕ} (g : Seeking s from j) where
+  -- at the end of the text, and at a quote
+  seeking-ends : length s ≤ j → j ≡ from + closingPlace false (drop from s)
   unfolding closingPlace
-  quote-ends h = rw (drop-of-length-le s h) (add-zero i)
+  seeking-ends h = sym (g .as-far ∙ rw (drop-of-length-le s h) (add-zero j))
 
-  pub quote-here : i < length s → getD s i 0 ≡ 0x22 → i + closingPlace false (drop i s) ≡ i
+  seeking-here : j < length s → getD s j 0 ≡ 0x22 → j ≡ from + closingPlace false (drop from s)
   unfolding closingPlace
-  quote-here h e = rw (place s i h, eq-eqb (getD s i 0) 0x22 e) (add-zero i)
+  seeking-here h e = sym (g .as-far ∙ rw (place s j h, eq-eqb (getD s j 0) 0x22 e) (add-zero j))
 
-  pub quote-past : (r : ℕ) → i < length s → (getD s i 0 ≡ 0x22 → ⊥) → r ≡ pick (escapes (drop i s)) 2 1 → (0 < r) × (i + r ≤ length s) × (i + closingPlace false (drop i s) ≡ i + r + closingPlace false (drop (i + r) s))
-  quote-past r h q e =
-      let l = length-drop i s in
-      let j = jump (drop i s) r e (sym (leads-at 0x22 s i h) ∙ ne-eqb (getD s i 0) 0x22 q) (omega arith) in
-      (j .0, omega (arith, j .1), rw (← drop-drop r i s) (omega (arith, j .2)))
+  -- past a byte that is none
+  pub seeking-on : (r : ℕ) → j < length s → (getD s j 0 ≡ 0x22 → ⊥) → r ≡ pick (escapes (drop j s)) 2 1 → (0 < r) × Seeking s from (j + r)
+  seeking-on r h q e =
+      let l = length-drop j s in
+      let n = jump (drop j s) r e (sym (leads-at 0x22 s j h) ∙ ne-eqb (getD s j 0) 0x22 q) (omega arith) in
+      (n .0, record { past = omega (arith, g .past); inside = omega (arith, n .1); as-far = g .as-far ∙ rw (← drop-drop r j s) (omega (arith, n .2)) })
 
--- the bytes that the code passes at once
+-- from the byte after a `=` on: a value whose quote is never closed, and one whose quote is
+module _ (s : List ℕ) (k j : ℕ) (quote : leads 0x22 (drop (k + 1) s) ≡ true) (g : Seeking s (k + 2) j) where
+  opens : attributeScan value (chars (drop (k + 1) s)) ≡ attributeScan opened (chars (drop (k + 2) s))
+  unfolding scanStep
+  opens =
+      let e : k + 1 + 1 ≡ k + 2 = omega arith in
+      scan-byte value 0x22 (drop (k + 1) s) (omega arith) quote ∙ rw (drop-drop 1 (k + 1) s, e)
+
+  pub unclosed : length s ≤ j → attributeScan value (chars (drop (k + 1) s)) ≡ unterminated ∷ []
+  unclosed h =
+      let l = length-drop (k + 2) s in
+      let is = seeking-ends g h in
+      opens ∙ opened-closes (drop (k + 2) s) ∙ rw (le-ltb (closingPlace false (drop (k + 2) s)) (length (drop (k + 2) s)) (omega arith))
+
+  pub closed : j < length s → getD s j 0 ≡ 0x22 → attributeScan value (chars (drop (k + 1) s)) ≡ pick (eqb j (k + 2)) (emptyValue ∷ []) [] ++ attributeScan between (chars (drop (j + 1) s))
+  closed h q =
+      let l = length-drop (k + 2) s in
+      let is = seeking-here g h q in
+      let d : k + 2 + suc (closingPlace false (drop (k + 2) s)) ≡ j + 1 = omega arith in
+      opens ∙ opened-closes (drop (k + 2) s)
+      ∙ rw (lt-ltb (closingPlace false (drop (k + 2) s)) (length (drop (k + 2) s)) (omega arith), drop-drop (suc (closingPlace false (drop (k + 2) s))) (k + 2) s, d, is, same-test (k + 2) (closingPlace false (drop (k + 2) s)))
+
+-- the bytes that the code goes on at once
 module _ (s : List ℕ) (k : ℕ) where
-  pub passed-one : leads 0x5C (drop k s) ≡ false → 1 ≡ pick {A = ℕ} (escapes (drop k s)) 2 1
-  passed-one h = rw h
+  pub step-one : leads 0x5C (drop k s) ≡ false → 1 ≡ pick {A = ℕ} (escapes (drop k s)) 2 1
+  step-one h = rw h
 
-  pub passed-by : (t : Bool) → leads 0x5C (drop k s) ≡ true → leads 0x22 (drop (k + 1) s) ≡ t → pick t 2 1 ≡ pick {A = ℕ} (escapes (drop k s)) 2 1
-  passed-by t h q = rw (h, drop-drop 1 k s, q)
+  pub step-by : (t : Bool) → leads 0x5C (drop k s) ≡ true → leads 0x22 (drop (k + 1) s) ≡ t → pick t 2 1 ≡ pick {A = ℕ} (escapes (drop k s)) 2 1
+  step-by t h q = rw (h, drop-drop 1 k s, q)

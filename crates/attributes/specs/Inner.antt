@@ -1,6 +1,6 @@
 -- What the functions inside the crate promise.
-use Prim.Native.Nat.{ℕ, suc}
-use mathlib.Core.Bool.{Bool, false, not, _&&_, _||_}
+use Prim.Native.Nat.{ℕ}
+use mathlib.Core.Bool.{Bool, false, _&&_, _||_}
 use mathlib.Core.List.{List, [], _∷_}
 use lib.Dec.{eqb}
 use lib.ListN.{drop}
@@ -23,11 +23,6 @@ endsKey c = eqb c 0x3D || blank c
 -- a backslash with a quote after it
 abbrev pub escapes : List ℕ → Bool
 escapes s = leads 0x5C s && leads 0x22 (drop 1 s)
-
--- how many bytes of a value stand before the quote that closes it, all where none does. The byte before them is a backslash, or isn't
-unfoldable pub closingPlace : Bool → List ℕ → ℕ
-closingPlace escaped [] = 0
-closingPlace escaped (b ∷ s) = pick (eqb b 0x22 && not escaped) 0 (suc (closingPlace (eqb b 0x5C) s))
 
 -- the finding of an Attribute, with its first number
 abbrev pub findingOfKind : Where → Kind → ℕ → Finding

@@ -7,7 +7,7 @@ use findings::Severity;
 use findings::UNQUOTED_ATTRIBUTE_VALUE;
 use table::DefaultAttribute;
 ghost use mathlib.Core.Path.{_≡_};
-ghost use mathlib.Core.Bool.{false};
+ghost use mathlib.Core.List.{[], _∷_};
 ghost use Prim.Native.Nat.{_<_, _≤_};
 ghost use lib.ListN.{length, drop};
 ghost use Rattle.text.specs.Inner.{Ended};
@@ -16,10 +16,11 @@ ghost use Rattle.tape.specs.Nodes.{nodeAt};
 ghost use Rattle.tape.specs.Forest.{forest};
 ghost use Rattle.cursor.specs.Names.{nameOf};
 ghost use Rattle.cursor.specs.Inner.{Run, Spanned};
-ghost use Rattle.findings.specs.Finding.{findingOf, severityOf};
+ghost use Rattle.findings.specs.Finding.{findingOf, severityOf, errorSeverity};
+ghost use Rattle.findings.specs.Written.{only};
 ghost use Rattle.table.specs.Names.{attributeName};
-ghost use Rattle.attributes.specs.Attributes.{hasDefault, kind, attributeScan, between, afterBar, attributeKinds, findingsAt, attributesFindings};
-ghost use Rattle.attributes.specs.Inner.{leads, endsKey, escapes, closingPlace, findingOfKind, ofNode};
+ghost use Rattle.attributes.specs.Attributes.{hasDefault, kind, emptyValue, attributeScan, between, afterBar, attributeKinds, findingsAt, attributesFindings};
+ghost use Rattle.attributes.specs.Inner.{leads, endsKey, escapes, findingOfKind, ofNode};
 ghost use Rattle.text.specs.Pick.{pick};
 ghost use Rattle.findings.specs.Inner.{Wrote, Room};
 
@@ -85,8 +86,8 @@ fn key_end(s: &[u8], from: usize) -> usize
     i
 }
 
-// How many bytes the search for the closing quote skips at a place: two for a backslash with a quote after it, else one.
-fn passed(s: &[u8], k: usize) -> usize
+// How many bytes the search for the closing quote goes on at a place: two for a backslash with a quote after it, else one.
+fn quote_step(s: &[u8], k: usize) -> usize
     requires { ⌜ k < length (now s) ⌝ }
     ensures { λ r. ⌜ r ≡ pick (escapes (drop k (now (s .entry)))) 2 1 ⌝ }
 {
@@ -94,24 +95,6 @@ fn passed(s: &[u8], k: usize) -> usize
         return 1;
     }
     if byte_is(s, k + 1, b'"') { 2 } else { 1 }
-}
-
-// The place of the quote that closes a value, from a place in it on, or the length.
-fn closing_quote(s: &[u8], from: usize) -> usize
-    requires { ⌜ from ≤ length (now s) ⌝ }
-    ensures { λ r. ⌜ Ended (now (s .entry)) from (closingPlace false (drop from (now (s .entry)))) r ⌝ }
-{
-    let mut i = from;
-    let k = loop {
-        if s.len() <= i {
-            break i;
-        }
-        if s[i] == b'"' {
-            break i;
-        }
-        i += passed(s, i);
-    };
-    k
 }
 
 fn finding(w: Where, severity: Severity, code: u64, form: u64, first: u64) -> Finding
@@ -129,7 +112,31 @@ fn finding(w: Where, severity: Severity, code: u64, form: u64, first: u64) -> Fi
     }
 }
 
-// The findings of a list of attributes.
+// One finding more: an error whose numbers are 0.
+fn push_error(list: &mut [u64], c: Counts, w: Where, code: u64, form: u64) -> Counts
+    requires { ⌜ Room c (findingOfKind w (kind errorSeverity code form) 0 ∷ []) ⌝ }
+    ensures { λ r. ⌜ Wrote (findingOfKind w (kind errorSeverity code form) 0 ∷ []) (now (list .entry)) c (now (list .exit)) r ⌝ }
+{
+    findings::push(list, c, finding(w, Severity::Error, code, form, 0))
+}
+
+// One finding more where a value is empty.
+fn push_empty(list: &mut [u64], c: Counts, w: Where, empty: bool) -> Counts
+    requires { ⌜ Room c (only empty (findingOfKind w emptyValue 0)) ⌝ }
+    ensures { λ r. ⌜ Wrote (only empty (findingOfKind w emptyValue 0)) (now (list .entry)) c (now (list .exit)) r ⌝ }
+{
+    let info = finding(
+        w,
+        Severity::Info,
+        INVALID_ATTRIBUTES,
+        findings::EMPTY_VALUE_FORM,
+        0,
+    );
+    findings::push_if(list, c, empty, info)
+}
+
+// The findings of a list of attributes. The scan ends at a key without `=` and at a quote that is never closed, and goes on after a
+// value without quotes.
 fn scan_list(body: &[u8], w: Where, list: &mut [u64], counts: Counts) -> Counts
     requires { ⌜ Room counts (findingsAt (w .start) (w .len) (w .node) (w .owner) (attributeScan between (chars (now body)))) ⌝ }
     ensures { λ r. ⌜ Wrote (findingsAt (w .start) (w .len) (w .node) (w .owner) (attributeScan between (chars (now (body .entry))))) (now (list .entry)) counts (now (list .exit)) r ⌝ }
@@ -139,42 +146,26 @@ fn scan_list(body: &[u8], w: Where, list: &mut [u64], counts: Counts) -> Counts
     'scan: while i < body.len() {
         let key = key_end(body, i);
         if !byte_is(body, key, b'=') {
-            let alone = finding(
-                w,
-                Severity::Error,
-                INVALID_ATTRIBUTES,
-                findings::KEY_ALONE_FORM,
-                0,
-            );
-            c = findings::push(list, c, alone);
+            c = push_error(list, c, w, INVALID_ATTRIBUTES, findings::KEY_ALONE_FORM);
             break 'scan;
         }
         if !byte_is(body, key + 1, b'"') {
-            let unquoted = finding(w, Severity::Error, UNQUOTED_ATTRIBUTE_VALUE, 0, 0);
-            c = findings::push(list, c, unquoted);
+            c = push_error(list, c, w, UNQUOTED_ATTRIBUTE_VALUE, 0);
             i = text::find_from(body, text::find_from(body, key + 1, true), false);
             continue 'scan;
         }
-        let close = closing_quote(body, key + 2);
-        if close == body.len() {
-            let unterminated = finding(
-                w,
-                Severity::Error,
-                INVALID_ATTRIBUTES,
-                findings::UNTERMINATED_FORM,
-                0,
-            );
-            c = findings::push(list, c, unterminated);
-            break 'scan;
-        }
-        let empty = finding(
-            w,
-            Severity::Info,
-            INVALID_ATTRIBUTES,
-            findings::EMPTY_VALUE_FORM,
-            0,
-        );
-        c = findings::push_if(list, c, close == key + 2, empty);
+        let mut j = key + 2;
+        let close = loop {
+            if body.len() <= j {
+                c = push_error(list, c, w, INVALID_ATTRIBUTES, findings::UNTERMINATED_FORM);
+                break 'scan;
+            }
+            if body[j] == b'"' {
+                break j;
+            }
+            j += quote_step(body, j);
+        };
+        c = push_empty(list, c, w, close == key + 2);
         i = text::find_from(body, close + 1, false);
     }
     c
@@ -193,14 +184,7 @@ pub fn validate_attribute(
 {
     let body = text::trim(after_bar(text));
     if body.len() == 0 {
-        let none = finding(
-            w,
-            Severity::Error,
-            INVALID_ATTRIBUTES,
-            findings::EMPTY_LIST_FORM,
-            0,
-        );
-        return findings::push(list, c, none);
+        return push_error(list, c, w, INVALID_ATTRIBUTES, findings::EMPTY_LIST_FORM);
     }
     if text::find_byte(body, b'=') < body.len() {
         return scan_list(body, w, list, c);

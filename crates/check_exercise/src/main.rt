@@ -1,15 +1,16 @@
-// Reads table.txt, source.usfm and nodes.bin of the current folder, checks them and writes the listing.
+// Reads table.txt, source.usfm and nodes.bin of the current folder, checks them and writes the listing, piece by piece.
+use definition::OpenStart;
 use libc::STDOUT_FILENO;
-use messages::MessageAnswer;
-use messages::MessageRequest;
 use validate::Answer;
 use validate::InputCheck;
-use validate::Report;
 ghost use mathlib.Core.Path.{_≡_};
-ghost use Prim.Native.Nat.{_*_, _≤_};
+ghost use Prim.Native.Nat.{_≤_};
 ghost use lib.ListN.{length};
 ghost use Rattle.tape.specs.Forest.{Accepted};
 ghost use Rattle.table.specs.Inner.{Indexed};
+ghost use Rattle.findings.specs.Written.{wholeRecords};
+ghost use Rattle.definition.specs.Outcome.{answer, listAfter, repeated, noStart};
+ghost use Rattle.validate.specs.Entry.{answerOf, lent};
 // One byte more than a file may have.
 fn room() -> [u8; 65537]
     ensures { λ r. ⌜ 65537 ≡ length r ⌝ }
@@ -24,25 +25,44 @@ fn places() -> [u32; 65537]
     [0; 65537]
 }
 
-// The lines of a finding whose message fills its list.
-fn lines_room() -> [u8; 66048]
+// A piece of the listing: the lines of a finding whose message fills its list have room.
+fn piece_room() -> [u8; 66048]
     ensures { λ r. ⌜ 66048 ≡ length r ⌝ }
 {
     [0; 66048]
 }
 
-// Findings, 1,024 of them; or open starts, for 4,096 nodes.
+// Findings, 1,024 of them.
 fn words() -> [u64; 8192]
     ensures { λ r. ⌜ 8192 ≡ length r ⌝ }
 {
     [0; 8192]
 }
 
-// Chapters seen, for 4,096 nodes.
+// Chapters seen, for 4,096 nodes: a file has no more.
 fn numbers() -> [u32; 4096]
     ensures { λ r. ⌜ 4096 ≡ length r ⌝ }
 {
     [0; 4096]
+}
+
+// How many bytes an open file has, up to the list's length; none where a read fails.
+fn read_open(fd: i32, file: &mut [u8]) -> usize
+    ensures { λ r. ⌜ r ≤ length (now (file .exit)) ⌝ }
+{
+    let mut done: usize = 0;
+    while done < file.len() {
+        let got = libc::read(fd, &mut file[done..]);
+        if got < 0 {
+            return 0;
+        }
+        let more = io::count(got, &file[done..]);
+        if more == 0 {
+            return done;
+        }
+        done += more;
+    }
+    done
 }
 
 // How many bytes a file has, up to the list's length; none where it can't be read.
@@ -53,103 +73,31 @@ fn read(path: &[u8], file: &mut [u8]) -> usize
     if fd < 0 {
         return 0;
     }
-    let n = io::read_full(fd, file);
+    let n = read_open(fd, file);
     libc::close(fd);
     n
 }
 
 // Writes a list up to a place, where its text ends, to standard output.
-fn write(out: &[u8], end: usize) {
-    if end <= out.len() {
-        io::write_all(STDOUT_FILENO, &out[..end]);
-    }
+fn write(out: &[u8], end: usize)
+    requires { ⌜ end ≤ length (now out) ⌝ }
+{
+    io::write_all(STDOUT_FILENO, &out[..end]);
 }
 
 fn write_too_large() {
-    let mut out = [0u8; 64];
+    let mut out = [0u8; 256];
     let end = listing::put_too_large(&mut out, 0);
     write(&out, end);
 }
 
-fn write_refused(number: u64, place: u64) {
-    let mut out = [0u8; 128];
-    let end = listing::put_refused(&mut out, 0, number, place);
-    write(&out, end);
-}
-
-fn write_counts(r: Report) {
+fn write_head(answer: Answer) {
     let mut out = [0u8; 256];
-    let end = listing::put_checked(&mut out, 0, r.errors, r.warnings, r.infos, r.total);
+    let end = listing::put_head(&mut out, answer);
     write(&out, end);
 }
 
-// The entry of a list at a place, or 0 past it.
-fn at(list: &[u32], i: usize) -> u64 {
-    if i < list.len() { list[i] as u64 } else { 0 }
-}
-
-// The written text; empty if it doesn't fit.
-fn shown(answer: MessageAnswer, text: &[u8]) -> &[u8]
-    ensures { λ r. ⌜ length (now r) ≤ length (now (text .entry)) ⌝ }
-{
-    match answer {
-        MessageAnswer::Written(n) => first(text, n),
-        MessageAnswer::Refused(_, _) => first(text, 0),
-    }
-}
-
-// So many bytes of a list, or none where it has fewer.
-fn first(text: &[u8], n: usize) -> &[u8]
-    ensures { λ r. ⌜ length (now r) ≤ length (now (text .entry)) ⌝ }
-{
-    if text.len() < n {
-        return &text[..0];
-    }
-    &text[..n]
-}
-
-// Writes the lines of one finding, given by its eight words.
-fn write_finding<'a>(
-    table: &'a [u8],
-    index: &[u64],
-    entries: usize,
-    source: &'a [u8],
-    tape: &[u8],
-    f: &[u64],
-    lines: &[u32],
-    columns: &[u32],
-    text: &mut [u8],
-    out: &mut [u8],
-)
-    requires { ⌜ (Indexed (now table) (now index) entries) × (Accepted (now source) (now tape)) × (length (now source) ≤ 1048576) × (8 ≤ length (now f)) × (length (now text) ≤ 1048576) ⌝ }
-{
-    let q = MessageRequest {
-        code: f[1],
-        form: f[5],
-        node: f[4],
-        first: f[6],
-        second: f[7],
-    };
-    let answer = messages::message_in(table, index, entries, source, tape, q, text);
-    let start = f[2] as usize;
-    let line = at(lines, start);
-    let column = at(columns, start);
-    let end = listing::put_finding(out, 0, f[0], f[1], line, column, shown(answer, text));
-    write(out, end);
-}
-
-// How many of the findings the list holds.
-fn held(list: &[u64], written: usize) -> usize
-    ensures { λ r. ⌜ 8 * r ≤ length (now (list .entry)) ⌝ }
-{
-    if written < list.len() / 8 {
-        written
-    } else {
-        list.len() / 8
-    }
-}
-
-// Writes the lines of the held findings.
+// Writes the lines of the held findings, as many at a time as have room.
 fn write_findings<'a>(
     table: &'a [u8],
     index: &[u64],
@@ -157,40 +105,57 @@ fn write_findings<'a>(
     source: &'a [u8],
     tape: &[u8],
     list: &[u64],
-    written: usize,
+    held: usize,
 )
-    requires { ⌜ (Indexed (now table) (now index) entries) × (Accepted (now source) (now tape)) × (length (now source) ≤ 65536) ⌝ }
+    requires { ⌜ (Indexed (now table) (now index) entries) × (Accepted (now source) (now tape)) × (length (now source) ≤ 65536) × (held ≤ wholeRecords (now list)) ⌝ }
 {
     let mut lines = places();
     let mut columns = places();
     listing::lines_and_columns(source, &mut lines, &mut columns);
     let mut text = io::large_buffer();
-    let mut out = lines_room();
-    let n = held(list, written);
+    let mut out = piece_room();
     let mut k: usize = 0;
-    while k < n {
-        let from = 8 * k;
-        write_finding(
+    while k < held {
+        let piece = listing::put_findings(
             table,
             index,
             entries,
             source,
             tape,
-            &list[from..],
+            list,
+            held,
+            k,
             &lines,
             &columns,
             &mut text,
             &mut out,
         );
-        k += 1;
+        write(&out, piece.end);
+        k = piece.next;
     }
 }
 
-// Writes the counts and the lines of the held findings.
-fn write_checked<'a>(table: &'a [u8], source: &'a [u8], tape: &[u8], r: Report, list: &[u64])
+// The check, with open starts for 4,096 nodes.
+fn checked(table: &[u8], source: &[u8], tape: &[u8], seen: &mut [u32], list: &mut [u64]) -> Answer
+    ensures answer { λ r. ⌜ answerOf r ≡ answer (lent (now (table .entry)) (now (source .entry)) (now (tape .entry)) (now (seen .entry)) (repeated noStart 4096) (now (list .entry))) ⌝ }
+    ensures list { λ r. ⌜ now (list .exit) ≡ listAfter (lent (now (table .entry)) (now (source .entry)) (now (tape .entry)) (now (seen .entry)) (repeated noStart 4096) (now (list .entry))) ⌝ }
+{
+    let nothing = OpenStart {
+        node: 0,
+        base_len: 0,
+    };
+    let mut opens = [nothing; 4096];
+    validate::check(table, source, tape, seen, &mut opens, list)
+}
+
+// Writes the listing. The input is checked a second time for the table's index, which the check doesn't give.
+fn exercise<'a>(table: &'a [u8], source: &'a [u8], tape: &[u8])
     requires { ⌜ length (now source) ≤ 65536 ⌝ }
 {
-    write_counts(r);
+    let mut seen = numbers();
+    let mut list = words();
+    let answer = checked(table, source, tape, &mut seen, &mut list);
+    write_head(answer);
     let mut index = [0u64; 512];
     let InputCheck::Accepted(entries) = validate::check_input(
         table,
@@ -208,22 +173,9 @@ fn write_checked<'a>(table: &'a [u8], source: &'a [u8], tape: &[u8], r: Report, 
         entries,
         source,
         tape,
-        list,
-        r.written as usize,
+        &list,
+        listing::held(answer) as usize,
     );
-}
-
-fn exercise<'a>(table: &'a [u8], source: &'a [u8], tape: &[u8])
-    requires { ⌜ length (now source) ≤ 65536 ⌝ }
-{
-    let mut seen = numbers();
-    let mut opens = words();
-    let mut list = words();
-    match by_words::check_words(table, source, tape, &mut seen, &mut opens, &mut list) {
-        Answer::Refused(number, place) => write_refused(number, place),
-        Answer::Checked(r) => write_checked(table, source, tape, r, &list),
-        Answer::Cut(r) => write_checked(table, source, tape, r, &list),
-    }
 }
 
 fn main() {

@@ -2,7 +2,6 @@
 -- Assumes nothing.
 use mathlib.Core.Path.{_≡_, refl, sym, ap, _∙_}
 use mathlib.Core.Bool.{Bool, true, false}
-use mathlib.Core.Logic.{inr}
 use mathlib.Core.List.{List, [], _∷_}
 use Prim.Native.Nat.{ℕ, zero, suc, _+_, _-_, _<_, _≤_}
 use native.Mathlib.Decide.{decLt}
@@ -14,7 +13,7 @@ use borrow.Author.Tests.{eq-eqb, ne-eqb, eqb-true}
 use Rattle.text.specs.Pick.{end, pick}
 use Rattle.text.specs.Blank.{blank}
 use Rattle.text.specs.Characters.{find}
-use Rattle.text.proofs.Blank.{low-not-blank}
+use Rattle.text.proofs.Blank.{ascii-not-blank}
 use Rattle.text.proofs.Find.{past-ascii}
 use Rattle.text.proofs.Hits.{find-on}
 use Rattle.cursor.specs.declared.NameSpan.{NameSpan}
@@ -113,9 +112,6 @@ module _ (c : ℕ) (x : Bool) (is-blank : x ≡ blank c) where
 
   pub ends-slash : x ≡ false → (c ≡ 0x2A → ⊥) → (c ≡ 0x7C → ⊥) → eqb c 0x5C ≡ endsName c
   ends-slash y n m = rw (← is-blank, y, ne-eqb c 0x2A n, ne-eqb c 0x7C m)
-
-ascii-not-blank : (b : ℕ) → 0x20 < b → b < 0x80 → blank b ≡ false
-ascii-not-blank b h k = low-not-blank b (omega arith) (λ e. omega arith) (inr (omega arith))
 
 pub is-plain : (b : ℕ) → 0x2A < b → b < 0x7C → (b ≡ 0x5C → ⊥) → PlainByte b
 is-plain b h k n =

@@ -10,3 +10,4 @@ pub mod Givens
 pub mod Unclosed
 pub mod Pair
 pub mod WellFormed
+pub mod Filled

@@ -1,3 +1,6 @@
 pub mod Words
 pub mod Lines
 pub mod Places
+pub mod Shown
+pub mod Pieces
+pub mod Joined

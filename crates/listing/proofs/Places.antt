@@ -9,9 +9,12 @@ use mathlib.Core.List.{List, [], _∷_}
 use lib.ListN.{length, set, getD, length-set}
 use borrow.Author.Tests.{eq-eqb, ne-eqb}
 use Rattle.buffer.specs.Over.{over}
-use Rattle.buffer.proofs.Over.{over-none, over-set}
+use Rattle.buffer.proofs.Over.{over-none, over-set, length-over}
 use Rattle.listing.specs.Lines.{Place, afterByte, placeFrom, lineAndColumn}
 use Rattle.listing.specs.LinesAndColumns.{eachFrom, linesFrom, columnsFrom}
+use Rattle.listing.specs.Inner.{PlacesOf, Listable}
+use Rattle.table.specs.Inner.{Indexed}
+use Rattle.tape.specs.Forest.{Accepted}
 
 -- one byte further
 place-on : (p : Place) (s : List ℕ) (i : ℕ) → i < length s → placeFrom p s (suc i) ≡ afterByte (getD s i 0) (placeFrom p s i)
@@ -123,3 +126,17 @@ module _ (s l : List ℕ) (i : ℕ) (h : i ≤ length s) (k : length s < length 
 
   pub column-at : getD (over l 0 (columnsFrom s 0 (length s + 1))) i 0 ≡ lineAndColumn s i .column
   column-at = at-place (λ k. lineAndColumn s k .column) l (length s + 1) i (omega arith) (omega arith)
+
+pub places-of : (s l m : List ℕ) → length s < length l → length s < length m → PlacesOf s (over l 0 (linesFrom s 0 (length s + 1))) (over m 0 (columnsFrom s 0 (length s + 1)))
+places-of s l m h k =
+    record {
+      lines-room = rw (length-over l 0 (linesFrom s 0 (length s + 1))) h;
+      columns-room = rw (length-over m 0 (columnsFrom s 0 (length s + 1))) k;
+      lines-are = λ i low. line-at s l i low h;
+      columns-are = λ i low. column-at s m i low k;
+    }
+
+-- what `put_findings` requires of a document, after `lines_and_columns`
+pub listable : {table index : List ℕ} {entries : ℕ} {s t : List ℕ} (l m lines columns : List ℕ) → Indexed table index entries → Accepted s t → length s ≤ 1048576 → length s < length l → length s < length m → lines ≡ over l 0 (linesFrom s 0 (length s + 1)) → columns ≡ over m 0 (columnsFrom s 0 (length s + 1)) → Listable table index entries s t lines columns
+listable {s = s} l m lines columns i a short h k e f =
+    record { indexed = i; accepted = a; short = short; places = rw (e, f) (places-of s l m h k) }

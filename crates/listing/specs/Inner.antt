@@ -1,7 +1,16 @@
 -- What the functions inside the crate promise.
-use Prim.Native.Nat.{ℕ, _+_, _≤_}
+use Prim.Native.Nat.{ℕ, _+_, _*_, _<_, _≤_}
+use mathlib.Core.Path.{_≡_}
 use mathlib.Core.List.{List, [], _∷_, _++_}
-use Rattle.buffer.specs.Over.{Put}
+use lib.Dec.{ltb}
+use lib.ListN.{length, getD, take}
+use Rattle.text.specs.Pick.{pick}
+use Rattle.buffer.specs.Over.{Put, over}
+use Rattle.table.specs.Inner.{Indexed}
+use Rattle.tape.specs.Forest.{Accepted}
+use Rattle.findings.specs.Finding.{Finding}
+use Rattle.listing.specs.Lines.{lineAndColumn}
+use Rattle.listing.specs.declared.Listed.{Listed}
 
 -- the line of a key and a value, both as bytes
 abbrev pub lineOf : List ℕ → List ℕ → List ℕ
@@ -11,3 +20,45 @@ lineOf key value = key ++ (0x3D ∷ value ++ (10 ∷ []))
 pub record Near (s l : List ℕ) (at : ℕ) (l′ : List ℕ) (r : ℕ) : Type 0 where
   pub written : Put s l at l′ r
   pub near : r ≤ at + 1024
+
+-- the lists that `lines_and_columns` writes: line and column of every place of a source
+pub record PlacesOf (s lines columns : List ℕ) : Type 0 where
+  pub lines-room : length s < length lines
+  pub columns-room : length s < length columns
+  pub lines-are : (i : ℕ) → i ≤ length s → getD lines i 0 ≡ lineAndColumn s i .line
+  pub columns-are : (i : ℕ) → i ≤ length s → getD columns i 0 ≡ lineAndColumn s i .column
+
+-- a document that numbers 1 to 9 pass, with its table's index and the lines and columns of its source
+pub record Listable (table index : List ℕ) (entries : ℕ) (s t lines columns : List ℕ) : Type 0 where
+  pub indexed : Indexed table index entries
+  pub accepted : Accepted s t
+  pub short : length s ≤ 1048576
+  pub places : PlacesOf s lines columns
+
+-- the first r bytes of a list are these
+pub record ShownIn (s text : List ℕ) (r : ℕ) : Type 0 where
+  pub inside : r ≤ length text
+  pub is : take r text ≡ s
+
+-- the finding that a list holds as number k
+abbrev pub recordAt : List ℕ → ℕ → Finding
+recordAt l k =
+    record {
+      severity = getD l (8 * k) 0;
+      code = getD l (8 * k + 1) 0;
+      start = getD l (8 * k + 2) 0;
+      len = getD l (8 * k + 3) 0;
+      node = getD l (8 * k + 4) 0;
+      form = getD l (8 * k + 5) 0;
+      first = getD l (8 * k + 6) 0;
+      second = getD l (8 * k + 7) 0;
+    }
+
+-- what the lines of a finding show beside its message
+abbrev pub listedOf : List ℕ → Finding → Listed
+listedOf s f = record { severity = f .severity; code = f .code; line = lineAndColumn s (f .start) .line; column = lineAndColumn s (f .start) .column }
+
+-- bytes written from a place on if they have whole room there, and the place behind them
+pub record PutWhole (s l : List ℕ) (at : ℕ) (l′ : List ℕ) (r : ℕ) : Type 0 where
+  pub list : l′ ≡ pick (ltb (length l) (at + length s)) l (over l at s)
+  pub end : r ≡ at + length s

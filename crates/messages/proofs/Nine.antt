@@ -81,6 +81,12 @@ pub nine-none : (l : Lent) → refusal l ≡ none → firstNine (l .table) (l .s
 unfolding refusal firstNine
 nine-none l z = first-five (of1 l) (of2 l) (of3 l) (ofTape l) (of9 l) (of10 l) z
 
+-- numbers 1 to 9 are all, where number 10 isn't given
+pub nine-whole : (l : Lent) → of10 l ≡ none → refusal l ≡ firstNine (l .table) (l .source) (l .tape)
+unfolding refusal firstNine
+nine-whole l z =
+    ap (λ (x : Option Refusal). orElse (of1 l) (orElse (of2 l) (orElse (of3 l) (orElse (ofTape l) x)))) (ap (orElse (of9 l)) z ∙ or-none (of9 l))
+
 -- the answer, by what the function that writes the text gives and the length of the list
 unfoldable pub answerFor : ℕ → ℕ → MessageAnswer
 answerFor zero room = refused (record { number = noMessage; place = 0 })

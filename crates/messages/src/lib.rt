@@ -451,7 +451,7 @@ pub fn message<'a>(
 }
 
 // The request for the text of a record of a list.
-fn request_at(list: &[u64], k: usize) -> MessageRequest
+pub fn request_at(list: &[u64], k: usize) -> MessageRequest
     requires { ⌜ k < wholeRecords (now list) ⌝ }
     ensures { λ r. ⌜ requestBy r ≡ requestAt (now (list .entry)) k ⌝ }
 {

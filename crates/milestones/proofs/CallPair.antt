@@ -5,7 +5,7 @@ use mathlib.Core.Path.{_≡_}
 use Prim.Native.Nat.{_<_}
 use lib.ListN.{length}
 use Rattle.state.specs.Inner.{Opens}
-use Rattle.milestones.specs.Inner.{Placed, takenBy, opensBy, pairedBy}
+use Rattle.milestones.specs.Inner.{stepMeans, Placed, opensBy, pairedBy, openAfterPair}
 use Rattle.definition.proofs.OpenStart as OpenStart-T
 use Rattle.milestones.proofs.Paired as Paired-T
 use Rattle.milestones.proofs.Step as Step-T
@@ -15,7 +15,7 @@ abbrev pub terms : Terms
 terms = stated-as pair-F.Symbol.name (of-enum Paired-T.the-type Paired-T.Laws.the-laws Paired-T.Laws.the-plain tt)
     (shr u8 ∷ shr u8 ∷ val (of-enum Step-T.the-type Step-T.Laws.the-laws Step-T.Laws.the-plain tt) ∷ mut OpenStart-T.the-row ∷ val (of-number w64) ∷ [])
     (λ source₀ tape₀ step₀ opens₀ k₀. ((Opens source₀ tape₀ opens₀ k₀) × (k₀ < length opens₀) × (Placed source₀ step₀)) ∷ [])
-    (λ source₀ tape₀ step₀ opens₀ k₀ r z. (((z .0) ≡ opensBy step₀ (takenBy source₀ tape₀ opens₀ k₀ step₀) opens₀ k₀) × (r ≡ pairedBy step₀ (takenBy source₀ tape₀ opens₀ k₀ step₀) k₀)) ∷ [])
+    (λ source₀ tape₀ step₀ opens₀ k₀ r z. (((z .0) ≡ opensBy source₀ tape₀ opens₀ k₀ (stepMeans source₀ step₀)) × (openAfterPair r ≡ pairedBy source₀ tape₀ opens₀ k₀ (stepMeans source₀ step₀))) ∷ [])
 
 pub known : Known terms pair-F.signature (λ M 𝓤 H A at-mem run. pair-F.spec 𝓤 H A at-mem run)
 known M 𝓤 H 𝓜 𝓖 𝓡 γ r at met x cs = cited 𝓤 H _ 𝓜 𝓡 γ (terms .name) r at met (bound-at (rule-of terms x .pars) cs)

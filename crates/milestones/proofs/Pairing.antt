@@ -3,27 +3,20 @@
 use Prim.Native.Nat.{ℕ, _+_, _-_, _<_, _≤_}
 use native.Mathlib.Omega.{arith}
 use mathlib.Core.Path.{_≡_, refl, sym, ap, _∙_}
-use mathlib.Core.Bool.{true, false}
 use mathlib.Core.List.{List}
+use mathlib.Core.Option.{some, none}
 use lib.ListN.{length, getD, set}
-use Rattle.table.specs.Entries.{Entry}
-use Rattle.tape.specs.Nodes.{nodeAt}
-use Rattle.cursor.specs.Inner.{Spanned}
-use Rattle.definition.specs.Milestones.{baseOf}
 use Rattle.definition.specs.Outcome.{noStart}
 use Rattle.definition.specs.declared.OpenStart.{OpenStart}
 use Rattle.state.specs.Inner.{Opens}
-use Rattle.state.specs.declared.State.{State}
-use Rattle.milestones.specs.Inner.{Measured, Read, Placed, baseAt, nearestIn, removed, takenBy, opensBy, pairedBy, Counted, Countable}
-use Rattle.milestones.specs.InnerStep.{Milestoned, Steppable}
+use Rattle.milestones.specs.Inner.{Measured, Placed, baseAt, stepMeans, nearestIn, foundEntry, removed, opensBy, pairedBy, openAfterPair}
 use Rattle.milestones.specs.declared.Step.{Step}
 use Rattle.milestones.specs.declared.Step.the-variants as step
 use Rattle.milestones.specs.declared.Paired.{Paired}
 use Rattle.milestones.specs.declared.Paired.the-variants as paired
 use Rattle.milestones.specs.declared.Found.{Found}
 use Rattle.milestones.specs.declared.Found.the-variants as found
-use Rattle.milestones.proofs.Search.{nowhere, hit, miss, entry, found-inside}
-use Rattle.text.specs.Bytes.{equal}
+use Rattle.milestones.proofs.Search.{entry, found-inside}
 
 pub first-of : (at k : ℕ) → at < k → 1 ≤ k
 first-of at k h = omega arith
@@ -52,7 +45,7 @@ here-inside i k n h l = omega arith
 -- by what the marker is
 module _ (s t : List ℕ) (opens : List OpenStart) (k : ℕ) (x : Step) where
   abbrev Result : List OpenStart → Paired → Type 0
-  Result ys p = (ys ≡ opensBy x (takenBy s t opens k x) opens k) × (p ≡ pairedBy x (takenBy s t opens k x) k)
+  Result ys p = (ys ≡ opensBy s t opens k (stepMeans s x)) × (openAfterPair p ≡ pairedBy s t opens k (stepMeans s x))
 
   pub pair-neither : x ≡ step.Neither → Result opens (paired.Now k)
   pair-neither e = rw e (refl, refl)
@@ -64,24 +57,19 @@ module _ (s t : List ℕ) (opens : List OpenStart) (k : ℕ) (x : Step) where
     pub placed : Placed s x → at + len ≤ length s
     placed h = rw e at h
 
-    pub pair-end : (f : Found) (j : ℕ) (ys zs : List OpenStart) → zs ≡ opens → f ≡ nearestIn s t opens k (baseAt s at len) → f ≡ found.At j → ys ≡ removed zs k j → Result ys (paired.Now (k - 1))
-    pair-end f j ys zs z f-is at-j w =
-        let n : nearestIn s t opens k (baseAt s at len) ≡ found.At j = sym f-is ∙ at-j in
-        rw (e, n) (w ∙ ap (λ (l : List OpenStart). removed l k j) z, refl)
+    module _ (f : Found) (f-is : foundEntry f ≡ nearestIn s t opens k (baseAt s at len)) where
+      pub pair-end : (j : ℕ) (ys zs : List OpenStart) → zs ≡ opens → f ≡ found.At j → ys ≡ removed zs k j → Result ys (paired.Now (k - 1))
+      pair-end j ys zs z at-j w =
+          let n : nearestIn s t opens k (baseAt s at len) ≡ some j = sym f-is ∙ ap foundEntry at-j in
+          rw (e, n) (w ∙ ap (λ (l : List OpenStart). removed l k j) z, refl)
 
-    pub pair-alone : (f : Found) (zs : List OpenStart) → zs ≡ opens → f ≡ nearestIn s t opens k (baseAt s at len) → f ≡ found.Nothing → Result zs paired.Alone
-    pair-alone f zs z f-is none =
-        let n : nearestIn s t opens k (baseAt s at len) ≡ found.Nothing = sym f-is ∙ none in
-        rw (e, n) (z, refl)
+      pub pair-alone : (zs : List OpenStart) → zs ≡ opens → f ≡ found.Nothing → Result zs paired.Alone
+      pair-alone zs z nothing =
+          let n : nearestIn s t opens k (baseAt s at len) ≡ none = sym f-is ∙ ap foundEntry nothing in
+          rw (e, n) (z, refl)
 
-    pub end-inside : (f : Found) (j : ℕ) → f ≡ nearestIn s t opens k (baseAt s at len) → f ≡ found.At j → j < k
-    end-inside f j f-is at-j = found-inside s t opens (baseAt s at len) k j (sym f-is ∙ at-j)
+      pub end-inside : (j : ℕ) → f ≡ found.At j → j < k
+      end-inside j at-j = found-inside s t opens (baseAt s at len) k j (sym f-is ∙ ap foundEntry at-j)
 
 pub known-room : (s t : List ℕ) (opens zs : List OpenStart) (k : ℕ) → Opens s t opens k → length zs ≡ length opens → k ≤ length zs
 known-room s t opens zs k o e = let r = o .room in omega arith
-
--- the whole of a marker
-pub read-placed : (e : Entry) (s t : List ℕ) (i : ℕ) (x : Step) → Read e s t i x → Placed s x
-read-placed e s t i step.Neither r = tt
-read-placed e s t i (step.Start o) r = tt
-read-placed e s t i (step.End at len) r = r .3

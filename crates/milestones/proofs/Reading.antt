@@ -19,7 +19,9 @@ use Rattle.cursor.specs.Inner.{Named}
 use Rattle.cursor.proofs.Named.{name-cut}
 use Rattle.numbers.proofs.Labels.{part-from}
 use Rattle.definition.specs.Milestones.{endsIn, isStart, isMilestone, baseOf}
-use Rattle.milestones.specs.Inner.{baseIn, Read}
+use Rattle.milestones.specs.Inner.{baseIn, amongMilestones, stepMeans, Placed}
+use Rattle.milestones.specs.Inner as among
+use Rattle.milestones.specs.declared.Step.{Step}
 use Rattle.milestones.specs.declared.Step.the-variants as step
 use Rattle.milestones.proofs.Endings.{too-short}
 
@@ -29,6 +31,18 @@ two-bytes name letter h = go (decLt (length name) 2)
     go : Dec (length name < 2) → 2 ≤ length name
     go (no l) = omega (arith, l)
     go (yes l) = let z : _≡_ {A = ℕ} 0 1 = let q : false ≡ true = too-short name letter l ∙ h in cc in absurd (omega arith)
+
+-- what a node is among milestones, by the tests of its entry and its name
+module _ (e : Entry) (s t : List ℕ) (i : ℕ) where
+  among-neither : isMilestone e (nodeAt s t i) ≡ false → among.neither ≡ amongMilestones e (nodeAt s t i)
+  among-neither y = rw y
+
+  module _ (y : isMilestone e (nodeAt s t i) ≡ true) where
+    among-start : isStart (nodeAt s t i) ≡ true → {len : ℕ} → len ≡ length (baseOf (nodeAt s t i)) → among.start i len ≡ amongMilestones e (nodeAt s t i)
+    among-start z l = rw (y, z) (ap (among.start i) l)
+
+    among-end : isStart (nodeAt s t i) ≡ false → {base : List ℕ} → base ≡ baseOf (nodeAt s t i) → among.end base ≡ amongMilestones e (nodeAt s t i)
+    among-end z b = rw (y, z) (ap among.end b)
 
 module _ (s t : List ℕ) (i a n : ℕ) (here : a ≡ startAt t i) (len : n ≡ lenAt t i) (fits : a + n ≤ length s) (at : NameSpan) (named : Named (take (a + n - a) (drop a s)) at) where
   abbrev pub x : List ℕ
@@ -64,25 +78,28 @@ module _ (s t : List ℕ) (i a n : ℕ) (here : a ≡ startAt t i) (len : n ≡ 
       ∙ ap (take (at .end - at .start - 2)) (sym p)
       ∙ take-take (at .end - at .start - 2) (a + n - (a + at .start)) (drop (a + at .start) s) (omega (arith, x-long)))
 
+  -- what is promised of the answer
+  abbrev ReadAs : Step → Type 0
+  ReadAs r = ((e : Entry) → e .category ≡ milestoneCategory → stepMeans s r ≡ amongMilestones e (nodeAt s t i)) × Placed s r
+
   -- by the tests of the name
-  module _ (e : Entry) (of : e .category ≡ milestoneCategory) where
-    milestone : (y z : Bool) → y ≡ endsIn 0x73 name → z ≡ endsIn 0x65 name → isMilestone e (nodeAt s t i) ≡ (y || z)
-    milestone y z y-is z-is = ap (λ (k : List ℕ). (eqb (e .category) milestoneCategory && (endsIn 0x73 k || endsIn 0x65 k))) (sym is) ∙ rw (eq-eqb (e .category) milestoneCategory of, ← y-is, ← z-is)
+  milestone : (e : Entry) → e .category ≡ milestoneCategory → (y z : Bool) → y ≡ endsIn 0x73 name → z ≡ endsIn 0x65 name → isMilestone e (nodeAt s t i) ≡ (y || z)
+  milestone e of y z y-is z-is = ap (λ (k : List ℕ). (eqb (e .category) milestoneCategory && (endsIn 0x73 k || endsIn 0x65 k))) (sym is) ∙ rw (eq-eqb (e .category) milestoneCategory of, ← y-is, ← z-is)
 
-    begins : (y : Bool) → y ≡ endsIn 0x73 name → isStart (nodeAt s t i) ≡ y
-    begins y y-is = ap (endsIn 0x73) (sym is) ∙ sym y-is
+  begins : (y : Bool) → y ≡ endsIn 0x73 name → isStart (nodeAt s t i) ≡ y
+  begins y y-is = ap (endsIn 0x73) (sym is) ∙ sym y-is
 
-    pub a-start : (y : Bool) → y ≡ endsIn 0x73 name → y ≡ true → Read e s t i (step.Start (record { node = i; «base_len» = at .end - at .start - 2 }))
-    a-start y y-is h = (milestone y (endsIn 0x65 name) y-is refl ∙ rw h, begins y y-is ∙ h, refl, base-length)
+  pub a-start : (y : Bool) → y ≡ endsIn 0x73 name → y ≡ true → ReadAs (step.Start (record { node = i; «base_len» = at .end - at .start - 2 }))
+  a-start y y-is h = (λ e of. among-start e s t i (milestone e of y (endsIn 0x65 name) y-is refl ∙ rw h) (begins y y-is ∙ h) base-length, tt)
 
-    pub an-end : (y z : Bool) → y ≡ endsIn 0x73 name → z ≡ endsIn 0x65 name → y ≡ false → z ≡ true → at .start ≤ at .end → Read e s t i (step.End (a + at .start) (at .end - at .start - 2))
-    an-end y z y-is z-is h g o =
-        let i = named .inside in
-        (milestone y z y-is z-is ∙ rw (h, g), begins y y-is ∙ h, base-place o, omega (arith, x-long))
+  pub an-end : (y z : Bool) → y ≡ endsIn 0x73 name → z ≡ endsIn 0x65 name → y ≡ false → z ≡ true → at .start ≤ at .end → ReadAs (step.End (a + at .start) (at .end - at .start - 2))
+  an-end y z y-is z-is h g o =
+      let l = named .inside in
+      (λ e of. among-end e s t i (milestone e of y z y-is z-is ∙ rw (h, g)) (begins y y-is ∙ h) (base-place o), omega (arith, x-long))
 
-    pub neither : (y z : Bool) → y ≡ endsIn 0x73 name → z ≡ endsIn 0x65 name → y ≡ false → z ≡ false → Read e s t i step.Neither
-    neither y z y-is z-is h g = milestone y z y-is z-is ∙ rw (h, g)
+  pub neither : (y z : Bool) → y ≡ endsIn 0x73 name → z ≡ endsIn 0x65 name → y ≡ false → z ≡ false → ReadAs step.Neither
+  neither y z y-is z-is h g = (λ e of. among-neither e s t i (milestone e of y z y-is z-is ∙ rw (h, g)), tt)
 
 -- a marker of another category is no milestone, whatever its name
-pub other-category : (e : Entry) (s t : List ℕ) (i : ℕ) (b : Bool) → b ≡ eqb (e .category) milestoneCategory → b ≡ false → isMilestone e (nodeAt s t i) ≡ false
+pub other-category : (e : Entry) (s t : List ℕ) (i : ℕ) (b : Bool) → b ≡ eqb (e .category) milestoneCategory → b ≡ false → among.neither ≡ amongMilestones e (nodeAt s t i)
 other-category e s t i b is h = let q : eqb (e .category) milestoneCategory ≡ false = sym is ∙ h in rw q

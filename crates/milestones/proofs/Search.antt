@@ -5,6 +5,7 @@ use native.Mathlib.Omega.{arith}
 use mathlib.Core.Path.{_≡_, refl, sym, ap, _∙_}
 use mathlib.Core.Bool.{Bool, true, false, _||_}
 use mathlib.Core.List.{List, [], _∷_}
+use mathlib.Core.Option.{Option, some, none}
 use lib.ListN.{getD}
 use Rattle.text.specs.Pick.{pick}
 use Rattle.tape.specs.Nodes.{Node, nodeAt}
@@ -13,23 +14,21 @@ use Rattle.state.specs.Inner.{openNodes, Opens}
 use Rattle.definition.specs.Outcome.{noStart}
 use Rattle.definition.specs.declared.OpenStart.{OpenStart}
 use Rattle.milestones.specs.Inner.{Measured, nearestIn}
-use Rattle.milestones.specs.declared.Found.{Found}
-use Rattle.milestones.specs.declared.Found.the-variants.{At, Nothing}
 use Rattle.text.specs.Bytes.{equal}
 
 -- a turn of the search
 module _ (s t : List ℕ) (opens : List OpenStart) (j : ℕ) (base : List ℕ) where
-  pub nowhere : j ≤ 0 → nearestIn s t opens j base ≡ Nothing
+  pub nowhere : j ≤ 0 → nearestIn s t opens j base ≡ none
   unfolding nearestIn
   nowhere h = let e : j ≡ 0 = omega arith in rw e
 
   module _ (h : 0 < j) where
-    turn : nearestIn s t opens j base ≡ pick (equal (baseOf (nodeAt s t (getD opens (j - 1) noStart .node))) base) (At (j - 1)) (nearestIn s t opens (j - 1) base)
+    turn : nearestIn s t opens j base ≡ pick (equal (baseOf (nodeAt s t (getD opens (j - 1) noStart .node))) base) (some (j - 1)) (nearestIn s t opens (j - 1) base)
     unfolding nearestIn
     turn = let e : j ≡ suc (j - 1) = omega arith in ap (λ (n : ℕ). nearestIn s t opens n base) e
 
     module _ (x : Bool) (is : x ≡ equal (baseOf (nodeAt s t (getD opens (j - 1) noStart .node))) base) where
-      pub hit : x ≡ true → nearestIn s t opens j base ≡ At (j - 1)
+      pub hit : x ≡ true → nearestIn s t opens j base ≡ some (j - 1)
       hit e = turn ∙ rw (← is, e)
 
       pub miss : x ≡ false → nearestIn s t opens j base ≡ nearestIn s t opens (j - 1) base
@@ -38,20 +37,20 @@ module _ (s t : List ℕ) (opens : List OpenStart) (j : ℕ) (base : List ℕ) w
 pub entry : (s t : List ℕ) (opens : List OpenStart) (k j : ℕ) → Opens s t opens k → j < k → Measured s t (getD opens j noStart .node) (getD opens j noStart .«base_len»)
 entry s t opens k j o h = record { spanned = o .spanned j h; is = o .bases j h }
 
-abbrev pub isFound : Found → Bool
-isFound (At j) = true
-isFound Nothing = false
+abbrev pub isFound : Option ℕ → Bool
+isFound (some j) = true
+isFound none = false
 
-nothing-at : {A : Type 0} (j : ℕ) → Nothing ≡ At j → A
-nothing-at j e = let z : _≡_ {A = ℕ} 0 1 = cc in absurd (omega arith)
+none-some : {A : Type 0} (j : ℕ) → none ≡ some j → A
+none-some j e = let z : _≡_ {A = ℕ} 0 1 = cc in absurd (omega arith)
 
 module _ (s t : List ℕ) (opens : List OpenStart) (base : List ℕ) where
-  pub found-inside : (k at : ℕ) → nearestIn s t opens k base ≡ At at → at < k
+  pub found-inside : (k at : ℕ) → nearestIn s t opens k base ≡ some at → at < k
   unfolding nearestIn
-  found-inside zero at e = nothing-at at e
+  found-inside zero at e = none-some at e
   found-inside (suc k) at e = go (equal (baseOf (nodeAt s t (getD opens k noStart .node))) base) e (found-inside k at)
     where
-      go : (b : Bool) → pick b (At k) (nearestIn s t opens k base) ≡ At at → (nearestIn s t opens k base ≡ At at → at < k) → at < suc k
+      go : (b : Bool) → pick b (some k) (nearestIn s t opens k base) ≡ some at → (nearestIn s t opens k base ≡ some at → at < k) → at < suc k
       go true h f = let z : k ≡ at = cc in omega arith
       go false h f = let z = f h in omega arith
 
@@ -61,18 +60,18 @@ module _ (s t : List ℕ) (opens : List OpenStart) (x : Node) where
   waits-found zero = refl
   waits-found (suc k) = go (sameBase (nodeAt s t (getD opens k noStart .node)) x) (waits-found k)
     where
-      go : (b : Bool) → waits x (openNodes s t opens k) ≡ isFound (nearestIn s t opens k (baseOf x)) → (b || waits x (openNodes s t opens k)) ≡ isFound (pick b (At k) (nearestIn s t opens k (baseOf x)))
+      go : (b : Bool) → waits x (openNodes s t opens k) ≡ isFound (nearestIn s t opens k (baseOf x)) → (b || waits x (openNodes s t opens k)) ≡ isFound (pick b (some k) (nearestIn s t opens k (baseOf x)))
       go true h = refl
       go false h = h
 
   -- without an open start of the base none is taken
-  pub none-taken : (k : ℕ) → nearestIn s t opens k (baseOf x) ≡ Nothing → without x (openNodes s t opens k) ≡ openNodes s t opens k
+  pub none-taken : (k : ℕ) → nearestIn s t opens k (baseOf x) ≡ none → without x (openNodes s t opens k) ≡ openNodes s t opens k
   unfolding without openNodes nearestIn
   none-taken zero e = refl
   none-taken (suc k) e = go (sameBase (nodeAt s t (getD opens k noStart .node)) x) e (none-taken k)
     where
-      go : (b : Bool) → pick b (At k) (nearestIn s t opens k (baseOf x)) ≡ Nothing → (nearestIn s t opens k (baseOf x) ≡ Nothing → without x (openNodes s t opens k) ≡ openNodes s t opens k) → pick b (openNodes s t opens k) (nodeAt s t (getD opens k noStart .node) ∷ without x (openNodes s t opens k)) ≡ nodeAt s t (getD opens k noStart .node) ∷ openNodes s t opens k
-      go true h f = nothing-at k (sym h)
+      go : (b : Bool) → pick b (some k) (nearestIn s t opens k (baseOf x)) ≡ none → (nearestIn s t opens k (baseOf x) ≡ none → without x (openNodes s t opens k) ≡ openNodes s t opens k) → pick b (openNodes s t opens k) (nodeAt s t (getD opens k noStart .node) ∷ without x (openNodes s t opens k)) ≡ nodeAt s t (getD opens k noStart .node) ∷ openNodes s t opens k
+      go true h f = none-some k (sym h)
       go false h f = ap (λ (ys : List Node). nodeAt s t (getD opens k noStart .node) ∷ ys) (f h)
 
 -- the entries behind an entry have moved down by one entry, up to n entries
@@ -90,16 +89,16 @@ module _ (s t : List ℕ) (opens opens′ : List OpenStart) (at : ℕ) where
   fewer n g = record { kept = g .kept; moved = λ m a b. g .moved m a (omega arith) }
 
   -- the latest of the base is taken
-  pub one-taken : (x : Node) (n : ℕ) → Gone opens opens′ n at → nearestIn s t opens (suc n) (baseOf x) ≡ At at → without x (openNodes s t opens (suc n)) ≡ openNodes s t opens′ n
+  pub one-taken : (x : Node) (n : ℕ) → Gone opens opens′ n at → nearestIn s t opens (suc n) (baseOf x) ≡ some at → without x (openNodes s t opens (suc n)) ≡ openNodes s t opens′ n
   unfolding without openNodes nearestIn
   one-taken x zero g e = go (sameBase (nodeAt s t (getD opens 0 noStart .node)) x) e
     where
-      go : (b : Bool) → pick b (At 0) Nothing ≡ At at → pick b [] (nodeAt s t (getD opens 0 noStart .node) ∷ []) ≡ []
+      go : (b : Bool) → pick b (some 0) none ≡ some at → pick b [] (nodeAt s t (getD opens 0 noStart .node) ∷ []) ≡ []
       go true h = refl
-      go false h = nothing-at at h
+      go false h = none-some at h
   one-taken x (suc n) g e = go (sameBase (nodeAt s t (getD opens (suc n) noStart .node)) x) e (one-taken x n (fewer n g))
     where
-      go : (b : Bool) → pick b (At (suc n)) (nearestIn s t opens (suc n) (baseOf x)) ≡ At at → (nearestIn s t opens (suc n) (baseOf x) ≡ At at → without x (openNodes s t opens (suc n)) ≡ openNodes s t opens′ n) → pick b (openNodes s t opens (suc n)) (nodeAt s t (getD opens (suc n) noStart .node) ∷ without x (openNodes s t opens (suc n))) ≡ openNodes s t opens′ (suc n)
+      go : (b : Bool) → pick b (some (suc n)) (nearestIn s t opens (suc n) (baseOf x)) ≡ some at → (nearestIn s t opens (suc n) (baseOf x) ≡ some at → without x (openNodes s t opens (suc n)) ≡ openNodes s t opens′ n) → pick b (openNodes s t opens (suc n)) (nodeAt s t (getD opens (suc n) noStart .node) ∷ without x (openNodes s t opens (suc n))) ≡ openNodes s t opens′ (suc n)
       go true h f = let z : suc n ≡ at = cc in sym (same-starts (suc n) (suc n) g (omega arith))
       go false h f =
           let l = found-inside s t opens (baseOf x) (suc n) at h in

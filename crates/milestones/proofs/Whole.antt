@@ -5,7 +5,8 @@ use native.Mathlib.Omega.{arith}
 use mathlib.Core.Path.{_≡_, refl, sym, ap, subst, _∙_}
 use mathlib.Core.Bool.{Bool, true, false, not, _&&_}
 use mathlib.Core.List.{List, [], _∷_, append-nil}
-use lib.ListN.{length, take, drop, set}
+use mathlib.Core.Option.{Option, some, none}
+use lib.ListN.{length, set}
 use Rattle.text.specs.Pick.{pick}
 use Rattle.tape.specs.Nodes.{Node, nodeAt}
 use Rattle.table.specs.Entries.{Entry}
@@ -19,14 +20,10 @@ use Rattle.definition.specs.Setters.{setOpenStarts}
 use Rattle.definition.specs.declared.OpenStart.{OpenStart}
 use Rattle.state.specs.Inner.{openNodes, stateOf, countsOf, withCounts, Opens}
 use Rattle.state.specs.declared.State.{State}
-use Rattle.milestones.specs.Inner.{Measured, Read, nearestIn, removed, takenBy, opensBy, pairedBy, withOpens, WroteEndAlone, Counted, Countable}
+use Rattle.milestones.specs.Inner.{Measured, AmongMilestones, start, end, neither, amongMilestones, nearestIn, removed, opensWithout, countWithout, opensBy, pairedBy, openAfterPair, withOpens, WroteEndAlone, Counted, Countable}
 use Rattle.milestones.specs.InnerStep.{MilestoneStep, Milestoned}
-use Rattle.milestones.specs.declared.Step.{Step}
-use Rattle.milestones.specs.declared.Step.the-variants as step
 use Rattle.milestones.specs.declared.Paired.{Paired}
 use Rattle.milestones.specs.declared.Paired.the-variants as paired
-use Rattle.milestones.specs.declared.Found.{Found}
-use Rattle.milestones.specs.declared.Found.the-variants.{At, Nothing}
 use Rattle.milestones.proofs.Search.{Gone, isFound, found-inside, waits-found, none-taken, one-taken}
 use Rattle.milestones.proofs.Moves.{gone}
 use Rattle.milestones.proofs.Kept.{starts-pushed, opens-pushed, opens-gone}
@@ -101,69 +98,79 @@ module _ (e : Entry) (s t : List ℕ) (i : ℕ) (opens : List OpenStart) (l : Li
   other h = let z : false ≡ alone = rw h in no-finding z (stepped opens (r .«open_len») (rw h) o (omega arith))
 
   -- a start
-  started : (b : OpenStart) → isMilestone e x ≡ true → isStart x ≡ true → b .node ≡ i → b .«base_len» ≡ length (baseOf x) → Spanned s t i → r .«open_len» < length opens → Milestoned e s t i opens l r (set opens (r .«open_len») b) l (withOpens r (r .«open_len» + 1))
-  started b y z here len sp room =
-      let m : Measured s t (b .node) (b .«base_len») = rw here (record { spanned = sp; is = len }) in
-      let w : openNodes s t (set opens (r .«open_len») b) (r .«open_len» + 1) ≡ x ∷ openNodes s t opens (r .«open_len») = starts-pushed opens (r .«open_len») b room s t ∙ ap (λ (n : ℕ). nodeAt s t n ∷ openNodes s t opens (r .«open_len»)) here in
+  abbrev entry : OpenStart
+  entry = record { node = i; «base_len» = length (baseOf x) }
+
+  started : isMilestone e x ≡ true → isStart x ≡ true → Spanned s t i → r .«open_len» < length opens → Milestoned e s t i opens l r (set opens (r .«open_len») entry) l (withOpens r (r .«open_len» + 1))
+  started y z sp room =
+      let m : Measured s t i (length (baseOf x)) = record { spanned = sp; is = refl } in
       let v : false ≡ alone = rw (y, z) in
-      no-finding v (stepped (set opens (r .«open_len») b) (r .«open_len» + 1) (rw (y, z) w) (opens-pushed opens (r .«open_len») b room s t o m) (omega arith))
+      no-finding v (stepped (set opens (r .«open_len») entry) (r .«open_len» + 1) (rw (y, z) (starts-pushed opens (r .«open_len») entry room s t)) (opens-pushed opens (r .«open_len») entry room s t o m) (omega arith))
 
   -- an end
   module _ (y : isMilestone e x ≡ true) (z : isStart x ≡ false) where
-    alone-is : (f : Found) → nearestIn s t opens (r .«open_len») (baseOf x) ≡ f → not (isFound f) ≡ alone
+    alone-is : (f : Option ℕ) → nearestIn s t opens (r .«open_len») (baseOf x) ≡ f → not (isFound f) ≡ alone
     alone-is f h =
         let w : waits x (openNodes s t opens (r .«open_len»)) ≡ isFound f = waits-found s t opens x (r .«open_len») ∙ ap isFound h in
         rw (y, z, w)
 
-    by-itself : nearestIn s t opens (r .«open_len») (baseOf x) ≡ Nothing → (l′ : List ℕ) (r′ : State) → WroteEndAlone t i l r l′ r′ → Milestoned e s t i opens l r opens l′ r′
+    by-itself : nearestIn s t opens (r .«open_len») (baseOf x) ≡ none → (l′ : List ℕ) (r′ : State) → WroteEndAlone t i l r l′ r′ → Milestoned e s t i opens l r opens l′ r′
     by-itself n l′ r′ w =
         let st : MilestoneStep e s t i opens r opens r = stepped opens (r .«open_len») (rw (y, z) (sym (none-taken s t opens x (r .«open_len») n))) o (omega arith) in
         record {
-          wrote = one-wrote alone true (error x milestoneMismatch endAlone) (error x milestoneMismatch endAlone) (alone-is Nothing n) refl (countsOf r) (countsOf r) l l′ (countsOf r′) refl (w .wrote);
+          wrote = one-wrote alone true (error x milestoneMismatch endAlone) (error x milestoneMismatch endAlone) (alone-is none n) refl (countsOf r) (countsOf r) l l′ (countsOf r′) refl (w .wrote);
           step = subst (λ (q : State). MilestoneStep e s t i opens (withCounts r (countsOf r′)) opens q) (sym (w .same)) (recounted (countsOf r′) st);
         }
 
-    room-alone : nearestIn s t opens (r .«open_len») (baseOf x) ≡ Nothing → Room (countsOf r) (given (milestoneChecks e (stateOf s t [] opens r) x)) → Room (countsOf r) (error (nodeAt [] t i) milestoneMismatch endAlone ∷ [])
-    room-alone n = one-fits alone true (error x milestoneMismatch endAlone) (error x milestoneMismatch endAlone) (alone-is Nothing n) refl (countsOf r) (countsOf r) refl
+    room-alone : nearestIn s t opens (r .«open_len») (baseOf x) ≡ none → Room (countsOf r) (given (milestoneChecks e (stateOf s t [] opens r) x)) → Room (countsOf r) (error (nodeAt [] t i) milestoneMismatch endAlone ∷ [])
+    room-alone n = one-fits alone true (error x milestoneMismatch endAlone) (error x milestoneMismatch endAlone) (alone-is none n) refl (countsOf r) (countsOf r) refl
 
-    ended : (at : ℕ) → nearestIn s t opens (r .«open_len») (baseOf x) ≡ At at → (opens′ : List OpenStart) → opens′ ≡ removed opens (r .«open_len») at → length opens′ ≡ length opens → Milestoned e s t i opens l r opens′ l (withOpens r (r .«open_len» - 1))
+    ended : (at : ℕ) → nearestIn s t opens (r .«open_len») (baseOf x) ≡ some at → (opens′ : List OpenStart) → opens′ ≡ removed opens (r .«open_len») at → length opens′ ≡ length opens → Milestoned e s t i opens l r opens′ l (withOpens r (r .«open_len» - 1))
     ended at n opens′ w len =
         let a = found-inside s t opens (baseOf x) (r .«open_len») at n in
         let up : r .«open_len» ≡ suc (r .«open_len» - 1) = omega arith in
         let up′ : r .«open_len» ≡ r .«open_len» - 1 + 1 = omega arith in
         let g : Gone opens opens′ (r .«open_len» - 1) at = rw w (gone opens (r .«open_len») at a (o .room)) in
-        let found : nearestIn s t opens (suc (r .«open_len» - 1)) (baseOf x) ≡ At at = ap (λ (n : ℕ). nearestIn s t opens n (baseOf x)) (sym up) ∙ n in
+        let found : nearestIn s t opens (suc (r .«open_len» - 1)) (baseOf x) ≡ some at = ap (λ (n : ℕ). nearestIn s t opens n (baseOf x)) (sym up) ∙ n in
         let taken : without x (openNodes s t opens (r .«open_len»)) ≡ openNodes s t opens′ (r .«open_len» - 1) = ap (λ (n : ℕ). without x (openNodes s t opens n)) up ∙ one-taken s t opens opens′ at x (r .«open_len» - 1) g found in
         let o′ : Opens s t opens (r .«open_len» - 1 + 1) = rw up′ at o in
-        no-finding (alone-is (At at) n) (stepped opens′ (r .«open_len» - 1) (rw (y, z) (sym taken)) (opens-gone s t opens opens′ (r .«open_len» - 1) at g (omega arith) len o′) (omega arith))
+        no-finding (alone-is (some at) n) (stepped opens′ (r .«open_len» - 1) (rw (y, z) (sym taken)) (opens-gone s t opens opens′ (r .«open_len» - 1) at g (omega arith) len o′) (omega arith))
 
-  -- by what is read of the node, the entry that it takes, and what is counted
-  pub countable : (step : Step) → Read e s t i step → (p : Paired) → p ≡ pairedBy step (takenBy s t opens (r .«open_len») step) (r .«open_len») → Room (countsOf r) (given (milestoneChecks e (stateOf s t [] opens r) x)) → Countable t i p r
-  countable step.Neither rd p p-is h = rw p-is tt
-  countable (step.Start b) rd p p-is h = rw p-is tt
-  countable (step.End at len) rd p p-is h = rw p-is (go (nearestIn s t opens (r .«open_len») (take len (drop at s))) refl)
+  -- by what the node is
+  by-cases : (P : AmongMilestones → Type 0) → (isMilestone e x ≡ false → P neither) → (isMilestone e x ≡ true → isStart x ≡ true → P (start i (length (baseOf x)))) → (isMilestone e x ≡ true → isStart x ≡ false → P (end (baseOf x))) → (m : AmongMilestones) → m ≡ amongMilestones e x → P m
+  by-cases P n a b m m-is = subst P (sym m-is) (go (isMilestone e x) (isStart x) refl refl)
     where
-      go : (f : Found) → nearestIn s t opens (r .«open_len») (take len (drop at s)) ≡ f → Countable t i (pairedBy (step.End at len) f (r .«open_len»)) r
-      go (At j) n = tt
-      go Nothing n = room-alone (rd .0) (rd .1) (rw (rd .2) at n) h
+      go : (y z : Bool) → isMilestone e x ≡ y → isStart x ≡ z → P (pick y (pick z (start i (length (baseOf x))) (end (baseOf x))) neither)
+      go false z y-is z-is = n y-is
+      go true true y-is z-is = a y-is z-is
+      go true false y-is z-is = b y-is z-is
 
-  pub milestoned : (step : Step) → Read e s t i step → Spanned s t i → r .«open_len» < length opens → (opens′ : List OpenStart) → opens′ ≡ opensBy step (takenBy s t opens (r .«open_len») step) opens (r .«open_len») → length opens′ ≡ length opens → (p : Paired) → p ≡ pairedBy step (takenBy s t opens (r .«open_len») step) (r .«open_len») → (l′ : List ℕ) (q : State) → Counted t i p l r l′ q → Milestoned e s t i opens l r opens′ l′ q
-  milestoned step.Neither rd sp room opens′ w len p p-is l′ q c =
-      let c′ : Counted t i (paired.Now (r .«open_len»)) l r l′ q = rw p-is at c in
-      rw (w, c′ .0, c′ .1) (other rd)
-  milestoned (step.Start b) rd sp room opens′ w len p p-is l′ q c =
-      let c′ : Counted t i (paired.Now (r .«open_len» + 1)) l r l′ q = rw p-is at c in
-      rw (w, c′ .0, c′ .1) (started b (rd .0) (rd .1) (rd .2) (rd .3) sp room)
-  milestoned (step.End at len) rd sp room opens′ w long p p-is l′ q c = go (nearestIn s t opens (r .«open_len») (take len (drop at s))) refl w p-is
+  pub countable : (m : AmongMilestones) → m ≡ amongMilestones e x → (n : Option ℕ) → n ≡ pairedBy s t opens (r .«open_len») m → Room (countsOf r) (given (milestoneChecks e (stateOf s t [] opens r) x)) → Countable t i n r
+  countable m m-is n n-is h = rw n-is (by-cases (λ (m : AmongMilestones). Countable t i (pairedBy s t opens (r .«open_len») m) r) (λ y. tt) (λ y z. tt) (λ y z. go y z (nearestIn s t opens (r .«open_len») (baseOf x)) refl) m m-is)
     where
-      go : (f : Found) → nearestIn s t opens (r .«open_len») (take len (drop at s)) ≡ f → opens′ ≡ opensBy (step.End at len) f opens (r .«open_len») → p ≡ pairedBy (step.End at len) f (r .«open_len») → Milestoned e s t i opens l r opens′ l′ q
-      go (At j) n w p-is =
-          let c′ : Counted t i (paired.Now (r .«open_len» - 1)) l r l′ q = rw p-is at c in
-          rw (c′ .0, c′ .1) (ended (rd .0) (rd .1) j (rw (rd .2) at n) opens′ w long)
-      go Nothing n w p-is =
-          let c′ : Counted t i paired.Alone l r l′ q = rw p-is at c in
-          rw w (by-itself (rd .0) (rd .1) (rw (rd .2) at n) l′ q c′)
+      go : isMilestone e x ≡ true → isStart x ≡ false → (f : Option ℕ) → nearestIn s t opens (r .«open_len») (baseOf x) ≡ f → Countable t i (countWithout (r .«open_len») f) r
+      go y z (some j) f-is = tt
+      go y z none f-is = room-alone y z f-is h
+
+  -- from the open starts and their number to the promise
+  module _ (sp : Spanned s t i) (room : r .«open_len» < length opens) (opens′ : List OpenStart) (long : length opens′ ≡ length opens) (l′ : List ℕ) (q : State) where
+    abbrev Leads : List OpenStart → Option ℕ → Type 0
+    Leads ys n = opens′ ≡ ys → Counted t i n l r l′ q → Milestoned e s t i opens l r opens′ l′ q
+
+    end-leads : isMilestone e x ≡ true → isStart x ≡ false → (f : Option ℕ) → nearestIn s t opens (r .«open_len») (baseOf x) ≡ f → Leads (opensWithout opens (r .«open_len») f) (countWithout (r .«open_len») f)
+    end-leads y z (some j) f-is w c = rw (c .0, c .1) (ended y z j f-is opens′ w long)
+    end-leads y z none f-is w c = rw w (by-itself y z f-is l′ q c)
+
+    leads : (m : AmongMilestones) → m ≡ amongMilestones e x → Leads (opensBy s t opens (r .«open_len») m) (pairedBy s t opens (r .«open_len») m)
+    leads =
+        by-cases (λ (m : AmongMilestones). Leads (opensBy s t opens (r .«open_len») m) (pairedBy s t opens (r .«open_len») m))
+        (λ y w c. rw (w, c .0, c .1) (other y))
+        (λ y z w c. rw (w, c .0, c .1) (started y z sp room))
+        (λ y z. end-leads y z (nearestIn s t opens (r .«open_len») (baseOf x)) refl)
+
+  pub milestoned : (m : AmongMilestones) → m ≡ amongMilestones e x → Spanned s t i → r .«open_len» < length opens → (opens′ : List OpenStart) → opens′ ≡ opensBy s t opens (r .«open_len») m → length opens′ ≡ length opens → (n : Option ℕ) → n ≡ pairedBy s t opens (r .«open_len») m → (l′ : List ℕ) (q : State) → Counted t i n l r l′ q → Milestoned e s t i opens l r opens′ l′ q
+  milestoned m m-is sp room opens′ w long n n-is l′ q c = leads sp room opens′ long l′ q m m-is w (rw n-is at c)
 
 -- the room that is asked for, where an end stands alone
-pub countable-alone : (t : List ℕ) (i : ℕ) (p : Paired) (r : State) → p ≡ paired.Alone → Countable t i p r → Room (countsOf r) (error (nodeAt [] t i) milestoneMismatch endAlone ∷ [])
+pub countable-alone : (t : List ℕ) (i : ℕ) (p : Paired) (r : State) → p ≡ paired.Alone → Countable t i (openAfterPair p) r → Room (countsOf r) (error (nodeAt [] t i) milestoneMismatch endAlone ∷ [])
 countable-alone t i p r h c = rw h at c

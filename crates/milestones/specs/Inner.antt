@@ -1,12 +1,13 @@
 -- What the inner functions promise: how a marker is read, the search among the open starts, and their list without an entry and with one more.
 use Prim.Native.Nat.{ℕ, zero, suc, _+_, _-_, _≤_}
 use mathlib.Core.Path.{_≡_}
-use mathlib.Core.Bool.{Bool, true, false, _&&_, _||_}
+use mathlib.Core.Bool.{Bool, _&&_, _||_}
 use mathlib.Core.List.{List, [], _∷_, _++_}
+use mathlib.Core.Option.{Option, some, none}
 use lib.Dec.{eqb}
 use lib.ListN.{length, getD, set, take, drop}
 use Rattle.text.specs.Pick.{pick}
-use Rattle.tape.specs.Nodes.{nodeAt}
+use Rattle.tape.specs.Nodes.{Node, nodeAt}
 use Rattle.table.specs.Entries.{Entry, milestoneCategory}
 use Rattle.cursor.specs.Inner.{Spanned}
 use Rattle.definition.specs.Checks.{error}
@@ -39,21 +40,39 @@ pub record Measured (s t : List ℕ) (node len : ℕ) : Type 0 where
   pub spanned : Spanned s t node
   pub is : len ≡ length (baseOf (nodeAt s t node))
 
--- the latest of the first k entries with the base
-unfoldable pub nearestIn : List ℕ → List ℕ → List OpenStart → ℕ → List ℕ → Found
-nearestIn s t opens zero base = Nothing
-nearestIn s t opens (suc k) base = pick (equal (baseOf (nodeAt s t (getD opens k noStart .node))) base) (At k) (nearestIn s t opens k base)
+-- the latest of the first k entries with the base, if there is one
+unfoldable pub nearestIn : List ℕ → List ℕ → List OpenStart → ℕ → List ℕ → Option ℕ
+nearestIn s t opens zero base = none
+nearestIn s t opens (suc k) base = pick (equal (baseOf (nodeAt s t (getD opens k noStart .node))) base) (some k) (nearestIn s t opens k base)
+
+-- the entry that the code's answer names
+abbrev pub foundEntry : Found → Option ℕ
+foundEntry (At k) = some k
+foundEntry Nothing = none
 
 -- the later ones of the first k entries each moved down by one, from an entry on
 unfoldable pub removed : List OpenStart → ℕ → ℕ → List OpenStart
 removed opens k at = take at opens ++ take (k - 1 - at) (drop (at + 1) opens) ++ drop (at + (k - 1 - at)) opens
 
--- what a marker is among milestones, as the code reads it: a start as an entry, an end with the place of its base in the source, or neither
-abbrev pub Read : Entry → List ℕ → List ℕ → ℕ → Step → Type 0
-Read e s t i step.Neither = isMilestone e (nodeAt s t i) ≡ false
-Read e s t i (step.Start o) = (isMilestone e (nodeAt s t i) ≡ true) × (isStart (nodeAt s t i) ≡ true) × (o .node ≡ i) × (o .«base_len» ≡ length (baseOf (nodeAt s t i)))
-Read e s t i (step.End at len) =
-    (isMilestone e (nodeAt s t i) ≡ true) × (isStart (nodeAt s t i) ≡ false) × (take len (drop at s) ≡ baseOf (nodeAt s t i)) × (at + len ≤ length s)
+-- what a marker is among milestones: a start with its node and the length of its base, an end with its base, or neither
+pub data AmongMilestones : Type 0 where
+  start : ℕ → ℕ → AmongMilestones
+  end : List ℕ → AmongMilestones
+  neither : AmongMilestones
+
+-- "A milestone start or end and its base are read from its marker as in the Rust"
+abbrev pub amongMilestones : Entry → Node → AmongMilestones
+amongMilestones e x = pick (isMilestone e x) (pick (isStart x) (start (x .number) (length (baseOf x))) (end (baseOf x))) neither
+
+-- the base that stands at a place of the source
+abbrev pub baseAt : List ℕ → ℕ → ℕ → List ℕ
+baseAt s at len = take len (drop at s)
+
+-- what the code's answer says of a marker: an end has the place of its base in the source
+abbrev pub stepMeans : List ℕ → Step → AmongMilestones
+stepMeans s (step.Start o) = start (o .node) (o .«base_len»)
+stepMeans s (step.End at len) = end (baseAt s at len)
+stepMeans s step.Neither = neither
 
 -- the place of an end's base lies in the source
 abbrev pub Placed : List ℕ → Step → Type 0
@@ -61,29 +80,32 @@ Placed s (step.End at len) = at + len ≤ length s
 Placed s (step.Start o) = Unit {0}
 Placed s step.Neither = Unit {0}
 
--- the base that stands at a place of the source
-abbrev pub baseAt : List ℕ → ℕ → ℕ → List ℕ
-baseAt s at len = take len (drop at s)
+-- the open starts without the entry that an end takes, if it takes one
+abbrev pub opensWithout : List OpenStart → ℕ → Option ℕ → List OpenStart
+opensWithout opens k (some j) = removed opens k j
+opensWithout opens k none = opens
 
--- the entry that an end takes
-abbrev pub takenBy : List ℕ → List ℕ → List OpenStart → ℕ → Step → Found
-takenBy s t opens k (step.End at len) = nearestIn s t opens k (baseAt s at len)
-takenBy s t opens k (step.Start o) = Nothing
-takenBy s t opens k step.Neither = Nothing
+-- how many they are then; none for an end without an open start
+abbrev pub countWithout : ℕ → Option ℕ → Option ℕ
+countWithout k (some j) = some (k - 1)
+countWithout k none = none
 
--- the open starts after it: one more, one less, or unchanged
-abbrev pub opensBy : Step → Found → List OpenStart → ℕ → List OpenStart
-opensBy step.Neither f opens k = opens
-opensBy (step.Start o) f opens k = set opens k o
-opensBy (step.End at len) (At j) opens k = removed opens k j
-opensBy (step.End at len) Nothing opens k = opens
+-- the open starts after a marker, of which there are k before it: a start is one more, an end takes the latest of its base
+abbrev pub opensBy : List ℕ → List ℕ → List OpenStart → ℕ → AmongMilestones → List OpenStart
+opensBy s t opens k (start node len) = set opens k (record { node = node; «base_len» = len })
+opensBy s t opens k (end base) = opensWithout opens k (nearestIn s t opens k base)
+opensBy s t opens k neither = opens
 
--- how many they are, or that an end has no open start
-abbrev pub pairedBy : Step → Found → ℕ → Paired
-pairedBy step.Neither f k = paired.Now k
-pairedBy (step.Start o) f k = paired.Now (k + 1)
-pairedBy (step.End at len) (At j) k = paired.Now (k - 1)
-pairedBy (step.End at len) Nothing k = paired.Alone
+-- how many they are; none for an end without an open start
+abbrev pub pairedBy : List ℕ → List ℕ → List OpenStart → ℕ → AmongMilestones → Option ℕ
+pairedBy s t opens k (start node len) = some (k + 1)
+pairedBy s t opens k (end base) = countWithout k (nearestIn s t opens k base)
+pairedBy s t opens k neither = some k
+
+-- the number that the code's answer says
+abbrev pub openAfterPair : Paired → Option ℕ
+openAfterPair (paired.Now n) = some n
+openAfterPair paired.Alone = none
 
 -- the record with another number of open starts
 abbrev pub withOpens : State → ℕ → State
@@ -95,11 +117,11 @@ pub record WroteEndAlone (t : List ℕ) (i : ℕ) (l : List ℕ) (r : State) (l�
   pub same : q ≡ withCounts r (countsOf q)
 
 -- the record after a marker, by the number of open starts after it: an end without one has its finding
-abbrev pub Counted : List ℕ → ℕ → Paired → List ℕ → State → List ℕ → State → Type 0
-Counted t i (paired.Now n) l r l′ q = (q ≡ withOpens r n) × (l′ ≡ l)
-Counted t i paired.Alone l r l′ q = WroteEndAlone t i l r l′ q
+abbrev pub Counted : List ℕ → ℕ → Option ℕ → List ℕ → State → List ℕ → State → Type 0
+Counted t i (some n) l r l′ q = (q ≡ withOpens r n) × (l′ ≡ l)
+Counted t i none l r l′ q = WroteEndAlone t i l r l′ q
 
 -- there is room for its finding
-abbrev pub Countable : List ℕ → ℕ → Paired → State → Type 0
-Countable t i (paired.Now n) r = Unit {0}
-Countable t i paired.Alone r = Room (countsOf r) (error (nodeAt [] t i) milestoneMismatch endAlone ∷ [])
+abbrev pub Countable : List ℕ → ℕ → Option ℕ → State → Type 0
+Countable t i (some n) r = Unit {0}
+Countable t i none r = Room (countsOf r) (error (nodeAt [] t i) milestoneMismatch endAlone ∷ [])

@@ -13,7 +13,7 @@ ghost use Rattle.cursor.specs.Inner.{Spanned};
 ghost use Rattle.definition.specs.Checks.{error};
 ghost use Rattle.definition.specs.Milestones.{endsIn, baseOf};
 ghost use Rattle.state.specs.Inner.{countsOf, Opens};
-ghost use Rattle.milestones.specs.Inner.{baseIn, Measured, Read, Placed, baseAt, nearestIn, removed, takenBy, opensBy, pairedBy, withOpens, WroteEndAlone, Counted, Countable};
+ghost use Rattle.milestones.specs.Inner.{baseIn, Measured, amongMilestones, stepMeans, Placed, baseAt, nearestIn, foundEntry, removed, opensBy, pairedBy, openAfterPair, withOpens, WroteEndAlone, Counted, Countable};
 ghost use Rattle.milestones.specs.InnerStep.{Milestoned, Steppable};
 ghost use Rattle.findings.specs.Codes.{milestoneMismatch, endAlone};
 ghost use Rattle.text.specs.Bytes.{equal};
@@ -67,7 +67,7 @@ pub fn milestone_base(name: &[u8]) -> &[u8]
 // What a marker whose category is milestone is, by its name.
 fn step_named(source: &[u8], tape: &[u8], i: usize) -> Step
     requires { ⌜ (Spanned (now source) (now tape) i) × (i < 4294967296) ⌝ }
-    ensures { λ r. ⌜ ((e : Entry) → e .category ≡ milestoneCategory → Read e (now (source .entry)) (now (tape .entry)) i r) ⌝ }
+    ensures { λ r. ⌜ ((e : Entry) → e .category ≡ milestoneCategory → stepMeans (now (source .entry)) r ≡ amongMilestones e (nodeAt (now (source .entry)) (now (tape .entry)) i)) × (Placed (now (source .entry)) r) ⌝ }
 {
     let a = tape::start_at(tape, i) as usize;
     let n = tape::len_at(tape, i) as usize;
@@ -91,7 +91,7 @@ fn step_named(source: &[u8], tape: &[u8], i: usize) -> Step
 // What a marker is. Most are no milestones, and their names aren't read.
 pub fn step_of(m: MarkerInfo, source: &[u8], tape: &[u8], i: usize) -> Step
     requires { ⌜ (Spanned (now source) (now tape) i) × (i < 4294967296) ⌝ }
-    ensures { λ r. ⌜ Read (entryOfInfo m) (now (source .entry)) (now (tape .entry)) i r ⌝ }
+    ensures { λ r. ⌜ (stepMeans (now (source .entry)) r ≡ amongMilestones (entryOfInfo m) (nodeAt (now (source .entry)) (now (tape .entry)) i)) × (Placed (now (source .entry)) r) ⌝ }
 {
     if state::is_of(m, table::MILESTONE) {
         return step_named(source, tape, i);
@@ -152,7 +152,7 @@ fn nearest(
     len: usize,
 ) -> Found
     requires { ⌜ (Opens (now source) (now tape) (now opens) k) × (at + len ≤ length (now source)) ⌝ }
-    ensures { λ r. ⌜ (now (opens .exit) ≡ now (opens .entry)) × (r ≡ nearestIn (now (source .entry)) (now (tape .entry)) (now (opens .entry)) k (baseAt (now (source .entry)) at len)) ⌝ }
+    ensures { λ r. ⌜ (now (opens .exit) ≡ now (opens .entry)) × (foundEntry r ≡ nearestIn (now (source .entry)) (now (tape .entry)) (now (opens .entry)) k (baseAt (now (source .entry)) at len)) ⌝ }
 {
     let mut j = k;
     while 0 < j {
@@ -190,7 +190,7 @@ fn remove(opens: &mut [OpenStart], k: usize, at: usize)
 // The open starts after a marker, of which there are k before it: a start is one more, an end takes the latest of its base.
 fn pair(source: &[u8], tape: &[u8], step: Step, opens: &mut [OpenStart], k: usize) -> Paired
     requires { ⌜ (Opens (now source) (now tape) (now opens) k) × (k < length (now opens)) × (Placed (now source) step) ⌝ }
-    ensures { λ r. ⌜ (now (opens .exit) ≡ opensBy step (takenBy (now (source .entry)) (now (tape .entry)) (now (opens .entry)) k step) (now (opens .entry)) k) × (r ≡ pairedBy step (takenBy (now (source .entry)) (now (tape .entry)) (now (opens .entry)) k step) k) ⌝ }
+    ensures { λ r. ⌜ (now (opens .exit) ≡ opensBy (now (source .entry)) (now (tape .entry)) (now (opens .entry)) k (stepMeans (now (source .entry)) step)) × (openAfterPair r ≡ pairedBy (now (source .entry)) (now (tape .entry)) (now (opens .entry)) k (stepMeans (now (source .entry)) step)) ⌝ }
 {
     match step {
         Step::Neither => Paired::Now(k),
@@ -210,8 +210,8 @@ fn pair(source: &[u8], tape: &[u8], step: Step, opens: &mut [OpenStart], k: usiz
 
 // The record after a marker, by the number of open starts after it.
 pub fn after_pair(tape: &[u8], i: usize, p: Paired, rec: State, list: &mut [u64]) -> State
-    requires { ⌜ (i < count (now tape)) × Countable (now tape) i p rec ⌝ }
-    ensures { λ r. ⌜ Counted (now (tape .entry)) i p (now (list .entry)) rec (now (list .exit)) r ⌝ }
+    requires { ⌜ (i < count (now tape)) × Countable (now tape) i (openAfterPair p) rec ⌝ }
+    ensures { λ r. ⌜ Counted (now (tape .entry)) i (openAfterPair p) (now (list .entry)) rec (now (list .exit)) r ⌝ }
 {
     match p {
         Paired::Now(n) => with_open(rec, n),

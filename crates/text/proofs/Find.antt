@@ -14,9 +14,12 @@ use borrow.Author.Tests.{ne-eqb, lt-leb}
 use Rattle.text.specs.Pick.{Range, range, within, pick}
 use Rattle.text.specs.declared.Decoded.{Decoded}
 use Rattle.text.specs.Utf8.{begins, table3-7, widthOf, fits, decoded, decode}
+use Rattle.text.specs.Blank.{blank}
+use Rattle.text.specs.Inner.{blankIs}
 use Rattle.text.specs.Number.{digit}
 use Rattle.text.specs.Characters.{chars, bytesBefore, find, findByte}
 use Rattle.text.proofs.Rows.{within-lo, within-hi, row-short}
+use Rattle.text.proofs.Blank.{ascii-not-blank}
 use Rattle.text.proofs.Scan.{ascii-one}
 use Rattle.text.proofs.Decode.{decode-1, decode-width}
 use Rattle.text.proofs.Chars.{chars-nil, chars-cons, tested-by, past, stops}
@@ -115,6 +118,20 @@ past-ascii p s i h l y =
 -- one that passes ends the search
 pub stops-ascii : (p : ℕ → Bool) (s : List ℕ) (i : ℕ) → i < length s → getD s i 0 < 0x80 → p (getD s i 0) ≡ true → i + find p (drop i s) ≡ i
 stops-ascii p s i h l y = stops p s i h (tested-by p s i _ (p (getD s i 0)) true (decode-1 s i h (ascii-one s i h l)) refl y)
+
+-- one above the space, where blanks are looked for, and where others are
+module _ (s : List ℕ) (i : ℕ) (t : Bool) (some : i < length s) (byte : within 0x21 0x7F (getD s i 0) ≡ true) where
+  abbrev ascii : getD s i 0 < 0x80
+  ascii = let h = within-hi 0x21 0x7F (getD s i 0) byte in omega arith
+
+  plain : blank (getD s i 0) ≡ false
+  plain = let h = within-lo 0x21 0x7F (getD s i 0) byte in ascii-not-blank (getD s i 0) (omega arith) ascii
+
+  pub past-plain : t ≡ true → i + find (blankIs t) (drop i s) ≡ i + 1 + find (blankIs t) (drop (i + 1) s)
+  past-plain y = past-ascii (blankIs t) s i some ascii (rw (y, plain))
+
+  pub stops-plain : t ≡ false → i + find (blankIs t) (drop i s) ≡ i
+  stops-plain y = stops-ascii (blankIs t) s i some ascii (rw (y, plain))
 
 module _ (p : ℕ → Bool) (flat : (c d : ℕ) → 0x80 ≤ c → 0x80 ≤ d → p c ≡ p d) where
   -- bytes that do not pass are passed over

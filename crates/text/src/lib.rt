@@ -370,31 +370,24 @@ pub fn is_char_boundary(s: &[u8], at: usize) -> bool
     if at == 0 { true } else { 0xBF < b }
 }
 
-// Whether a code point is one of the property's, by its ranges.
-fn is_listed(cp: u32) -> bool
-    ensures { λ r. ⌜ r ≡ blank cp ⌝ }
-{
-    match cp {
-        0x09..=0x0D | 0x2000..=0x200A => true,
-        0x20 | 0x85 | 0xA0 | 0x1680 | 0x2028 | 0x2029 | 0x202F | 0x205F | 0x3000 => true,
-        _ => false,
-    }
-}
-
-// The property White_Space; below 85 a few tests suffice.
+// The property White_Space, by its ranges.
 pub fn is_blank(cp: u32) -> bool
     ensures { λ r. ⌜ r ≡ blank cp ⌝ }
 {
-    if 0x84 < cp {
-        return is_listed(cp);
+    match cp {
+        0x09..=0x0D
+        | 0x20
+        | 0x85
+        | 0xA0
+        | 0x1680
+        | 0x2000..=0x200A
+        | 0x2028
+        | 0x2029
+        | 0x202F
+        | 0x205F
+        | 0x3000 => true,
+        _ => false,
     }
-    if cp == 0x20 {
-        return true;
-    }
-    if cp < 0x09 {
-        return false;
-    }
-    if cp <= 0x0D { true } else { false }
 }
 
 fn agree(a: bool, b: bool) -> bool
@@ -403,13 +396,21 @@ fn agree(a: bool, b: bool) -> bool
     if a { b } else { !b }
 }
 
-// The place of the first character, from a place on, that is blank (t is true) or isn't (t is false), or the length.
+// The place of the first character, from a place on, that is blank (t is true) or isn't (t is false), or the length. Most bytes
+// are ASCII above the space, which are no blanks and need no decoding.
 pub fn find_from(s: &[u8], from: usize, t: bool) -> usize
     requires { ⌜ from ≤ length (now s) ⌝ }
     ensures { λ r. ⌜ Ended (now (s .entry)) from (find (blankIs t) (drop from (now (s .entry)))) r ⌝ }
 {
     let mut i = from;
     while i < s.len() {
+        if holds(s[i], 0x21, 0x7F) {
+            if !t {
+                return i;
+            }
+            i += 1;
+            continue;
+        }
         let d = decode_in(s, i);
         if agree(t, is_blank(d.cp)) {
             return i;

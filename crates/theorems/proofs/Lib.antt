@@ -1,3 +1,4 @@
 pub mod Composed
+pub mod Printed
 pub mod Theorems
 pub mod WrongResults

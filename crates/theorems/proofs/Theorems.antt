@@ -61,13 +61,18 @@ use Rattle.validate.proofs.Lists as lists
 use Rattle.messages.specs.Message.{requestOf, messageText}
 use Rattle.text.specs.Pick.{AllOf}
 use Rattle.messages.proofs.HasMessage as message
+use Rattle.listing.specs.Listing.{isTooLarge, mostHeld, messageRoom, listedEach, listing}
+use Rattle.listing.specs.Pieces.{headLines, heldFindings, pieceOf, nextOf, piecesOf, nextAfter, heldTexts}
+use Rattle.listing.proofs.Joined as pieces
 use Rattle.tally.specs.Tally.{tallyRefusal, tallyOf, sum}
 use Rattle.tally.proofs.Sums as sums
 use Rattle.tally.proofs.Total as totals
 use Rattle.trial_items.specs.Items as items
 use Rattle.trial_items.proofs.Settled as settled
 use Rattle.theorems.specs.Conditions.{Condition}
+use Rattle.theorems.specs.ListingExample.{tableFile, output}
 use Rattle.theorems.proofs.Composed as composed
+use Rattle.theorems.proofs.Printed as printed
 use Rattle.refusals.specs.Refusal.{refuse}
 
 -- ---- What `validate::check` promises
@@ -262,6 +267,26 @@ tally-sums words none-given = sums.tally-sums words none-given
 -- The tally of a checked document's list that is not cut sums to its total.
 pub tally-total : (l : Lent) → refusal l ≡ none → 8 * length (listOf l) ≤ length (l .list) → sum (tallyOf (take (8 * length (listOf l)) (listAfter l))) ≡ length (listOf l)
 tally-total l none-given fits = totals.tally-total l none-given fits
+
+-- ---- The listing
+
+-- "`findings=` is the total, and only the held ones are printed"
+-- The head and the pieces that `put_head` and `put_findings` write, one behind another, are the listing, whatever room each piece has, if they reach the last held finding. The working lists suffice for 4,096 nodes, which no file exceeds, and the findings list holds 1,024.
+pub listing-joined : (l : Lent) → isTooLarge (l .table) (l .source) (l .tape) ≡ false → 4096 ≤ length (l .seen) → 4096 ≤ length (l .openStarts) → length (l .list) ≡ 8 * mostHeld → (rooms : List ℕ)
+    → nextAfter (heldTexts messageRoom l) 0 rooms ≡ length (heldTexts messageRoom l)
+    → headLines (answer l) ++ piecesOf (heldTexts messageRoom l) 0 rooms ≡ listing (l .table) (l .source) (l .tape)
+listing-joined l small seen opens holds rooms all = pieces.listing-joined l small seen opens holds rooms all
+
+-- A piece with 512 bytes more than the room for a message has one finding at least, and it fits.
+pub piece-goes-on : (room : ℕ) (table s t : List ℕ) → length s ≤ 1048576 → (n : ℕ) (words : List ℕ) → n ≤ wholeRecords words → (k out : ℕ) → k < n → room + 512 ≤ out → k < nextOf (listedEach room table s t (heldFindings n words)) k out
+piece-goes-on room table s t short n words few k out left enough = pieces.piece-goes-on room table s t short n words few k out left enough
+
+pub piece-fits : (texts : List (List ℕ)) (k room : ℕ) → length (pieceOf texts k room) ≤ room
+piece-fits texts k room = pieces.piece-fits texts k room
+
+-- "Whole output"
+pub listing-example : listing tableFile (examples.example1 .source) (examples.tapeOf (examples.example1 .nodes)) ≡ output
+listing-example = printed.listing-example
 
 -- ---- Examples
 

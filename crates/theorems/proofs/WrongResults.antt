@@ -2,10 +2,11 @@
 -- Assumes nothing.
 use Prim.Native.Nat.{ℕ, zero, suc, _+_, _<_, _≤_}
 use native.Mathlib.Omega.{arith}
-use mathlib.Core.Path.{_≡_, refl, _∙_, sym, ap}
-use mathlib.Core.Bool.{true}
+use mathlib.Core.Path.{_≡_, refl, _∙_, sym, ap, subst}
+use mathlib.Core.Bool.{Bool, true, false, _&&_, false≢true}
 use mathlib.Core.List.{List, [], _∷_, _++_}
-use mathlib.Core.Option.{Option, some, none}
+use mathlib.Core.Option.{Option, some, none, Option·none-ne-some}
+use lib.Dec.{leb, ltb}
 use lib.ListN.{length, getD, set}
 use borrow.Author.Tests.{eqb-false, ltb-true, leb-true}
 use Rattle.text.specs.Literal.{ascii}
@@ -16,20 +17,22 @@ use Rattle.text.specs.Bytes.{equal, all, oneOf}
 use Rattle.text.specs.Characters.{charsPast, bytesBefore, findByte}
 use Rattle.text.specs.Words.{trimStart, kept, trim, blankText, wordFrom}
 use Rattle.text.specs.Number.{allDigits, valueFrom, digitsFrom, digits, parsed}
+use Rattle.text.proofs.Bool.{and-left, and-right}
 use Rattle.buffer.specs.Over.{Put, over}
 use Rattle.buffer.specs.Decimal.{decimal, decimalFuel}
 use Rattle.refusals.specs.Refusal.{Refusal, firstBad}
 use Rattle.tape.specs.Nodes.{Node, half, word, nodes, nodeAt}
 use Rattle.tape.specs.Forest as forests
-use Rattle.tape.specs.Forest.{followed, runs}
+use Rattle.tape.specs.Forest.{followed, runs, done, one, inner, Accepted}
 use Rattle.tape.specs.Reading as reading
 use Rattle.table.specs.Lines as lines
 use Rattle.table.specs.Entries as entries
 use Rattle.table.specs.Names as names
 use Rattle.table.specs.Books as books
+use Rattle.table.specs.Inner.{pack, Sound, Indexed}
 use Rattle.table.specs.declared.MarkerInfo.{MarkerInfo}
-use Rattle.table.specs.declared.Category.the-variants.{Milestone}
-use Rattle.table.specs.declared.TextRole.the-variants.{Content}
+use Rattle.table.specs.declared.Category.the-variants.{Milestone, Paragraph}
+use Rattle.table.specs.declared.TextRole.the-variants.{Content, Boundary}
 use Rattle.cursor.specs.Inner.{Spanned}
 use Rattle.cursor.specs.Names.{namePart}
 use Rattle.cursor.specs.Info.{infoAt}
@@ -37,33 +40,38 @@ use Rattle.numbers.specs.Verse.{partOf, versePart, verseEnd, next, inSequence}
 use Rattle.numbers.specs.Label as label
 use Rattle.attributes.specs.Attributes as attributes
 use Rattle.attachment.specs.Attached.{isAlternate, isPublished, plain, runOf, startOffsets, among}
-use Rattle.findings.specs.Inner.{Wrote, counted, countLimit}
+use Rattle.attachment.specs.declared.Attached.{Attached}
+use Rattle.findings.specs.Finding.{Finding}
+use Rattle.findings.specs.Inner.{Wrote, Room, counted, countLimit}
 use Rattle.findings.specs.Written.{put, overlay}
 use Rattle.findings.specs.declared.Counts.{Counts}
-use Rattle.definition.specs.State.{WalkState, Anchor, outside}
+use Rattle.definition.specs.State.{WalkState, WalkContext, Anchor, NodeChecked, outside}
 use Rattle.definition.specs.Checks as checks
 use Rattle.definition.specs.Milestones.{baseOf, milestoneChecks, waits, afterMilestone}
 use Rattle.definition.specs.Walk.{Walked, walk, openChecked}
-use Rattle.definition.specs.Document.{textBefore, unclosed, closing}
+use Rattle.definition.specs.Document.{textBefore, unclosed, closing, findings, versesVisited}
 use Rattle.definition.specs.Outcome.{Lent, repeated, cleared, noStart, refusal, answer, listAfter, seenAfter, openAfter, checkedOf, ofSeverity}
 use Rattle.definition.specs.Outcome as outcome
 use Rattle.definition.specs.declared.OpenStart.{OpenStart}
 use Rattle.definition.specs.Examples as worked
+use Rattle.definition.proofs.Demand3.{checked-accepted}
+use Rattle.definition.proofs.Worked.{worked-examples, worked-accepted}
 use Rattle.state.specs.Inner.{Opens, stateOf, anchorOf, openNodes, latest, countsOf, withCounts, withAnchor}
 use Rattle.state.specs.InnerSetters.{putHasId, putHasChapter}
 use Rattle.state.specs.declared.State.{State}
-use Rattle.milestones.specs.Inner.{nearestIn, removed, baseAt, takenBy, opensBy, pairedBy, Placed, withOpens}
+use Rattle.milestones.specs.Inner.{AmongMilestones, amongMilestones, stepMeans, Placed, baseAt, nearestIn, foundEntry, removed, opensBy, pairedBy, openAfterPair, withOpens}
+use Rattle.milestones.specs.Inner as among
 use Rattle.milestones.specs.InnerStep.{Milestoned, Steppable}
-use Rattle.milestones.specs.declared.Found.{Found}
 use Rattle.milestones.specs.declared.Found.the-variants.{At, Nothing}
 use Rattle.milestones.specs.declared.Step.{Step}
 use Rattle.milestones.specs.declared.Step.the-variants as step
-use Rattle.milestones.specs.declared.Paired.{Paired}
 use Rattle.milestones.specs.declared.Paired.the-variants as paired
 use Rattle.closing.specs.Inner.{Left}
+use Rattle.walk.specs.Inner.{nowhere, behind, Ready, Visitable, Visited, visitFindings, visitState, Passable, PassedBy, numbersAfter}
 use Rattle.validate.specs.Entry.{lent, answerOf}
-use Rattle.validate.specs.Inner.{fresh}
+use Rattle.validate.specs.Inner.{fresh, fromTable, Fit, Ran, Finished}
 use Rattle.validate.specs.declared.Report.{Report}
+use Rattle.validate.specs.declared.Answer.{Answer}
 use Rattle.validate.specs.declared.Answer.the-variants as answers
 use Rattle.message_texts.specs.Filled.{filled, joined, allTexts, codeOf, formOf}
 use Rattle.message_texts.specs.Texts.{documentTexts, numberTexts, markerTexts, attributeTexts}
@@ -76,9 +84,14 @@ use Rattle.messages.specs.declared.MessageAnswer.the-variants as message-answer
 use Rattle.messages.specs.declared.MessagesAnswer.the-variants as messages-answers
 use Rattle.tally.specs.Tally.{tallyRefusal, withCode, countsFrom, countsAfter, tallyAnswerOf}
 use Rattle.tally.specs.declared.Tallied.the-variants as tallied
-use Rattle.listing.specs.Lines.{refusedLines, checkedLines}
+use Rattle.listing.specs.Lines.{refusedLines, checkedLines, placeFrom}
+use Rattle.listing.specs.LinesAndColumns.{eachFrom, linesFrom, columnsFrom}
+use Rattle.listing.specs.Listing.{listing}
+use Rattle.listing.specs.Pieces.{headLines, wholeIn, pieceOf, nextOf}
 use Rattle.harkoxin.specs.Words.{answerWords, messagesWords}
 use Rattle.harkoxin.specs.Report.{reportAnswer, reportText}
+use Rattle.theorems.specs.ListingExample.{tableFile, output}
+use Rattle.theorems.proofs.Printed.{listing-example}
 
 -- ---- Inputs, and what the laws read of results
 
@@ -97,15 +110,10 @@ nodeIn k opens = getD opens k noStart .node
 abbrev wordIn : ℕ → List ℕ → ℕ
 wordIn k words = getD words k 0
 
--- the entry that a search finds, from 1; 0 for none
-abbrev entryFound : Found → ℕ
-entryFound Nothing = 0
-entryFound (At k) = suc k
-
--- how many open starts a marker leaves, from 1; 0 for an end without an open start
-abbrev leftOpen : Paired → ℕ
-leftOpen paired.Alone = 0
-leftOpen (paired.Now k) = suc k
+-- the entry that a search finds, or how many open starts a marker leaves, from 1; 0 for none
+abbrev fromOne : Option ℕ → ℕ
+fromOne none = 0
+fromOne (some k) = suc k
 
 -- the number of the first node
 abbrev firstNumber : List Node → ℕ
@@ -154,7 +162,7 @@ push-over e = eqb-false 5 3 refl (ap (nodeIn 0) e)
 -- ---- milestones::nearest
 
 -- the search in example 9 for the base that stands at a place
-abbrev nearestHere : ℕ → ℕ → ℕ → Found
+abbrev nearestHere : ℕ → ℕ → ℕ → Option ℕ
 nearestHere k at len = nearestIn (here .source) (here .tape) (start 5 ∷ start 7 ∷ []) k (baseAt (here .source) at len)
 
 -- these inputs meet what the search requires
@@ -173,25 +181,25 @@ nearest-allowed = (record { room = leb-true 2 2 refl; spanned = spanned; bases =
     bases (suc (suc j)) l = absurd (omega arith)
 
 -- the right results
-nearest-right : (nearestHere 2 28 2 ≡ At 1) × (nearestHere 1 28 2 ≡ At 0) × (nearestHere 2 1 2 ≡ Nothing)
+nearest-right : (nearestHere 2 28 2 ≡ some 1) × (nearestHere 1 28 2 ≡ some 0) × (nearestHere 2 1 2 ≡ none)
 unfolding nearestIn ascii worked.example9 worked.tapeOf equal namePart bytesBefore charsPast word blank inAny blankRanges utf8.decode utf8.decoded utf8.widthOf utf8.widthBy utf8.table3-7 utf8.begins
 nearest-right = (refl, refl, refl)
 
 -- a search that finds nothing
-nearest-nothing : Nothing ≡ nearestHere 2 28 2 → ⊥
-nearest-nothing e = eqb-false 0 2 refl (ap entryFound (e ∙ nearest-right .0))
+nearest-nothing : foundEntry Nothing ≡ nearestHere 2 28 2 → ⊥
+nearest-nothing e = eqb-false 0 2 refl (ap fromOne (e ∙ nearest-right .0))
 
 -- a search that finds the earliest start and not the latest
-nearest-earliest : At 0 ≡ nearestHere 2 28 2 → ⊥
-nearest-earliest e = eqb-false 1 2 refl (ap entryFound (e ∙ nearest-right .0))
+nearest-earliest : foundEntry (At 0) ≡ nearestHere 2 28 2 → ⊥
+nearest-earliest e = eqb-false 1 2 refl (ap fromOne (e ∙ nearest-right .0))
 
 -- a search that looks past the first k entries
-nearest-past : At 1 ≡ nearestHere 1 28 2 → ⊥
-nearest-past e = eqb-false 2 1 refl (ap entryFound (e ∙ nearest-right .1))
+nearest-past : foundEntry (At 1) ≡ nearestHere 1 28 2 → ⊥
+nearest-past e = eqb-false 2 1 refl (ap fromOne (e ∙ nearest-right .1))
 
 -- a search that takes any base for its own: `id` stands at byte 1
-nearest-any : At 1 ≡ nearestHere 2 1 2 → ⊥
-nearest-any e = eqb-false 2 0 refl (ap entryFound (e ∙ nearest-right .2))
+nearest-any : foundEntry (At 1) ≡ nearestHere 2 1 2 → ⊥
+nearest-any e = eqb-false 2 0 refl (ap fromOne (e ∙ nearest-right .2))
 
 -- ---- milestones::remove
 
@@ -214,10 +222,10 @@ remove-empties e = eqb-false 0 7 refl (ap (nodeIn 1) e)
 
 -- the open starts, and how many they are, after a marker of example 9 that finds the start of node 5 open
 abbrev opensHere : Step → List OpenStart
-opensHere s = opensBy s (takenBy (here .source) (here .tape) (start 5 ∷ noStart ∷ []) 1 s) (start 5 ∷ noStart ∷ []) 1
+opensHere s = opensBy (here .source) (here .tape) (start 5 ∷ noStart ∷ []) 1 (stepMeans (here .source) s)
 
-abbrev pairedHere : Step → Paired
-pairedHere s = pairedBy s (takenBy (here .source) (here .tape) (start 5 ∷ noStart ∷ []) 1 s) 1
+abbrev pairedHere : Step → Option ℕ
+pairedHere s = pairedBy (here .source) (here .tape) (start 5 ∷ noStart ∷ []) 1 (stepMeans (here .source) s)
 
 -- these inputs meet what it requires, with an end whose base stands at byte 28
 pair-allowed : Opens (here .source) (here .tape) (start 5 ∷ noStart ∷ []) 1 × (1 < length (start 5 ∷ noStart ∷ [])) × Placed (here .source) (step.End 28 2)
@@ -233,7 +241,7 @@ pair-allowed = (record { room = leb-true 1 2 refl; spanned = spanned; bases = ba
     bases (suc j) l = absurd (omega arith)
 
 -- the right results of an end with this base, and of one with the base `id`, which stands at byte 1
-pair-right : (pairedHere (step.End 28 2) ≡ paired.Now 0) × (pairedHere (step.End 1 2) ≡ paired.Alone)
+pair-right : (pairedHere (step.End 28 2) ≡ some 0) × (pairedHere (step.End 1 2) ≡ none)
 unfolding nearestIn ascii worked.example9 worked.tapeOf equal namePart bytesBefore charsPast word blank inAny blankRanges utf8.decode utf8.decoded utf8.widthOf utf8.widthBy utf8.table3-7 utf8.begins
 pair-right = (refl, refl)
 
@@ -242,24 +250,24 @@ pair-start-lost : start 5 ∷ noStart ∷ [] ≡ opensHere (step.Start (start 7)
 pair-start-lost e = eqb-false 0 7 refl (ap (nodeIn 1) e)
 
 -- a start that is not counted
-pair-start-uncounted : paired.Now 1 ≡ pairedHere (step.Start (start 7)) → ⊥
-pair-start-uncounted e = eqb-false 2 3 refl (ap leftOpen e)
+pair-start-uncounted : openAfterPair (paired.Now 1) ≡ pairedHere (step.Start (start 7)) → ⊥
+pair-start-uncounted e = eqb-false 2 3 refl (ap fromOne e)
 
 -- a marker that is neither and is added
 pair-neither-added : start 5 ∷ start 7 ∷ [] ≡ opensHere step.Neither → ⊥
 pair-neither-added e = eqb-false 7 0 refl (ap (nodeIn 1) e)
 
 -- an end that leaves its start open
-pair-end-keeps : paired.Now 1 ≡ pairedHere (step.End 28 2) → ⊥
-pair-end-keeps e = eqb-false 2 1 refl (ap leftOpen (e ∙ pair-right .0))
+pair-end-keeps : openAfterPair (paired.Now 1) ≡ pairedHere (step.End 28 2) → ⊥
+pair-end-keeps e = eqb-false 2 1 refl (ap fromOne (e ∙ pair-right .0))
 
 -- an end that misses its start
-pair-end-alone : paired.Alone ≡ pairedHere (step.End 28 2) → ⊥
-pair-end-alone e = eqb-false 0 1 refl (ap leftOpen (e ∙ pair-right .0))
+pair-end-alone : openAfterPair paired.Alone ≡ pairedHere (step.End 28 2) → ⊥
+pair-end-alone e = eqb-false 0 1 refl (ap fromOne (e ∙ pair-right .0))
 
 -- an end that takes a start of another base
-pair-end-any : paired.Now 0 ≡ pairedHere (step.End 1 2) → ⊥
-pair-end-any e = eqb-false 1 0 refl (ap leftOpen (e ∙ pair-right .1))
+pair-end-any : openAfterPair (paired.Now 0) ≡ pairedHere (step.End 1 2) → ⊥
+pair-end-any e = eqb-false 1 0 refl (ap fromOne (e ∙ pair-right .1))
 
 -- ---- milestones::milestone
 
@@ -321,6 +329,64 @@ milestone-start-lost l l′ opens m = eqb-false 0 1 refl (ap (λ st. length (st 
 milestone-start-other : (l l′ : List ℕ) (rest : List OpenStart) → MilestonedHere 5 l (start 7 ∷ rest) l′ (withOpens fresh 1) → ⊥
 unfolding openNodes
 milestone-start-other l l′ rest m = eqb-false 7 5 refl (ap (λ st. firstNumber (st .openStarts)) (m .step .state []) ∙ ap firstNumber (milestone-right .2))
+
+-- ---- milestones::step_of
+
+-- what a node of example 9 is under an entry of the table
+abbrev amongHere : MarkerInfo → ℕ → AmongMilestones
+amongHere m i = amongMilestones (entries.entryOfInfo m) (nodeAt (here .source) (here .tape) i)
+
+-- the entry of `\p` in the examples' table
+abbrev paragraphInfo : MarkerInfo
+paragraphInfo = record { «name_start» = 123; «name_len» = 1; category = Paragraph; «text_role» = Boundary }
+
+-- what the code's answer says of it
+abbrev meant : Step → AmongMilestones
+meant s = stepMeans (here .source) s
+
+-- as numbers: 0 for neither; 1 for a start, its node and the length of its base; 2 for an end, and the bytes of its base
+abbrev asNumbers : AmongMilestones → List ℕ
+asNumbers among.neither = 0 ∷ []
+asNumbers (among.start node len) = 1 ∷ node ∷ len ∷ []
+asNumbers (among.end base) = 2 ∷ base
+
+-- nodes 5 and 9 meet what it requires
+step-of-allowed : (Spanned (here .source) (here .tape) 5 × (5 < 4294967296)) × (Spanned (here .source) (here .tape) 9 × (9 < 4294967296))
+step-of-allowed = ((milestone-allowed .0 .spanned, milestone-allowed .0 .low), (milestone-allowed .1 .spanned, milestone-allowed .1 .low))
+
+-- the right results: node 5 is a start, node 9 an end; a node whose entry is a paragraph's is neither, whatever its name
+step-of-right : (amongHere milestoneInfo 5 ≡ among.start 5 2) × (amongHere milestoneInfo 9 ≡ among.end (ascii "qt")) × (amongHere paragraphInfo 5 ≡ among.neither)
+unfolding ascii worked.example9 worked.tapeOf equal namePart bytesBefore charsPast word blank inAny blankRanges utf8.decode utf8.decoded utf8.widthOf utf8.widthBy utf8.table3-7 utf8.begins
+step-of-right = (refl, refl, refl)
+
+-- a start read as neither
+step-of-start-passed : meant step.Neither ≡ amongHere milestoneInfo 5 → ⊥
+step-of-start-passed e = eqb-false 0 1 refl (ap (λ m. wordIn 0 (asNumbers m)) (e ∙ step-of-right .0))
+
+-- a start read as an end
+step-of-start-ends : (at len : ℕ) → meant (step.End at len) ≡ amongHere milestoneInfo 5 → ⊥
+step-of-start-ends at len e = eqb-false 2 1 refl (ap (λ m. wordIn 0 (asNumbers m)) (e ∙ step-of-right .0))
+
+-- a start with another node
+step-of-other-node : meant (step.Start (start 7)) ≡ amongHere milestoneInfo 5 → ⊥
+step-of-other-node e = eqb-false 7 5 refl (ap (λ m. wordIn 1 (asNumbers m)) (e ∙ step-of-right .0))
+
+-- a start with the length of its whole name
+step-of-whole-name : meant (step.Start (record { node = 5; «base_len» = 4 })) ≡ amongHere milestoneInfo 5 → ⊥
+step-of-whole-name e = eqb-false 4 2 refl (ap (λ m. wordIn 2 (asNumbers m)) (e ∙ step-of-right .0))
+
+-- an end with another base: `id`, which stands at byte 1
+step-of-other-base : meant (step.End 1 2) ≡ amongHere milestoneInfo 9 → ⊥
+unfolding ascii worked.example9
+step-of-other-base e = eqb-false 0x69 0x71 refl (ap (λ m. wordIn 1 (asNumbers m)) (e ∙ step-of-right .1))
+
+-- an end whose base leaves the source
+step-of-leaves-source : (source : List ℕ) (len : ℕ) → Placed source (step.End (length source) (suc len)) → ⊥
+step-of-leaves-source source len p = absurd (omega arith)
+
+-- a start under an entry of another category
+step-of-any-category : meant (step.Start (start 5)) ≡ amongHere paragraphInfo 5 → ⊥
+step-of-any-category e = eqb-false 1 0 refl (ap (λ m. wordIn 0 (asNumbers m)) (e ∙ step-of-right .2))
 
 -- ---- closing::clear_opens
 
@@ -703,6 +769,72 @@ put-checked-swapped : Put (checkedLines 1 0 0 1) (repeated 0 55) 0 (checkedLines
 unfolding checkedLines ascii decimal decimalFuel repeated over
 put-checked-swapped p = eqb-false 0x30 0x31 refl (ap (wordIn 23) (p .list))
 
+-- ---- listing::put_head
+
+-- a document whose check is cut, with one finding that it found and none that it wrote
+abbrev cutReport : Report
+cutReport = record { total = 1; written = 0; verses = 0; errors = 1; warnings = 0; infos = 0 }
+
+-- what is written in place of the total
+head-written : (l l′ : List ℕ) (r : ℕ) → Put (headLines (answerOf (answers.Cut cutReport))) l 0 l′ r → l′ ≡ over l 0 (checkedLines 1 0 0 0) → l ≡ repeated 0 55 → ⊥
+unfolding checkedLines ascii decimal decimalFuel repeated over
+head-written l l′ r p e z = eqb-false 0x30 0x31 refl (ap (wordIn 53) (ap (λ (o : List ℕ). over o 0 (checkedLines 1 0 0 0)) (sym z) ∙ sym e ∙ p .list ∙ ap (λ (o : List ℕ). over o 0 (checkedLines 1 0 0 1)) z))
+
+-- a refusal's head for a checked document: 34 bytes in place of 55
+head-refused : (l l′ : List ℕ) → Put (headLines (answerOf (answers.Cut cutReport))) l 0 l′ 34 → ⊥
+unfolding checkedLines ascii decimal decimalFuel
+head-refused l l′ p = eqb-false 34 55 refl (p .end)
+
+-- ---- listing::put_findings
+
+-- two findings whose lines are `ab` and `cde`
+abbrev twoTexts : List (List ℕ)
+twoTexts = ascii "ab" ∷ ascii "cde" ∷ []
+
+-- the right pieces: with room for four bytes the first, then the second; with room for five both; with room for one none
+pieces-right : (pieceOf twoTexts 0 4 ≡ ascii "ab") × (nextOf twoTexts 0 4 ≡ 1) × (pieceOf twoTexts 1 4 ≡ ascii "cde") × (nextOf twoTexts 0 5 ≡ 2) × (nextOf twoTexts 0 1 ≡ 0)
+unfolding ascii wholeIn joined
+pieces-right = (refl, refl, refl, refl, refl)
+
+-- a piece that is cut inside a finding
+piece-cut : (l l′ : List ℕ) → Put (pieceOf twoTexts 0 4) l 0 l′ 4 → ⊥
+unfolding ascii wholeIn joined
+piece-cut l l′ p = eqb-false 4 2 refl (p .end)
+
+-- a piece that goes on past a finding which it has no room for
+piece-skips : 2 ≡ nextOf twoTexts 0 4 → ⊥
+unfolding ascii wholeIn
+piece-skips e = eqb-false 2 1 refl e
+
+-- a piece that stops though the next finding has room
+piece-stops : 1 ≡ nextOf twoTexts 0 5 → ⊥
+unfolding ascii wholeIn
+piece-stops e = eqb-false 1 2 refl e
+
+-- a piece that begins with the first finding again
+piece-repeats : Put (pieceOf twoTexts 1 4) (repeated 0 4) 0 (ascii "ab" ++ repeated 0 2) 3 → ⊥
+unfolding ascii wholeIn joined repeated over
+piece-repeats p = eqb-false 0x61 0x63 refl (ap (wordIn 0) (p .list))
+
+-- ---- listing::lines_and_columns
+
+-- a line that is not counted: byte 1 of a source that begins with byte 10 stands on line 2
+line-missed : repeated 0 2 ≡ over (repeated 0 2) 0 (linesFrom (10 ∷ []) 0 2) → ⊥
+unfolding repeated over eachFrom placeFrom
+line-missed e = eqb-false 0 1 refl (ap (wordIn 0) e)
+
+-- a column that goes on counting on the next line
+column-kept : 1 ∷ 2 ∷ [] ≡ over (repeated 0 2) 0 (columnsFrom (10 ∷ []) 0 2) → ⊥
+unfolding repeated over eachFrom placeFrom
+column-kept e = eqb-false 2 1 refl (ap (wordIn 1) e)
+
+-- ---- check_exercise: the listing
+
+-- a listing without the lines of its finding: 56 bytes in place of 159
+listing-bare : listing tableFile (worked.example1 .source) (worked.tapeOf (worked.example1 .nodes)) ≡ checkedLines 0 1 0 1 → ⊥
+unfolding checkedLines ascii decimal decimalFuel output
+listing-bare e = eqb-false (length output) (length (checkedLines 0 1 0 1)) refl (ap length (sym listing-example ∙ e))
+
 -- ---- walk::walk
 
 -- the walk of some nodes of an example, from a record, as the promise has it
@@ -747,3 +879,405 @@ walk-anchor-dropped n l l′ w = let z : suc n ≡ 0 = ap (λ c. c .warnings) (w
 -- a walk that forgets the anchor which it is given
 walk-anchor-forgotten : (n : ℕ) (l l′ : List ℕ) → Wrote (walkAt worked.example5 5 13 afterChapter .findings) l (warnings 0) l′ (warnings (suc n)) → ⊥
 walk-anchor-forgotten n l l′ w = let z : suc n ≡ 0 = ap (λ c. c .warnings) (w .counts ∙ walk-right .3) in absurd (omega arith)
+
+-- ---- What the functions below are lent
+
+-- the index of a table: a word for each entry
+unfoldable packed : List entries.Entry → List ℕ
+packed [] = []
+packed (e ∷ es) = pack e ∷ packed es
+
+packed-each : (es : List entries.Entry) (k : ℕ) (e : entries.Entry) → entries.nth es k ≡ some e → getD (packed es) k 0 ≡ pack e
+unfolding packed entries.nth
+packed-each [] k e h = absurd (Option·none-ne-some e h)
+packed-each (x ∷ es) zero e h = let same : x ≡ e = cc in ap pack same
+packed-each (x ∷ es) (suc k) e h = packed-each es k e h
+
+-- whether each entry keeps its bounds
+abbrev bounded : List ℕ → entries.Entry → Bool
+bounded t e = leb (e .name .start + e .name .len) (length t) && (ltb (e .name .start) 65536 && (leb 1 (e .name .len) && (leb (e .name .len) 16 && (ltb (e .category) 8 && ltb (e .role) 3))))
+
+unfoldable allBounded : List ℕ → List entries.Entry → Bool
+allBounded t [] = true
+allBounded t (e ∷ es) = bounded t e && allBounded t es
+
+sound-of : (t : List ℕ) (e : entries.Entry) → bounded t e ≡ true → Sound t e
+sound-of t e h =
+    let h₁ = and-right (leb (e .name .start + e .name .len) (length t)) _ h in
+    let h₂ = and-right (ltb (e .name .start) 65536) _ h₁ in
+    let h₃ = and-right (leb 1 (e .name .len)) _ h₂ in
+    let h₄ = and-right (leb (e .name .len) 16) _ h₃ in
+    record {
+      inside = leb-true _ _ (and-left _ _ h);
+      start-low = ltb-true _ _ (and-left _ _ h₁);
+      named = leb-true _ _ (and-left _ _ h₂);
+      short = leb-true _ _ (and-left _ _ h₃);
+      category-low = ltb-true _ _ (and-left _ _ h₄);
+      role-low = ltb-true _ _ (and-right (ltb (e .category) 8) _ h₄);
+    }
+
+sound-each : (t : List ℕ) (es : List entries.Entry) → allBounded t es ≡ true → (k : ℕ) (e : entries.Entry) → entries.nth es k ≡ some e → Sound t e
+unfolding allBounded entries.nth
+sound-each t [] h k e is = absurd (Option·none-ne-some e is)
+sound-each t (x ∷ es) h zero e is = let same : x ≡ e = cc in subst (Sound t) same (sound-of t x (and-left (bounded t x) (allBounded t es) h))
+sound-each t (x ∷ es) h (suc k) e is = sound-each t es (and-right (bounded t x) (allBounded t es) h) k e is
+
+-- the examples' table has 15 entries, and this is its index
+abbrev index : List ℕ
+index = packed (entries.entries worked.exampleTable)
+
+indexed-parts : (length (entries.entries worked.exampleTable) ≡ 15) × (length index ≡ 15) × (allBounded worked.exampleTable (entries.entries worked.exampleTable) ≡ true)
+unfolding packed allBounded ascii worked.exampleTable equal lines.lines lines.categories lines.roles entries.position entries.entriesOf entries.entries
+indexed-parts = (refl, refl, refl)
+
+indexed : Indexed worked.exampleTable index 15
+indexed =
+    let long = indexed-parts .1 in
+    record {
+      count = sym (indexed-parts .0);
+      few = leb-true 15 512 refl;
+      room = omega arith;
+      each = packed-each (entries.entries worked.exampleTable);
+      sound = sound-each worked.exampleTable (entries.entries worked.exampleTable) (indexed-parts .2);
+    }
+
+-- the tape of an example, and that the examples below are accepted
+abbrev tapeIn : worked.Example → List ℕ
+tapeIn x = worked.tapeOf (x .nodes)
+
+abbrev AcceptedIn : worked.Example → Type 0
+AcceptedIn x = Accepted (x .source) (tapeIn x)
+
+examples-accepted : AcceptedIn worked.example1 × AcceptedIn worked.example5 × AcceptedIn worked.example9 × AcceptedIn worked.example13 × AcceptedIn worked.shorterDocument
+unfolding worked.examples worked.refusalsOf worked.noneOf
+examples-accepted =
+    let of : (k : ℕ) → getD (worked.refusalsOf worked.examples) k none ≡ getD (worked.noneOf worked.examples) k none = λ k. ap (λ (rs : List (Option Refusal)). getD rs k none) worked-accepted in
+    (checked-accepted (worked.lentOf worked.example1) (of 0), checked-accepted (worked.lentOf worked.example5) (of 4), checked-accepted (worked.lentOf worked.example9) (of 8), checked-accepted (worked.lentOf worked.example13) (of 12), checked-accepted (worked.lentOf worked.shorterDocument) (of 15))
+
+-- no open start
+none-open : (s t : List ℕ) (opens : List OpenStart) → Opens s t opens 0
+none-open s t opens = record { room = omega arith; spanned = λ j l. absurd (omega arith); bases = λ j l. absurd (omega arith) }
+
+-- ---- walk::visit
+
+-- `\p` is entry 3 of the examples' table
+paragraph-entry : entries.nth (entries.entries worked.exampleTable) 3 ≡ some (entries.entryOfInfo paragraphInfo)
+unfolding ascii worked.exampleTable equal lines.lines lines.categories lines.roles entries.position entries.entriesOf entries.entries entries.nth
+paragraph-entry = refl
+
+-- no attached numbers
+abbrev noNumbers : Attached
+noNumbers = record { count = 0; first = 0; second = 0 }
+
+-- after `\id` alone
+abbrev afterIdentification : State
+afterIdentification = putHasId true fresh
+
+-- the findings of a `\p` that is node 5 and whose run ends at `to`, from a record
+abbrev paragraphFindings : worked.Example → ℕ → State → List Finding
+paragraphFindings x to r = visitFindings worked.exampleTable (x .source) (tapeIn x) outside (entries.entryOfInfo paragraphInfo) 5 to (repeated 0 13) (repeated noStart 13) r
+
+-- what its visit requires, and what is promised of it
+abbrev VisitAllowed : worked.Example → ℕ → State → Type 0
+VisitAllowed x to r =
+    Ready worked.exampleTable index 15 (x .source) (tapeIn x) 1 5 to (repeated 0 13) (repeated noStart 13) r
+    × Visitable (x .source) (tapeIn x) 5 to noNumbers r
+    × (paragraphInfo .«name_start» + paragraphInfo .«name_len» ≤ length worked.exampleTable)
+    × Room (countsOf r) (paragraphFindings x to r)
+
+abbrev VisitedAt : worked.Example → ℕ → State → List ℕ → List ℕ → List OpenStart → List ℕ → State → Type 0
+VisitedAt x to r l seen opens l′ q = Visited worked.exampleTable (x .source) (tapeIn x) outside (entries.entryOfInfo paragraphInfo) 5 to (repeated 0 13) (repeated noStart 13) l r seen opens l′ q
+
+-- in example 1 its verse is out of sequence, and in example 13 it stands before any chapter; both meet what the visit requires
+visit-allowed : VisitAllowed worked.example1 9 afterChapter × VisitAllowed worked.example13 7 afterIdentification
+unfolding ascii worked.exampleTable worked.tapeOf utf8.table3-7 utf8.begins utf8.widthBy utf8.widthOf utf8.decoded utf8.decode inAny blankRanges blank charsPast bytesBefore findByte trimStart kept trim blankText wordFrom allDigits valueFrom digitsFrom digits parsed half word nodes followed runs equal all oneOf lines.lines lines.categories lines.roles entries.position entries.entriesOf entries.entries entries.nth names.frontMatter names.noteOnly books.bookCodes books.codeFrom books.bookOf attributes.attributesFindings namePart partOf versePart verseEnd next inSequence label.labelOf isAlternate isPublished plain runOf startOffsets among checks.given checks.afterVerse checks.leafChecked checks.bookCode checks.afterId checks.numberMarkers afterMilestone openChecked walk latest openNodes repeated worked.example1 worked.example13
+visit-allowed = (
+  (
+    record {
+      indexed = indexed;
+      accepted = examples-accepted .0;
+      nested = inner refl refl (one refl refl (one refl refl (done refl))) (done refl);
+      start = leb-true 1 5 refl;
+      within = leb-true 9 9 refl;
+      starts = none-open _ _ _;
+      bounded = leb-true 1 4294967296 refl;
+      seen-room = leb-true 4 13 refl;
+      open-room = leb-true 4 13 refl;
+      verses-room = leb-true 4 4611686018427387904 refl;
+      anchored = behind (ltb-true 4 9 refl) (done refl);
+    },
+    record { more = ltb-true 5 9 refl; opened = refl; attached = refl },
+    leb-true 124 598 refl,
+    leb-true 1 countLimit refl,
+  ),
+  (
+    record {
+      indexed = indexed;
+      accepted = examples-accepted .3;
+      nested = inner refl refl (done refl) (done refl);
+      start = leb-true 1 5 refl;
+      within = leb-true 7 7 refl;
+      starts = none-open _ _ _;
+      bounded = leb-true 1 4294967296 refl;
+      seen-room = leb-true 2 13 refl;
+      open-room = leb-true 2 13 refl;
+      verses-room = leb-true 2 4611686018427387904 refl;
+      anchored = nowhere;
+    },
+    record { more = ltb-true 5 7 refl; opened = refl; attached = refl },
+    leb-true 124 598 refl,
+    leb-true 1 countLimit refl,
+  ),
+)
+
+-- the verses counted after it in example 1
+abbrev paragraphVerses : ℕ
+paragraphVerses = visitState worked.exampleTable (worked.example1 .source) (tapeIn worked.example1) outside (entries.entryOfInfo paragraphInfo) 5 9 (repeated 0 13) (repeated noStart 13) afterChapter .verses
+
+-- the right results: one warning and one verse in example 1; in example 13 one error, BodyParagraphBeforeChapter
+visit-right : (counted (warnings 0) (paragraphFindings worked.example1 9 afterChapter) ≡ warnings 1) × (paragraphVerses ≡ 1) × (counted (errors 0) (paragraphFindings worked.example13 7 afterIdentification) ≡ errors 1) × (overlay (repeated 0 8) 0 (paragraphFindings worked.example13 7 afterIdentification) ≡ 0 ∷ 24 ∷ 9 ∷ 2 ∷ 5 ∷ 0 ∷ 0 ∷ 0 ∷ [])
+unfolding ascii worked.exampleTable worked.tapeOf utf8.table3-7 utf8.begins utf8.widthBy utf8.widthOf utf8.decoded utf8.decode inAny blankRanges blank charsPast bytesBefore findByte trimStart kept trim blankText wordFrom allDigits valueFrom digitsFrom digits parsed half word nodes followed runs equal all oneOf lines.lines lines.categories lines.roles entries.position entries.entriesOf entries.entries entries.nth names.frontMatter names.noteOnly books.bookCodes books.codeFrom books.bookOf attributes.attributesFindings namePart partOf versePart verseEnd next inSequence label.labelOf isAlternate isPublished plain runOf startOffsets among checks.given checks.afterVerse checks.leafChecked checks.bookCode checks.afterId checks.numberMarkers afterMilestone openChecked walk counted repeated put overlay worked.example1 worked.example13
+visit-right = (refl, refl, refl, refl)
+
+-- a visit that passes over the children
+visit-no-children : (l seen l′ : List ℕ) (opens : List OpenStart) (q : State) → q .warnings ≡ 0 → VisitedAt worked.example1 9 afterChapter l seen opens l′ q → ⊥
+visit-no-children l seen l′ opens q nothing v = eqb-false 0 1 refl (sym nothing ∙ ap (λ c. c .warnings) (v .went .wrote .counts ∙ visit-right .0))
+
+-- a visit that doesn't count the verse of its children
+visit-verse-uncounted : (l seen l′ : List ℕ) (opens : List OpenStart) (q : State) → q .verses ≡ 0 → VisitedAt worked.example1 9 afterChapter l seen opens l′ q → ⊥
+visit-verse-uncounted l seen l′ opens q uncounted v = eqb-false 0 1 refl (sym uncounted ∙ ap (λ st. st .verses) (v .went .state) ∙ visit-right .1)
+
+-- a visit that changes the anchor of its run, which is the chapter, to the verse among its children
+visit-anchor-changed : (l seen l′ : List ℕ) (opens : List OpenStart) (q : State) → q .anchor ≡ 6 → VisitedAt worked.example1 9 afterChapter l seen opens l′ q → ⊥
+visit-anchor-changed l seen l′ opens q changed v = eqb-false 6 4 refl (sym changed ∙ v .anchor)
+
+-- a visit that drops the anchor of its run
+visit-anchor-lost : (l seen l′ : List ℕ) (opens : List OpenStart) (q : State) → q .anchor ≡ 0 → VisitedAt worked.example1 9 afterChapter l seen opens l′ q → ⊥
+visit-anchor-lost l seen l′ opens q lost v = eqb-false 0 4 refl (sym lost ∙ v .anchor)
+
+-- a visit without the marker's own finding
+visit-finds-nothing : (l seen l′ : List ℕ) (opens : List OpenStart) (q : State) → q .errors ≡ 0 → VisitedAt worked.example13 7 afterIdentification l seen opens l′ q → ⊥
+visit-finds-nothing l seen l′ opens q nothing v = eqb-false 0 1 refl (sym nothing ∙ ap (λ c. c .errors) (v .went .wrote .counts ∙ visit-right .2))
+
+-- a visit that leaves the marker's finding unwritten
+visit-unwritten : (seen : List ℕ) (opens : List OpenStart) (q : State) → VisitedAt worked.example13 7 afterIdentification (repeated 0 8) seen opens (repeated 0 8) q → ⊥
+unfolding repeated
+visit-unwritten seen opens q v = eqb-false 0 24 refl (ap (wordIn 1) (v .went .wrote .words ∙ visit-right .3))
+
+-- ---- walk::visit_leaf
+
+-- the context in a body paragraph, and the record in a paragraph of the chapter, where no sibling is an anchor yet
+abbrev inParagraph : WalkContext
+inParagraph = record { inBodyPara = true; inNote = false; inChar = false }
+
+abbrev inChapter : State
+inChapter = withAnchor afterChapter 0
+
+-- one number that is attached to an earlier anchor and starts at byte 5
+abbrev oldNumbers : Attached
+oldNumbers = record { count = 1; first = 5; second = 0 }
+
+-- what the visit of node i requires, where the next node and the end of the run are given, and what is promised of it
+abbrev PassAllowed : worked.Example → WalkContext → ℕ → ℕ → ℕ → State → Type 0
+PassAllowed x o i after to r = Passable worked.exampleTable index 15 (x .source) (tapeIn x) o i after to (repeated 0 13) r
+
+abbrev PassedAt : worked.Example → WalkContext → ℕ → ℕ → ℕ → State → Attached → List ℕ → List ℕ → List ℕ → State → Attached → Type 0
+PassedAt x o i after to r numbers l seen l′ q numbers′ = PassedBy worked.exampleTable (x .source) (tapeIn x) o i after to numbers (repeated 0 13) l r seen l′ q numbers′
+
+-- nodes 6 and 7 of example 1 are a verse and a Text, node 4 of example 5 is a chapter; all three meet what the visit requires
+leaf-allowed : PassAllowed worked.example1 inParagraph 6 7 8 inChapter × PassAllowed worked.example1 inParagraph 7 8 8 inChapter × PassAllowed worked.example5 outside 4 5 13 afterIdentification
+unfolding ascii worked.exampleTable worked.tapeOf utf8.table3-7 utf8.begins utf8.widthBy utf8.widthOf utf8.decoded utf8.decode inAny blankRanges blank charsPast bytesBefore findByte trimStart kept trim blankText wordFrom allDigits valueFrom digitsFrom digits parsed half word nodes equal all lines.lines lines.categories lines.roles entries.position entries.entriesOf entries.entries entries.nth namePart partOf versePart inSequence label.labelOf among checks.given checks.leafChecked latest openNodes repeated worked.example1 worked.example5
+leaf-allowed = (
+  record {
+    inside = ltb-true 6 9 refl;
+    leafy = λ _. record {
+      indexed = indexed;
+      spanned = record { inside = ltb-true 6 9 refl; fits = leb-true 21 25 refl };
+      bounded = leb-true 1 4294967296 refl;
+      seen-room = ltb-true 0 13 refl;
+      verses-room = ltb-true 0 4611686018427387904 refl;
+      room = leb-true 1 countLimit refl;
+      rest = record { accepted = examples-accepted .0; depth = 0; nested = one refl refl (done refl); from = leb-true 1 7 refl; inside = leb-true 8 9 refl };
+    };
+  },
+  record { inside = ltb-true 7 9 refl; leafy = λ h. absurd (false≢true h) },
+  record {
+    inside = ltb-true 4 13 refl;
+    leafy = λ _. record {
+      indexed = indexed;
+      spanned = record { inside = ltb-true 4 13 refl; fits = leb-true 13 30 refl };
+      bounded = leb-true 1 4294967296 refl;
+      seen-room = ltb-true 0 13 refl;
+      verses-room = ltb-true 0 4611686018427387904 refl;
+      room = leb-true 0 countLimit refl;
+      rest =
+          record {
+            accepted = examples-accepted .1;
+            depth = 1;
+            nested = inner refl refl (one refl refl (done refl)) (inner refl refl (done refl) (inner refl refl (one refl refl (done refl)) (done refl)));
+            from = leb-true 1 5 refl;
+            inside = leb-true 13 13 refl;
+          };
+    };
+  },
+)
+
+-- the check of the verse
+abbrev verseChecked : NodeChecked
+verseChecked = checks.leafChecked worked.exampleTable inParagraph (stateOf (worked.example1 .source) (tapeIn worked.example1) (repeated 0 13) [] inChapter) (nodeAt (worked.example1 .source) (tapeIn worked.example1) 6)
+
+-- the right results: the verse has one warning and is counted; the `\ca` at byte 13 is attached to the chapter
+leaf-right : (counted (warnings 0) (verseChecked .findings) ≡ warnings 1) × (verseChecked .state .verses ≡ 1) × (numbersAfter (worked.example5 .source) (tapeIn worked.example5) 4 5 13 (5 ∷ []) ≡ 13 ∷ [])
+unfolding ascii worked.exampleTable worked.tapeOf utf8.table3-7 utf8.begins utf8.widthBy utf8.widthOf utf8.decoded utf8.decode inAny blankRanges blank charsPast bytesBefore findByte trimStart kept trim blankText wordFrom allDigits valueFrom digitsFrom digits parsed half word nodes runs equal all lines.lines lines.categories lines.roles entries.position entries.entriesOf entries.entries entries.nth namePart partOf versePart verseEnd next inSequence label.labelOf isAlternate isPublished plain runOf startOffsets among checks.given checks.afterVerse checks.leafChecked counted latest openNodes repeated worked.example1 worked.example5
+leaf-right = (refl, refl, refl)
+
+-- a visit that finds nothing of the verse, which is out of sequence
+leaf-finds-nothing : (l seen l′ : List ℕ) (numbers numbers′ : Attached) (q : State) → q .warnings ≡ 0 → PassedAt worked.example1 inParagraph 6 7 8 inChapter numbers l seen l′ q numbers′ → ⊥
+unfolding worked.example1 worked.tapeOf
+leaf-finds-nothing l seen l′ numbers numbers′ q nothing p = eqb-false 0 1 refl (sym nothing ∙ ap (λ c. c .warnings) (p .number refl .leaf .wrote .counts ∙ leaf-right .0))
+
+-- a visit that doesn't count the verse
+leaf-verse-uncounted : (l seen l′ : List ℕ) (numbers numbers′ : Attached) (q : State) → q .verses ≡ 0 → PassedAt worked.example1 inParagraph 6 7 8 inChapter numbers l seen l′ q numbers′ → ⊥
+unfolding worked.example1 worked.tapeOf
+leaf-verse-uncounted l seen l′ numbers numbers′ q uncounted p = eqb-false 0 1 refl (sym uncounted ∙ ap (λ st. st .verses) (p .number refl .leaf .state []) ∙ leaf-right .1)
+
+-- a visit that leaves the numbers of the earlier anchor
+leaf-old-numbers : (l seen l′ : List ℕ) (q : State) → PassedAt worked.example5 outside 4 5 13 afterIdentification oldNumbers l seen l′ q oldNumbers → ⊥
+unfolding worked.example5 worked.tapeOf
+leaf-old-numbers l seen l′ q p = eqb-false 5 13 refl (ap (wordIn 0) (p .number refl .attached ∙ leaf-right .2))
+
+-- a visit after which the chapter is no anchor
+leaf-no-anchor : (l seen l′ : List ℕ) (numbers numbers′ : Attached) (q : State) → q .anchor ≡ 0 → PassedAt worked.example5 outside 4 5 13 afterIdentification numbers l seen l′ q numbers′ → ⊥
+unfolding worked.example5 worked.tapeOf
+leaf-no-anchor l seen l′ numbers numbers′ q lost p = eqb-false 0 4 refl (sym lost ∙ p .number refl .leaf .anchor)
+
+-- a visit that counts a Text as a verse
+leaf-text-counted : (l seen l′ : List ℕ) (numbers numbers′ : Attached) (q : State) → q .verses ≡ 1 → PassedAt worked.example1 inParagraph 7 8 8 inChapter numbers l seen l′ q numbers′ → ⊥
+unfolding worked.example1 worked.tapeOf
+leaf-text-counted l seen l′ numbers numbers′ q more p = eqb-false 1 0 refl (sym more ∙ ap (λ r. r .verses) (p .other refl .same-record))
+
+-- ---- validate::run
+
+-- examples 1 and 9 meet what it requires
+run-allowed : Fit worked.exampleTable index 15 (worked.example1 .source) (tapeIn worked.example1) (repeated 0 9) (repeated noStart 9) × Fit worked.exampleTable index 15 (here .source) (here .tape) (here .seen) (here .openStarts)
+unfolding ascii worked.tapeOf worked.example1 worked.example9 repeated
+run-allowed = (
+  record { indexed = indexed; accepted = examples-accepted .0; short = leb-true 25 1048576 refl; seen-room = refl; open-room = refl },
+  record { indexed = indexed; accepted = examples-accepted .2; short = leb-true 57 1048576 refl; seen-room = refl; open-room = refl },
+)
+
+-- the words of the findings of example 9: of the end that is node 14 and finds no start, and of the unclosed start that is node 16
+abbrev words14 : List ℕ
+words14 = 0 ∷ 16 ∷ 43 ∷ 5 ∷ 14 ∷ 1 ∷ 0 ∷ 0 ∷ []
+
+abbrev words16 : List ℕ
+words16 = 0 ∷ 16 ∷ 50 ∷ 5 ∷ 16 ∷ 0 ∷ 0 ∷ 0 ∷ []
+
+findings9 : findings worked.exampleTable (forests.top (here .source) (here .tape)) ≡ worked.example9 .wanted
+unfolding worked.examples worked.findingsOf worked.wantedFindings
+findings9 = ap (λ (fs : List (List Finding)). getD fs 8 []) worked-examples
+
+-- the right results: the errors and the words of example 9, and the verses of example 1
+run-right : (counted (errors 0) (worked.example9 .wanted) ≡ errors 2) × (overlay (repeated 0 16) 0 (worked.example9 .wanted) ≡ words14 ++ words16) × (versesVisited worked.exampleTable (forests.top (worked.example1 .source) (tapeIn worked.example1)) ≡ 1)
+unfolding ascii worked.exampleTable worked.tapeOf utf8.table3-7 utf8.begins utf8.widthBy utf8.widthOf utf8.decoded utf8.decode inAny blankRanges blank charsPast bytesBefore findByte trimStart kept trim blankText wordFrom allDigits valueFrom digitsFrom digits parsed half word nodes followed runs equal all oneOf lines.lines lines.categories lines.roles entries.position entries.entriesOf entries.entries entries.nth names.frontMatter names.noteOnly books.bookCodes books.codeFrom books.bookOf attributes.attributesFindings namePart partOf versePart verseEnd next inSequence label.labelOf isAlternate isPublished plain runOf startOffsets among checks.given checks.afterChapter checks.afterVerse checks.leafChecked checks.bookCode checks.afterId checks.numberMarkers afterMilestone openChecked walk counted repeated put overlay worked.example1 worked.example9
+run-right = (refl, refl, refl)
+
+-- a run whose counts miss the closing findings
+run-no-closing : (l l′ : List ℕ) (q : State) → q .errors ≡ 1 → Ran worked.exampleTable (here .source) (here .tape) l l′ q → ⊥
+run-no-closing l l′ q missed p = eqb-false 1 2 refl (sym missed ∙ ap (λ c. c .errors) (p .wrote .counts ∙ ap (counted (errors 0)) findings9 ∙ run-right .0))
+
+-- a run that writes the closing findings first
+run-closing-first : (q : State) → Ran worked.exampleTable (here .source) (here .tape) (repeated 0 16) (words16 ++ words14) q → ⊥
+run-closing-first q p = eqb-false 16 14 refl (ap (wordIn 4) (p .wrote .words ∙ ap (overlay (repeated 0 16) 0) findings9 ∙ run-right .1))
+
+-- a run that leaves the list unwritten
+run-unwritten : (q : State) → Ran worked.exampleTable (here .source) (here .tape) (repeated 0 16) (repeated 0 16) q → ⊥
+unfolding repeated
+run-unwritten q p = eqb-false 0 16 refl (ap (wordIn 1) (p .wrote .words ∙ ap (overlay (repeated 0 16) 0) findings9 ∙ run-right .1))
+
+-- a run that doesn't count the verse
+run-verse-uncounted : (l l′ : List ℕ) (q : State) → q .verses ≡ 0 → Ran worked.exampleTable (worked.example1 .source) (tapeIn worked.example1) l l′ q → ⊥
+run-verse-uncounted l l′ q uncounted p = eqb-false 0 1 refl (sym uncounted ∙ p .verses ∙ run-right .2)
+
+-- ---- validate::checked
+
+-- what is promised of the document with one finding, whose list has just room for it
+abbrev FinishedHere : List ℕ → List OpenStart → List ℕ → Answer → Type 0
+FinishedHere seen opens l r = Finished (roomy .table) (roomy .source) (roomy .tape) (roomy .seen) (roomy .openStarts) (roomy .list) seen opens l r
+
+-- it meets what is required
+checked-allowed : Fit (roomy .table) index 15 (roomy .source) (roomy .tape) (roomy .seen) (roomy .openStarts)
+unfolding ascii worked.shorterDocument worked.tapeOf repeated
+checked-allowed = record { indexed = indexed; accepted = examples-accepted .4; short = leb-true 20 1048576 refl; seen-room = refl; open-room = refl }
+
+-- the right results
+finished-right : (answerWords (outcome.checked (checkedOf roomy)) ≡ 0 ∷ 0 ∷ 0 ∷ 1 ∷ 1 ∷ 0 ∷ 1 ∷ 0 ∷ 0 ∷ []) × (overlay (roomy .list) 0 (findings (roomy .table) (forests.top (roomy .source) (roomy .tape))) ≡ words5)
+unfolding put overlay checkedOf ofSeverity ascii worked.shorterDocument worked.exampleTable worked.tapeOf utf8.table3-7 utf8.begins utf8.widthBy utf8.widthOf utf8.decoded utf8.decode inAny blankRanges blank charsPast bytesBefore blankText wordFrom half word equal all oneOf lines.lines lines.categories lines.roles entries.position entries.entriesOf entries.entries entries.nth namePart repeated nodes runs names.frontMatter names.noteOnly books.bookCodes books.codeFrom books.bookOf attributes.attributesFindings label.labelOf among checks.given checks.afterChapter checks.leafChecked checks.bookCode checks.afterId checks.numberMarkers afterMilestone openChecked walk textBefore unclosed closing
+finished-right = (refl, refl)
+
+-- an answer that calls the full list cut
+checked-full-as-cut : (seen l : List ℕ) (opens : List OpenStart) (r : Report) → FinishedHere seen opens l (answers.Cut r) → ⊥
+checked-full-as-cut seen l opens r p = eqb-false 1 0 refl (ap (said 0) (p .answers) ∙ ap (wordIn 0) (finished-right .0))
+
+-- an answer that turns the document back
+checked-refuses : (seen l : List ℕ) (opens : List OpenStart) (number place : ℕ) → FinishedHere seen opens l (answers.Refused number place) → ⊥
+checked-refuses seen l opens number place p = eqb-false 2 0 refl (ap (said 0) (p .answers) ∙ ap (wordIn 0) (finished-right .0))
+
+-- the finding left unwritten
+checked-unwritten : (seen : List ℕ) (opens : List OpenStart) (r : Answer) → FinishedHere seen opens (repeated 0 8) r → ⊥
+unfolding repeated
+checked-unwritten seen opens r p = eqb-false 0 16 refl (ap (wordIn 1) (p .words ∙ finished-right .1))
+
+-- the chapters seen left in their list
+checked-seen-kept : (l : List ℕ) (opens : List OpenStart) (r : Answer) → FinishedHere (repeated 4 7) opens l r → ⊥
+unfolding worked.shorterDocument worked.tapeOf repeated
+checked-seen-kept l opens r p = eqb-false 4 0 refl (ap (wordIn 0) (p .seen-zero))
+
+-- the open starts left in their list
+checked-opens-kept : (seen l : List ℕ) (r : Answer) → FinishedHere seen (repeated (start 5) 7) l r → ⊥
+unfolding worked.shorterDocument worked.tapeOf repeated
+checked-opens-kept seen l r p = eqb-false 5 0 refl (ap (nodeIn 0) (p .opens-zero))
+
+-- ---- validate::passed
+
+-- the same document, with working lists of nine entries for its seven nodes
+abbrev ample : Lent
+ample = document (repeated 4 9) (repeated (start 5) 9) (repeated 0 8)
+
+-- it meets what is required
+passed-allowed : Indexed (ample .table) index 15 × (none ≡ fromTable (ample .table) (ample .source) (ample .tape) (length (ample .seen)) (length (ample .openStarts)))
+unfolding ascii worked.shorterDocument worked.exampleTable worked.tapeOf utf8.table3-7 utf8.begins utf8.widthBy utf8.widthOf utf8.decoded utf8.decode inAny blankRanges blank charsPast bytesBefore wordFrom half word equal all oneOf lines.lines lines.categories lines.roles entries.position entries.entriesOf entries.entries entries.nth namePart repeated utf8.scan utf8.afterWidth utf8.firstIllFormed lines.badFrom lines.badTable reading.step reading.read reading.tapeRefusal firstBad label.splits label.labelRefusal infoAt label.labelOf
+passed-allowed = (indexed, refl)
+
+-- the right results
+passed-right : (answerWords (answer ample) ≡ 0 ∷ 0 ∷ 0 ∷ 1 ∷ 1 ∷ 0 ∷ 1 ∷ 0 ∷ 0 ∷ []) × (listAfter ample ≡ words5) × (seenAfter ample ≡ repeated 0 7 ++ 4 ∷ 4 ∷ []) × (openAfter ample ≡ repeated noStart 7 ++ start 5 ∷ start 5 ∷ [])
+unfolding put overlay checkedOf ofSeverity ascii worked.shorterDocument worked.exampleTable worked.tapeOf utf8.table3-7 utf8.begins utf8.widthBy utf8.widthOf utf8.decoded utf8.decode inAny blankRanges blank charsPast bytesBefore blankText wordFrom half word equal all oneOf lines.lines lines.categories lines.roles entries.position entries.entriesOf entries.entries entries.nth namePart refusal repeated utf8.scan utf8.afterWidth utf8.firstIllFormed lines.badFrom lines.badTable reading.step reading.read reading.tapeRefusal firstBad label.splits label.labelRefusal infoAt nodes runs names.frontMatter names.noteOnly books.bookCodes books.codeFrom books.bookOf attributes.attributesFindings label.labelOf among checks.given checks.afterChapter checks.leafChecked checks.bookCode checks.afterId checks.numberMarkers afterMilestone openChecked walk textBefore unclosed closing
+passed-right = (refl, refl, refl, refl)
+
+-- a document turned back for working lists longer than its tape
+passed-refuses : (number place : ℕ) → answerOf (answers.Refused number place) ≡ answer ample → ⊥
+passed-refuses number place e = eqb-false 2 0 refl (ap (said 0) e ∙ ap (wordIn 0) (passed-right .0))
+
+-- an answer that finds nothing
+passed-finds-nothing : (r : Report) → r .total ≡ 0 → answerOf (answers.Checked r) ≡ answer ample → ⊥
+passed-finds-nothing r nothing e = eqb-false 0 1 refl (sym nothing ∙ ap (said 3) e ∙ ap (wordIn 3) (passed-right .0))
+
+-- the finding left unwritten
+passed-unwritten : repeated 0 8 ≡ listAfter ample → ⊥
+unfolding repeated
+passed-unwritten e = eqb-false 0 16 refl (ap (wordIn 1) (e ∙ passed-right .1))
+
+-- a clearing of the chapters seen that goes on past seven entries
+passed-seen-past : repeated 0 9 ≡ seenAfter ample → ⊥
+unfolding repeated
+passed-seen-past e = eqb-false 0 4 refl (ap (wordIn 7) (e ∙ passed-right .2))
+
+-- a clearing of the chapters seen that stops one entry early
+passed-seen-short : repeated 0 6 ++ 4 ∷ 4 ∷ 4 ∷ [] ≡ seenAfter ample → ⊥
+unfolding repeated
+passed-seen-short e = eqb-false 4 0 refl (ap (wordIn 6) (e ∙ passed-right .2))
+
+-- a clearing of the open starts that goes on past seven entries
+passed-opens-past : repeated noStart 9 ≡ openAfter ample → ⊥
+unfolding repeated
+passed-opens-past e = eqb-false 0 5 refl (ap (nodeIn 7) (e ∙ passed-right .3))

@@ -1,11 +1,14 @@
 // Makes documents at both sides of three limits, and one with labels at both sides of a fourth, checks them, and writes
 // the answers: trial items 13 to 16.
+use definition::OpenStart;
 use libc::STDOUT_FILENO;
 use validate::Answer;
 use validate::Report;
 ghost use mathlib.Core.Path.{_≡_};
 ghost use Prim.Native.Nat.{_+_, _*_, _≤_};
 ghost use lib.ListN.{length};
+ghost use Rattle.definition.specs.Outcome.{answer, listAfter, repeated, noStart};
+ghost use Rattle.validate.specs.Entry.{answerOf, lent};
 
 // Places in the table of `main`.
 const ID: u16 = 0;
@@ -160,18 +163,23 @@ fn chapters() -> [u32; 65536]
     [0; 65536]
 }
 
-// Open starts, for 65,536 nodes.
-fn starts() -> [u64; 131072]
-    ensures { λ r. ⌜ 131072 ≡ length r ⌝ }
+// The check, with open starts for 65,536 nodes.
+fn checked(table: &[u8], source: &[u8], nodes: &[u8], seen: &mut [u32], list: &mut [u64]) -> Answer
+    ensures answer { λ r. ⌜ answerOf r ≡ answer (lent (now (table .entry)) (now (source .entry)) (now (nodes .entry)) (now (seen .entry)) (repeated noStart 65536) (now (list .entry))) ⌝ }
+    ensures list { λ r. ⌜ now (list .exit) ≡ listAfter (lent (now (table .entry)) (now (source .entry)) (now (nodes .entry)) (now (seen .entry)) (repeated noStart 65536) (now (list .entry))) ⌝ }
 {
-    [0; 131072]
+    let nothing = OpenStart {
+        node: 0,
+        base_len: 0,
+    };
+    let mut opens = [nothing; 65536];
+    validate::check(table, source, nodes, seen, &mut opens, list)
 }
 
 // The check's answer, and how many findings it wrote.
 fn answer(table: &[u8], source: &[u8], nodes: &[u8], list: &mut [u64]) -> u64 {
     let mut seen = chapters();
-    let mut opens = starts();
-    match by_words::check_words(table, source, nodes, &mut seen, &mut opens, list) {
+    match checked(table, source, nodes, &mut seen, list) {
         Answer::Refused(number, place) => {
             turned_back(number, place);
             0

@@ -1,17 +1,21 @@
 // Replays recorded answers: each document of standard input is checked, and what the check gives is compared with what is
 // recorded of it. The layout of the input is that of oracle/recorded/README.md.
+use definition::OpenStart;
 use libc::STDIN_FILENO;
 use libc::STDOUT_FILENO;
 use validate::Answer;
 use validate::Report;
 ghost use mathlib.Core.Path.{_≡_};
 ghost use Prim.Native.Nat.{_+_, _*_, _≤_};
-ghost use lib.ListN.{length};
+ghost use lib.ListN.{length, set};
 
 // What the lent lists hold before a check: no zero, so that a zero at exit was written.
 const FILL: u32 = 7;
 
 const FILL_WORD: u64 = 7;
+
+// What the words hold to which open starts are copied.
+const UNWRITTEN: u64 = 9;
 
 // What differs first of a finding.
 enum Field {
@@ -312,6 +316,64 @@ fn checked(
     lists(seen, opens, 0, list, end)
 }
 
+fn put_start(words: &mut [u64], k: usize, o: OpenStart)
+    requires { ⌜ 2 * k + 2 ≤ length (now words) ⌝ }
+    ensures { λ _. ⌜ now (words .exit) ≡ set (set (now (words .entry)) (2 * k) (o .node)) (2 * k + 1) (o .«base_len») ⌝ }
+{
+    words[2 * k] = o.node as u64;
+    words[2 * k + 1] = o.base_len as u64;
+}
+
+// Copies n open starts to words, the node and the length of its base in turn.
+fn put_starts(words: &mut [u64], opens: &mut [OpenStart], n: usize)
+    requires { ⌜ (2 * n ≤ length (now words)) × (n ≤ length (now opens)) ⌝ }
+{
+    let mut k: usize = 0;
+    while k < n {
+        let o = opens[k];
+        put_start(words, k, o);
+        k += 1;
+    }
+}
+
+// The check with n open starts, and what they hold afterwards.
+fn check_with(
+    table: &[u8],
+    source: &[u8],
+    tape: &[u8],
+    seen: &mut [u32],
+    opens: &mut [OpenStart],
+    n: usize,
+    words: &mut [u64],
+    list: &mut [u64],
+) -> Answer
+    requires { ⌜ (2 * n ≤ length (now words)) × (n ≤ length (now opens)) ⌝ }
+{
+    let answer = validate::check(table, source, tape, seen, &mut opens[..n], list);
+    put_starts(words, opens, n);
+    answer
+}
+
+// The check with n open starts that hold `FILL`, and what they hold afterwards.
+fn check_filled(
+    table: &[u8],
+    source: &[u8],
+    tape: &[u8],
+    seen: &mut [u32],
+    n: usize,
+    words: &mut [u64],
+    list: &mut [u64],
+) -> Answer
+    requires { ⌜ (2 * n ≤ length (now words)) × (n ≤ 2048) ⌝ }
+{
+    let filled = OpenStart {
+        node: FILL,
+        base_len: FILL,
+    };
+    let mut opens = [filled; 2048];
+    check_with(table, source, tape, seen, &mut opens, n, words, list)
+}
+
 fn answered(
     head: &[u8],
     table: &[u8],
@@ -320,12 +382,13 @@ fn answered(
     recorded: &[u8],
     count: usize,
     seen: &mut [u32],
+    n: usize,
     opens: &mut [u64],
     list: &mut [u64],
 ) -> Outcome
-    requires { ⌜ (24 ≤ length (now head)) × (length (now recorded) ≤ 1048576) × (8 * count ≤ length (now list)) ⌝ }
+    requires { ⌜ (24 ≤ length (now head)) × (length (now recorded) ≤ 1048576) × (8 * count ≤ length (now list)) × (2 * n ≤ length (now opens)) × (n ≤ 2048) ⌝ }
 {
-    match by_words::check_words(table, source, tape, seen, opens, list) {
+    match check_filled(table, source, tape, seen, n, opens, list) {
         Answer::Refused(number, place) => refused(head, number, place, seen, opens, list),
         Answer::Checked(r) => checked(head, r, tape, recorded, count, seen, opens, list),
         Answer::Cut(_) => Outcome::Total,
@@ -339,11 +402,18 @@ fn numbers() -> [u32; 2048]
     [FILL; 2048]
 }
 
-// Open starts, for 2,048 nodes; or 512 findings.
+// Findings, 512 of them.
 fn words() -> [u64; 4096]
     ensures { λ r. ⌜ 4096 ≡ length r ⌝ }
 {
     [FILL_WORD; 4096]
+}
+
+// Room for a copy of 2,048 open starts.
+fn copies() -> [u64; 4096]
+    ensures { λ r. ⌜ 4096 ≡ length r ⌝ }
+{
+    [UNWRITTEN; 4096]
 }
 
 // A document checked with working lists that are just long enough, and with room for a finding more than is recorded.
@@ -359,7 +429,7 @@ fn replayed(head: &[u8], table: &[u8], source: &[u8], tape: &[u8], recorded: &[u
         return Outcome::Room;
     }
     let mut seen = numbers();
-    let mut opens = words();
+    let mut opens = copies();
     let mut list = words();
     answered(
         head,
@@ -369,6 +439,7 @@ fn replayed(head: &[u8], table: &[u8], source: &[u8], tape: &[u8], recorded: &[u
         recorded,
         count,
         &mut seen[..n],
+        n,
         &mut opens[..2 * n],
         &mut list[..8 * count + 8],
     )

@@ -1,28 +1,17 @@
 -- The table entry of a node, by what the code reads.
 -- Assumes nothing.
 use Prim.Native.Nat.{ℕ, _+_, _≤_}
-use mathlib.Core.Path.{_≡_, refl, sym, ap, _∙_}
+use mathlib.Core.Path.{_≡_, refl}
 use mathlib.Core.Bool.{Bool, true, false}
 use mathlib.Core.List.{List}
 use mathlib.Core.Option.{Option, some, none, Option·none-ne-some}
 use lib.ListN.{length}
-use borrow.Author.Tests.{ne-eqb}
-use Rattle.tape.specs.Nodes.{nodeAt, kindAt, markerAt, isOpen, markerOpenKind}
-use Rattle.table.specs.Entries.{Entry, entries, nth, infoOf, entryOfInfo}
-use Rattle.table.specs.declared.Info.{Info}
+use Rattle.tape.specs.Nodes.{nodeAt, kindAt, markerAt}
+use Rattle.table.specs.Entries.{Entry, entries, nth, entryOfInfo}
 use Rattle.table.specs.declared.MarkerInfo.{MarkerInfo}
 use Rattle.cursor.specs.Info.{hasMarker, onlyFor, infoAt}
 use Rattle.definition.specs.Checks.{entryOf}
-use Rattle.walk.specs.Inner.{onlyOpen}
 use Rattle.table.specs.Inner.{Indexed}
-
--- what is read of a marker and of a leaf
-module _ (table t : List ℕ) (i k : ℕ) (is : k ≡ kindAt t i) where
-  pub read-open : (m : Info) → k ≡ 1 → infoOf m ≡ infoAt table t i → infoOf m ≡ onlyOpen (isOpen (kindAt t i)) (infoAt table t i)
-  read-open m h read = let one : kindAt t i ≡ markerOpenKind = sym is ∙ h in rw one read
-
-  pub read-leaf : (k ≡ 1 → ⊥) → none ≡ onlyOpen (isOpen (kindAt t i)) (infoAt table t i)
-  read-leaf h = let other : isOpen (kindAt t i) ≡ false = ap isOpen (sym is) ∙ ne-eqb k 1 h in rw other
 
 pub entry-read : (table s t : List ℕ) (i : ℕ) → entryOf table (nodeAt s t i) ≡ infoAt table t i
 unfolding infoAt

@@ -5,10 +5,10 @@ use native.Mathlib.Omega.{arith}
 use mathlib.Core.Path.{_≡_, refl, sym, ap, ap₂, subst, _∙_}
 use mathlib.Core.Bool.{Bool, true, false, false≢true}
 use mathlib.Core.List.{List, [], _∷_, _++_}
-use mathlib.Core.Option.{Option, some, none, Option·none-ne-some}
+use mathlib.Core.Option.{some, none}
 use lib.Dec.{eqb}
 use lib.ListN.{length}
-use borrow.Author.Tests.{ne-eqb, eqb-true}
+use borrow.Author.Tests.{ne-eqb}
 use Rattle.tape.specs.Nodes.{Node, count, nodeAt, kindAt, linkAt, isOpen, markerOpenKind, chapterKind, verseKind}
 use Rattle.tape.specs.Forest.{Forest, end, forest, Nested, Accepted}
 use Rattle.tape.proofs.Nest.{nested-le, forest-done}
@@ -35,7 +35,7 @@ use Rattle.definition.specs.Walk as def
 use Rattle.definition.specs.declared.OpenStart.{OpenStart}
 use Rattle.state.specs.Inner.{stateOf, countsOf, anchorOf, startsFor, VerseBounded, Opens}
 use Rattle.state.specs.declared.State.{State}
-use Rattle.walk.specs.Inner.{onlyOpen, Leafy, Unchanged, Passable, PassedBy, Anchored, walkAt, Ready, Went, RunWalked, openCheckedAt, below, visitFindings, visitState, Visited, Visitable, anchorAfter, LeafPassed, numbersAfter}
+use Rattle.walk.specs.Inner.{Leafy, Passable, PassedBy, Anchored, walkAt, Ready, Went, RunWalked, openCheckedAt, below, visitFindings, visitState, Visited, Visitable, anchorAfter, LeafPassed, numbersAfter}
 use Rattle.walk.proofs.Entries.{entry-read, entry-inside}
 use Rattle.walk.proofs.Steps.{next-later, anchored-past, starts-past, leaf-anchored, leaf-starts, walk-leaf, walk-skip, walk-open}
 use Rattle.text.proofs.Bool.{or-parts}
@@ -242,9 +242,6 @@ module _ {table index : List ℕ} {entries : ℕ} {s t : List ℕ} {depth : ℕ}
         go : (k : ℕ) → numbered k ≡ true → isOpen k ≡ false
         go k e = ne-eqb k 1 (λ z. let y : numbered 1 ≡ true = rw z at e in absurd (false≢true y))
 
-    no-number : isOpen (kindAt t i) ≡ true → numbered (kindAt t i) ≡ false
-    no-number h = let one : kindAt t i ≡ markerOpenKind = eqb-true (kindAt t i) markerOpenKind h in rw one
-
     pub passable : Passable table index entries s t o i after to seen r
     passable =
         record {
@@ -279,45 +276,32 @@ module _ {table index : List ℕ} {entries : ℕ} {s t : List ℕ} {depth : ℕ}
     pub going-nearer : to - after < to - i
     going-nearer = let lt = going-later more in rw past (omega (arith, lt .0, lt .1))
 
-    -- after the visit of a leaf
-    module _ (seen′ l′ : List ℕ) (q : State) (numbers′ : Attached) (ls : length seen′ ≡ length seen) (by : PassedBy table s t o i after to numbers seen l r seen′ l′ q numbers′) where
-      abbrev Now : Type 0
-      Now = Going table index entries s t depth o from to w₀ l₀ r₀ seen′ opens l′ q numbers′ after
+    -- a leaf by its kind, after its visit
+    pub going-past-leaf : (k : ℕ) → k ≡ kindAt t i → (k ≡ 1 → ⊥) → (seen′ l′ : List ℕ) (q : State) (numbers′ : Attached) → length seen′ ≡ length seen → PassedBy table s t o i after to numbers seen l r seen′ l′ q numbers′ → Going table index entries s t depth o from to w₀ l₀ r₀ seen′ opens l′ q numbers′ after
+    going-past-leaf k is other seen′ l′ q numbers′ ls by = go (numbered (kindAt t i)) refl
+      where
+        leafy : isOpen (kindAt t i) ≡ false
+        leafy = ap isOpen (sym is) ∙ ne-eqb k 1 other
 
-      same : numbered (kindAt t i) ≡ false → Going table index entries s t depth o from to w₀ l₀ r₀ seen opens l r numbers after → Now
-      same h g′ = let u = by .other h in rw (u .same-seen, u .same-list, u .same-record, u .same-numbers) g′
+        go : (w : Bool) → numbered (kindAt t i) ≡ w → Going table index entries s t depth o from to w₀ l₀ r₀ seen′ opens l′ q numbers′ after
+        go true n = rw past (going-leaf more leafy seen′ l′ q numbers′ ls (by .number n .leaf) (rw past at (by .number n .attached)))
+        go false n = let u = by .other n in rw (u .same-seen, u .same-list, u .same-record, u .same-numbers) (going-other n leafy)
 
-      module _ (x : Info) (read : infoOf x ≡ onlyOpen (isOpen (kindAt t i)) (infoAt table t i)) where
-        -- a leaf, or a marker without an entry
-        pub going-past : x ≡ info.Missing → Now
-        going-past e = go (isOpen (kindAt t i)) (numbered (kindAt t i)) refl refl
-          where
-            go : (v w : Bool) → isOpen (kindAt t i) ≡ v → numbered (kindAt t i) ≡ w → Now
-            go false true y n = rw past (going-leaf more y seen′ l′ q numbers′ ls (by .number n .leaf) (rw past at (by .number n .attached)))
-            go false false y n = same n (going-other n y)
-            go true w y n = let missing : infoAt table t i ≡ none = sym (sym (ap infoOf e) ∙ (rw y at read)) in same (no-number y) (rw past (going-skip more y (entry-read table s t i ∙ missing)))
+    -- a marker by its kind, and by the table's answer
+    module _ (k : ℕ) (is : k ≡ kindAt t i) (one : k ≡ 1) (x : Info) (read : infoOf x ≡ infoAt table t i) where
+      opened-by : isOpen (kindAt t i) ≡ true
+      opened-by = let z : kindAt t i ≡ markerOpenKind = sym is ∙ one in rw z
 
-        module _ (m : MarkerInfo) (e : x ≡ info.Known m) where
-          opened-by : isOpen (kindAt t i) ≡ true
-          opened-by = go (isOpen (kindAt t i)) refl
-            where
-              go : (v : Bool) → isOpen (kindAt t i) ≡ v → isOpen (kindAt t i) ≡ true
-              go true y = y
-              go false y = absurd (Option·none-ne-some (entryOfInfo m) (sym (sym (ap infoOf e) ∙ (rw y at read))))
+      pub going-passed-over : x ≡ info.Missing → Going table index entries s t depth o from to w₀ l₀ r₀ seen opens l r numbers after
+      going-passed-over e = rw past (going-skip more opened-by (entry-read table s t i ∙ sym read ∙ ap infoOf e))
 
-          entry-by : entryOf table (nodeAt s t i) ≡ some (entryOfInfo m)
-          entry-by = entry-read table s t i ∙ sym (sym (ap infoOf e) ∙ (rw opened-by at read))
+      module _ (m : MarkerInfo) (e : x ≡ info.Known m) where
+        entry-by : entryOf table (nodeAt s t i) ≡ some (entryOfInfo m)
+        entry-by = entry-read table s t i ∙ sym read ∙ ap infoOf e
 
-          left-so : Unchanged numbers seen l r seen′ l′ q numbers′
-          left-so = by .other (no-number opened-by)
+        pub visit-asks : Ready table index entries s t depth i to seen opens r × Visitable s t i to numbers r × (m .«name_start» + m .«name_len» ≤ length table) × Room (countsOf r) (visitFindings table s t o (entryOfInfo m) i to seen opens r)
+        visit-asks =
+            (g .ready, visit-able more opened-by (entryOfInfo m) entry-by, entry-inside table index entries s t i m (g .ready .indexed) entry-by, visit-room more opened-by (entryOfInfo m) entry-by)
 
-          pub visit-asks : Ready table index entries s t depth i to seen′ opens q × Visitable s t i to numbers′ q × (m .«name_start» + m .«name_len» ≤ length table) × Room (countsOf q) (visitFindings table s t o (entryOfInfo m) i to seen′ opens q)
-          visit-asks =
-              let u = left-so in
-              rw (u .same-seen, u .same-record, u .same-numbers)
-              (g .ready, visit-able more opened-by (entryOfInfo m) entry-by, entry-inside table index entries s t i m (g .ready .indexed) entry-by, visit-room more opened-by (entryOfInfo m) entry-by)
-
-          pub going-visited : (seen″ : List ℕ) (opens″ : List OpenStart) (l″ : List ℕ) (q″ : State) → length seen″ ≡ length seen′ → length opens″ ≡ length opens → Visited table s t o (entryOfInfo m) i to seen′ opens l′ q seen″ opens″ l″ q″ → Going table index entries s t depth o from to w₀ l₀ r₀ seen″ opens″ l″ q″ numbers′ after
-          going-visited seen″ opens″ l″ q″ ls″ lo v =
-              let u = left-so in
-              rw (u .same-numbers, past) (going-open more opened-by (entryOfInfo m) entry-by seen″ opens″ l″ q″ (ls″ ∙ ls) lo (rw (u .same-seen, u .same-list, u .same-record) at v))
+        pub going-visited : (seen′ : List ℕ) (opens′ : List OpenStart) (l′ : List ℕ) (q : State) → length seen′ ≡ length seen → length opens′ ≡ length opens → Visited table s t o (entryOfInfo m) i to seen opens l r seen′ opens′ l′ q → Going table index entries s t depth o from to w₀ l₀ r₀ seen′ opens′ l′ q numbers after
+        going-visited seen′ opens′ l′ q ls lo v = rw past (going-open more opened-by (entryOfInfo m) entry-by seen′ opens′ l′ q ls lo v)

@@ -12,9 +12,10 @@ pub mod CallInside
 pub mod CallVisit
 pub mod CallWalk
 pub mod CallIsNumber
-pub mod CallMarker
 pub mod CallLeaf
 pub mod CallNumbersAfter
 pub mod CallPastNode
 pub mod CallVisitLeaf
 pub mod CallCanSkipMarker
+pub mod CallKindAt
+pub mod CallMarkerInfo

@@ -3,7 +3,7 @@ use Prim.Native.Nat.{ℕ, zero, suc, _+_, _-_, _<_, _≤_}
 use mathlib.Core.Path.{_≡_}
 use mathlib.Core.Bool.{Bool, true, false}
 use mathlib.Core.List.{List, [], _++_}
-use mathlib.Core.Option.{Option, some, none}
+use mathlib.Core.Option.{none}
 use lib.ListN.{length}
 use Rattle.tape.specs.Nodes.{count, nodeAt, kindAt, linkAt, isOpen}
 use Rattle.tape.specs.Forest.{Forest, end, leaf, node, forest, Nested, Accepted}
@@ -107,11 +107,6 @@ pub record LeafPassed (table s t : List ℕ) (o : state.WalkContext) (i : ℕ) (
 -- the numbers attached after a leaf
 abbrev pub numbersAfter : List ℕ → List ℕ → ℕ → ℕ → ℕ → List ℕ → List ℕ
 numbersAfter s t i next to before = pick (numbered (kindAt t i)) (startOffsets (attachedNumbers (kindAt t i) (forest s t next to))) before
-
--- the entry of a marker, and of no other node
-abbrev pub onlyOpen : Bool → Option Entry → Option Entry
-onlyOpen true e = e
-onlyOpen false e = none
 
 -- a Chapter or Verse with what follows it
 pub record Leafy (table index : List ℕ) (entries : ℕ) (s t : List ℕ) (o : state.WalkContext) (i next to : ℕ) (seen : List ℕ) (r : State) : Type 0 where

@@ -9,17 +9,16 @@ ghost use mathlib.Core.Path.{_≡_};
 ghost use mathlib.Core.List.{[]};
 ghost use Prim.Native.Nat.{_+_, _<_, _≤_};
 ghost use lib.ListN.{length};
-ghost use Rattle.tape.specs.Nodes.{nodeAt, kindAt, isOpen};
+ghost use Rattle.tape.specs.Nodes.{nodeAt, kindAt};
 ghost use Rattle.tape.specs.Nodes.{count};
 ghost use Rattle.tape.specs.Forest.{forest, Nested, Accepted};
-ghost use Rattle.table.specs.Entries.{infoOf, entryOfInfo};
-ghost use Rattle.cursor.specs.Info.{infoAt};
+ghost use Rattle.table.specs.Entries.{entryOfInfo};
 ghost use Rattle.numbers.specs.Label.{numbered};
 ghost use Rattle.cursor.specs.Inner.{Run, Spanned};
 ghost use Rattle.attachment.specs.Attached.{startsOf};
 ghost use Rattle.definition.specs.Checks.{leafChecked};
 ghost use Rattle.state.specs.Inner.{stateOf, contextOf, anchorOf, startsFor, countsOf, VerseBounded};
-ghost use Rattle.walk.specs.Inner.{Ready, RunWalked, Visited, Visitable, Anchored, walkAt, visitFindings, LeafPassed, numbersAfter, onlyOpen, Passable, PassedBy, canSkipChildren};
+ghost use Rattle.walk.specs.Inner.{Ready, RunWalked, Visited, Visitable, Anchored, walkAt, visitFindings, LeafPassed, numbersAfter, Passable, PassedBy, canSkipChildren};
 ghost use Rattle.table.specs.Inner.{Indexed};
 ghost use Rattle.findings.specs.Inner.{Room};
 
@@ -117,17 +116,6 @@ fn is_number(tape: &[u8], i: usize) -> bool
     ensures { λ r. ⌜ r ≡ numbered (kindAt (now (tape .entry)) i) ⌝ }
 {
     numbers::is_numbered(tape::kind_at(tape, i))
-}
-
-// The table entry of a marker; a leaf has none here.
-fn marker(table: &[u8], index: &[u64], entries: usize, tape: &[u8], i: usize) -> Info
-    requires { ⌜ (Indexed (now table) (now index) entries) × (i < count (now tape)) ⌝ }
-    ensures { λ r. ⌜ infoOf r ≡ onlyOpen (isOpen (kindAt (now (tape .entry)) i)) (infoAt (now (table .entry)) (now (tape .entry)) i) ⌝ }
-{
-    if tape::kind_at(tape, i) == tape::MARKER_OPEN {
-        return cursor::marker_info(table, index, entries, tape, i);
-    }
-    Info::Missing
 }
 
 // The visit of a leaf, to which the record is lent: a Chapter or a Verse updates it, and any other node is skipped. It gives the
@@ -280,22 +268,26 @@ pub fn walk(
     while i < to {
         let here = i;
         i = cursor::past_node(tape, here);
-        numbers = visit_leaf(
-            table,
-            index,
-            entries,
-            source,
-            tape,
-            here,
-            i,
-            to,
-            context,
-            numbers,
-            rec,
-            seen,
-            list,
-        );
-        let Info::Known(m) = marker(table, index, entries, tape, here) else {
+        if tape::kind_at(tape, here) != tape::MARKER_OPEN {
+            numbers = visit_leaf(
+                table,
+                index,
+                entries,
+                source,
+                tape,
+                here,
+                i,
+                to,
+                context,
+                numbers,
+                rec,
+                seen,
+                list,
+            );
+            continue;
+        }
+        // A marker without a table entry is passed over with all below it.
+        let Info::Known(m) = cursor::marker_info(table, index, entries, tape, here) else {
             continue;
         };
         visit(

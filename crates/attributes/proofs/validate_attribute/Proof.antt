@@ -4,10 +4,11 @@ use borrow.Author.Needs.{needs}
 use denote.Ref.{now}
 use mathlib.Core.Bool.{true, not}
 use mathlib.Core.List.{List, [], _∷_, _++_}
-use mathlib.Core.Path.{_≡_, ap, _∙_}
+use mathlib.Core.Path.{_≡_, refl, ap, _∙_}
 use Rattle.attributes.proofs.Owed.{at, Owing, owing-start, owing-as, owing-room, owing-wrote, owing-end}
 use Rattle.attributes.proofs.Whole.{kinds-none, kinds-scan, kinds-bare}
 use Rattle.attributes.specs.Attributes.{emptyList, noDefault, between, attributeScan, body, hasDefault, attributeKinds}
+use Rattle.attributes.specs.Inner.{findingOfKind}
 use Rattle.cursor.specs.Names.{nameOf}
 use Rattle.findings.specs.Finding.{Kind, findingOf}
 use Rattle.table.specs.Names.{defaultName}
@@ -52,17 +53,14 @@ after-bar-requires c κs = search needs
 trim-requires : tie.Need-trim-requires
 trim-requires c κs = search needs
 
-finding-requires : tie.Need-finding-requires
-finding-requires c κs = search needs
-
-push-requires : tie.Need-push-requires
-push-requires c κs = owing-room emptyList true [] (findingOf (c .before .finding .result)) (c .before .finding .ensures) (due-none (c .before .before))
+push-error-requires : tie.Need-push-error-requires
+push-error-requires c κs = owing-room emptyList true [] (findingOfKind (c .before .before .before .before .before .before .before .args .w) emptyList 0) refl (due-none (c .before))
 
 same-length : tie.Need-same-length
 same-length c = search needs
 
 returns : tie.Need-returns
-returns c = owing-end (owing-wrote emptyList true [] (findingOf (c .before .before .before .before .finding .result)) (c .before .before .before .before .finding .ensures) (due-none (c .before .before .before .before .before)) (c .before .before .push .ensures))
+returns c = owing-end (owing-wrote emptyList true [] (findingOfKind (c .before .before .before .before .before .before .before .before .before .before .args .w) emptyList 0) refl (due-none (c .before .before .before .before)) (c .before .before .push-error .ensures))
 
 find-byte-requires : tie.Need-find-byte-requires
 find-byte-requires c κs = search needs
@@ -85,17 +83,17 @@ default-attribute-requires c κs = search needs
 has-default-requires : tie.Need-has-default-requires
 has-default-requires c κs = search needs
 
-finding-requires-2 : tie.Need-finding-requires-2
-finding-requires-2 c κs = search needs
+finding-requires : tie.Need-finding-requires
+finding-requires c κs = search needs
 
 push-if-requires : tie.Need-push-if-requires
-push-if-requires c κs = owing-room noDefault (not (c .before .before .has-default .result)) [] (findingOf (c .before .finding2 .result)) (c .before .finding2 .ensures) (due-bare (c .before .before))
+push-if-requires c κs = owing-room noDefault (not (c .before .before .has-default .result)) [] (findingOf (c .before .finding .result)) (c .before .finding .ensures) (due-bare (c .before .before))
 
 same-length-3 : tie.Need-same-length-3
 same-length-3 c = search needs
 
 returns-3 : tie.Need-returns-3
-returns-3 c = owing-end (owing-wrote noDefault (not (c .before .before .before .before .before .has-default .result)) [] (findingOf (c .before .before .before .before .finding2 .result)) (c .before .before .before .before .finding2 .ensures) (due-bare (c .before .before .before .before .before)) (c .before .before .push-if .ensures))
+returns-3 c = owing-end (owing-wrote noDefault (not (c .before .before .before .before .before .has-default .result)) [] (findingOf (c .before .before .before .before .finding .result)) (c .before .before .before .before .finding .ensures) (due-bare (c .before .before .before .before .before)) (c .before .before .push-if .ensures))
 
 pub validate-attribute-spec : {M : Type 1} → statement M
 validate-attribute-spec =
@@ -103,8 +101,7 @@ validate-attribute-spec =
     (tie.spec
     after-bar-requires
     trim-requires
-    finding-requires
-    push-requires
+    push-error-requires
     same-length
     returns
     find-byte-requires
@@ -114,7 +111,7 @@ validate-attribute-spec =
     name-of-requires
     default-attribute-requires
     has-default-requires
-    finding-requires-2
+    finding-requires
     push-if-requires
     same-length-3
     returns-3)

@@ -1,5 +1,10 @@
 -- `listing::put_checked` meets its contract.
 -- Assumes nothing.
+use Prim.Native.Nat.{_≤_}
+use lib.ListN.{length}
+use native.Mathlib.Omega.{arith}
+use Rattle.buffer.specs.Over.{Put}
+use Rattle.listing.proofs.Lines.{put-short, checked-short}
 use borrow.Author.Needs.{needs}
 use Rattle.text.specs.Literal.{ascii}
 use Rattle.buffer.proofs.Over.{put-then}
@@ -43,6 +48,9 @@ put-count-requires-4 c κs = search needs
 same-length : tie.Need-same-length
 same-length c = search needs
 
+few : (s : tie.Start) → length (checkedLines (s .args .errors) (s .args .warnings) (s .args .infos) (s .args .total)) ≤ 256
+few s = checked-short (s .args .errors) (s .args .warnings) (s .args .infos) (s .args .total) (omega arith) (omega arith) (omega arith) (omega arith)
+
 returns : tie.Need-returns
 unfolding ascii checkedLines
 returns c =
@@ -51,7 +59,9 @@ returns c =
     let third = fourth .before .before .before .before .before in
     let second = third .before .before .before .before .before in
     let first = second .before .before .before .before .before in
-    put-then (first .put-line .ensures) (put-then (second .put-count .ensures .written) (put-then (third .put-count2 .ensures .written) (put-then (fourth .put-count3 .ensures .written) (fifth .put-count4 .ensures .written))))
+    let a = c .before .before .before .before .before .before .before .before .before .before .before .before .before .before .before .before .before .before .before .before .before .before .before .before .before .before .before .args in
+    let w : Put (checkedLines (a .errors) (a .warnings) (a .infos) (a .total)) _ _ _ _ = put-then (first .put-line .ensures) (put-then (second .put-count .ensures .written) (put-then (third .put-count2 .ensures .written) (put-then (fourth .put-count3 .ensures .written) (fifth .put-count4 .ensures .written)))) in
+    (w, put-short 256 w (few (c .before .before .before .before .before .before .before .before .before .before .before .before .before .before .before .before .before .before .before .before .before .before .before .before .before .before .before)))
 
 pub put-checked-spec : {M : Type 1} → statement M
 put-checked-spec =

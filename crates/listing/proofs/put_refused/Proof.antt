@@ -1,5 +1,10 @@
 -- `listing::put_refused` meets its contract.
 -- Assumes nothing.
+use Prim.Native.Nat.{_≤_}
+use lib.ListN.{length}
+use native.Mathlib.Omega.{arith}
+use Rattle.buffer.specs.Over.{Put}
+use Rattle.listing.proofs.Lines.{put-short, refused-short}
 use borrow.Author.Needs.{needs}
 use Rattle.text.specs.Literal.{ascii}
 use Rattle.buffer.proofs.Over.{put-then}
@@ -31,12 +36,17 @@ put-count-requires-2 c κs = search needs
 same-length : tie.Need-same-length
 same-length c = search needs
 
+few : (s : tie.Start) → length (refusedLines (s .args .number) (s .args .place)) ≤ 256
+few s = refused-short (s .args .number) (s .args .place) (omega arith) (omega arith)
+
 returns : tie.Need-returns
 unfolding ascii refusedLines
 returns c =
     let third = c .before .before in
     let second = third .before .before .before .before .before in
-    put-then (second .before .before .before .before .before .put-line .ensures) (put-then (second .put-count .ensures .written) (third .put-count2 .ensures .written))
+    let a = c .before .before .before .before .before .before .before .before .before .before .before .before .before .before .before .before .before .args in
+    let w : Put (refusedLines (a .number) (a .place)) _ _ _ _ = put-then (second .before .before .before .before .before .put-line .ensures) (put-then (second .put-count .ensures .written) (third .put-count2 .ensures .written)) in
+    (w, put-short 256 w (few (c .before .before .before .before .before .before .before .before .before .before .before .before .before .before .before .before .before)))
 
 pub put-refused-spec : {M : Type 1} → statement M
 put-refused-spec =

@@ -1,5 +1,9 @@
 -- `listing::put_too_large` meets its contract.
 -- Assumes nothing.
+use native.Mathlib.Omega.{arith}
+use Rattle.buffer.specs.Over.{Put}
+use Rattle.listing.specs.Lines.{tooLargeLines}
+use Rattle.listing.proofs.Lines.{put-short}
 use borrow.Author.Needs.{needs}
 use Rattle.text.specs.Literal.{ascii}
 use Rattle.listing.proofs.put_too_large.Statement.{statement}
@@ -19,7 +23,9 @@ same-length c = search needs
 
 returns : tie.Need-returns
 unfolding ascii
-returns c = c .before .before .put-line .ensures
+returns c =
+    let w : Put tooLargeLines _ _ _ _ = c .before .before .put-line .ensures in
+    (w, put-short 256 w (omega arith))
 
 pub put-too-large-spec : {M : Type 1} → statement M
 put-too-large-spec =

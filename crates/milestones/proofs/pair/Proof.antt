@@ -61,12 +61,12 @@ module _ {M : Type 1} (𝓤 : URA M) (H : Heap 𝓤) (A : Atoms 𝓤) (W : Given
               elim (cases-Found (z-nearest .0)) [
                 | inl v-nearest ↦ arm-of 𝓣 ! (of-enum Found-T.the-type Found-T.Laws.the-laws Found-T.Laws.the-plain tt) 19 (v-nearest .1) (s-nearest .0) refl (cell-tag ! 19 refl refl refl) tt (λ is-nearest.
                     sets ! (of-opd ! (cell-variant ! 19 0 0 refl refl refl refl refl)) 13 refl (tt, record { fits = (EL.lawful Found-T.the-type Found-L.the-laws 𝓤 H A W tt .typed (Found-V.At (v-nearest .0)) _ is-nearest .0) .1 .1 .0 .fits }) $
-                    reslices ! 8 24 25 refl refl refl tt refl refl refl (tt, (tt, (record { fits = (opens-room .0) }, tt))) $ move ! (2 ∷ []) $ let req-remove : ((v-nearest .0) < k₀) × (k₀ ≤ length (z-nearest .1 .0)) = (end-inside source₀ tape₀ opens₀ k₀ step₀ _ _ (v-step .2) _ _ ((s-nearest .1 .1) .1) (v-nearest .1), known-room source₀ tape₀ opens₀ (z-nearest .1 .0) k₀ (req .0) (s-nearest .1 .0)) in calls-into W 𝓣 remove-C.terms ((opens-at, (z-nearest .1 .0)), (k₀, ((v-nearest .0), tt))) ! ((refl, k₀-is), ((refl, (EL.lawful Found-T.the-type Found-L.the-laws 𝓤 H A W tt .typed (Found-V.At (v-nearest .0)) _ is-nearest .0) .1 .1 .0 .fits), tt)) req-remove known-remove (and-then ! (cell ! 25 refl) (and-then ! (cell ! 9 refl) (and-then ! (cell ! 13 refl) (no-more !)))) 23 (λ _. refl) refl (λ z-remove s-remove.
-                    let least-2 : 1 ≤ k₀ = first-of _ _ (end-inside source₀ tape₀ opens₀ k₀ step₀ _ _ (v-step .2) _ _ ((s-nearest .1 .1) .1) (v-nearest .1)) in let fits-2 : (k₀ - 1) < 2 ^ 64 = less-fits _ _ k₀-is in sets ! (bin ! (cell ! 9 refl) (lit ! tt) least-2) 26 refl (tt, record { fits = fits-2 }) $ let made-2-is : Is Paired-T.the-row (Paired-V.Now (k₀ - 1)) (EL.val Paired-T.the-type Paired-L.the-laws (Paired-V.Now (k₀ - 1)) ∷ []) = EL.owes Paired-T.the-type Paired-L.the-laws (Paired-V.Now (k₀ - 1)) ((refl, fits-2), tt) in sets ! (agg ! (and-then ! (lit ! tt) (and-then ! (cell ! 26 refl) (no-more !)))) 22 refl (EL.lawful Paired-T.the-type Paired-L.the-laws 𝓤 H A W tt .typed (Paired-V.Now (k₀ - 1)) _ made-2-is .0) $ sets ! (of-opd ! (cell ! 22 refl)) 14 refl (EL.lawful Paired-T.the-type Paired-L.the-laws 𝓤 H A W tt .typed (Paired-V.Now (k₀ - 1)) _ made-2-is .0) $ sets ! (of-opd ! (cell ! 14 refl)) 4 refl (EL.lawful Paired-T.the-type Paired-L.the-laws 𝓤 H A W tt .typed (Paired-V.Now (k₀ - 1)) _ made-2-is .0) $
-                    keep ! (span 3 24 (1 ∷ 2 ∷ 0 ∷ [])) $ ends ! ρ refl tt (Paired-V.Now (k₀ - 1)) made-2-is ((z-remove .1 .0), tt) (((s-remove .1 .0) ∙ (s-nearest .1 .0)), tt) (pair-end source₀ tape₀ opens₀ k₀ step₀ _ _ (v-step .2) _ _ _ _ ((s-nearest .1 .1) .0) ((s-nearest .1 .1) .1) (v-nearest .1) (s-remove .1 .1)) refl))
+                    reslices ! 8 24 25 refl refl refl tt refl refl refl (tt, (tt, (record { fits = (opens-room .0) }, tt))) $ move ! (2 ∷ []) $ let req-remove : ((v-nearest .0) < k₀) × (k₀ ≤ length (z-nearest .1 .0)) = (end-inside source₀ tape₀ opens₀ k₀ step₀ _ _ (v-step .2) _ ((s-nearest .1 .1) .1) _ (v-nearest .1), known-room source₀ tape₀ opens₀ (z-nearest .1 .0) k₀ (req .0) (s-nearest .1 .0)) in calls-into W 𝓣 remove-C.terms ((opens-at, (z-nearest .1 .0)), (k₀, ((v-nearest .0), tt))) ! ((refl, k₀-is), ((refl, (EL.lawful Found-T.the-type Found-L.the-laws 𝓤 H A W tt .typed (Found-V.At (v-nearest .0)) _ is-nearest .0) .1 .1 .0 .fits), tt)) req-remove known-remove (and-then ! (cell ! 25 refl) (and-then ! (cell ! 9 refl) (and-then ! (cell ! 13 refl) (no-more !)))) 23 (λ _. refl) refl (λ z-remove s-remove.
+                    let least-2 : 1 ≤ k₀ = first-of _ _ (end-inside source₀ tape₀ opens₀ k₀ step₀ _ _ (v-step .2) _ ((s-nearest .1 .1) .1) _ (v-nearest .1)) in let fits-2 : (k₀ - 1) < 2 ^ 64 = less-fits _ _ k₀-is in sets ! (bin ! (cell ! 9 refl) (lit ! tt) least-2) 26 refl (tt, record { fits = fits-2 }) $ let made-2-is : Is Paired-T.the-row (Paired-V.Now (k₀ - 1)) (EL.val Paired-T.the-type Paired-L.the-laws (Paired-V.Now (k₀ - 1)) ∷ []) = EL.owes Paired-T.the-type Paired-L.the-laws (Paired-V.Now (k₀ - 1)) ((refl, fits-2), tt) in sets ! (agg ! (and-then ! (lit ! tt) (and-then ! (cell ! 26 refl) (no-more !)))) 22 refl (EL.lawful Paired-T.the-type Paired-L.the-laws 𝓤 H A W tt .typed (Paired-V.Now (k₀ - 1)) _ made-2-is .0) $ sets ! (of-opd ! (cell ! 22 refl)) 14 refl (EL.lawful Paired-T.the-type Paired-L.the-laws 𝓤 H A W tt .typed (Paired-V.Now (k₀ - 1)) _ made-2-is .0) $ sets ! (of-opd ! (cell ! 14 refl)) 4 refl (EL.lawful Paired-T.the-type Paired-L.the-laws 𝓤 H A W tt .typed (Paired-V.Now (k₀ - 1)) _ made-2-is .0) $
+                    keep ! (span 3 24 (1 ∷ 2 ∷ 0 ∷ [])) $ ends ! ρ refl tt (Paired-V.Now (k₀ - 1)) made-2-is ((z-remove .1 .0), tt) (((s-remove .1 .0) ∙ (s-nearest .1 .0)), tt) (pair-end source₀ tape₀ opens₀ k₀ step₀ _ _ (v-step .2) _ ((s-nearest .1 .1) .1) _ _ _ ((s-nearest .1 .1) .0) (v-nearest .1) (s-remove .1 .1)) refl))
                 | inr v-nearest ↦ arm-of 𝓣 ! (of-enum Found-T.the-type Found-T.Laws.the-laws Found-T.Laws.the-plain tt) 19 v-nearest (s-nearest .0) refl (cell-tag ! 19 refl refl refl) tt (λ is-nearest.
                     let made-3-is : Is Paired-T.the-row Paired-V.Alone (EL.val Paired-T.the-type Paired-L.the-laws Paired-V.Alone ∷ []) = EL.owes Paired-T.the-type Paired-L.the-laws Paired-V.Alone tt in sets ! (agg ! (and-then ! (lit ! tt) (no-more !))) 22 refl (EL.lawful Paired-T.the-type Paired-L.the-laws 𝓤 H A W tt .typed Paired-V.Alone _ made-3-is .0) $ sets ! (of-opd ! (cell ! 22 refl)) 14 refl (EL.lawful Paired-T.the-type Paired-L.the-laws 𝓤 H A W tt .typed Paired-V.Alone _ made-3-is .0) $ sets ! (of-opd ! (cell ! 14 refl)) 4 refl (EL.lawful Paired-T.the-type Paired-L.the-laws 𝓤 H A W tt .typed Paired-V.Alone _ made-3-is .0) $
-                    keep ! (span 3 24 (0 ∷ 1 ∷ 2 ∷ [])) $ ends ! ρ refl tt Paired-V.Alone made-3-is ((z-nearest .1 .0), tt) ((s-nearest .1 .0), tt) (pair-alone source₀ tape₀ opens₀ k₀ step₀ _ _ (v-step .2) _ _ ((s-nearest .1 .1) .0) ((s-nearest .1 .1) .1) v-nearest) refl)
+                    keep ! (span 3 24 (0 ∷ 1 ∷ 2 ∷ [])) $ ends ! ρ refl tt Paired-V.Alone made-3-is ((z-nearest .1 .0), tt) ((s-nearest .1 .0), tt) (pair-alone source₀ tape₀ opens₀ k₀ step₀ _ _ (v-step .2) _ ((s-nearest .1 .1) .1) _ ((s-nearest .1 .1) .0) v-nearest) refl)
               ]))
           | inr v-step ↦ arm-of 𝓣 ! (of-enum Step-T.the-type Step-T.Laws.the-laws Step-T.Laws.the-plain tt) 4 v-step step₀-is refl (cell-tag ! 4 refl refl refl) tt (λ is-step.
               let made-4-is : Is Paired-T.the-row (Paired-V.Now k₀) (EL.val Paired-T.the-type Paired-L.the-laws (Paired-V.Now k₀) ∷ []) = EL.owes Paired-T.the-type Paired-L.the-laws (Paired-V.Now k₀) ((refl, k₀-is), tt) in sets ! (agg ! (and-then ! (lit ! tt) (and-then ! (cell ! 6 refl) (no-more !)))) 11 refl (EL.lawful Paired-T.the-type Paired-L.the-laws 𝓤 H A W tt .typed (Paired-V.Now k₀) _ made-4-is .0) $ sets ! (of-opd ! (cell ! 11 refl)) 1 refl (EL.lawful Paired-T.the-type Paired-L.the-laws 𝓤 H A W tt .typed (Paired-V.Now k₀) _ made-4-is .0) $

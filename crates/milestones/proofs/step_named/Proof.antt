@@ -74,9 +74,9 @@ cast-t22 : tie.Need-cast-t22
 cast-t22 c = search needs
 
 returns : tie.Need-returns
-returns c e of =
+returns c =
     let n = c .before .before .before in
-    a-start (now (whole n .args .source)) (now (whole n .args .tape)) (whole n .args .i) (n .before .before .before .start-at .result) (n .before .before .len-at .result) (n .before .before .before .start-at .ensures) (n .before .before .len-at .ensures) (fits n) (n .name-span .result) (n .name-span .ensures) e of (c .before .ends-in .result) (c .before .ends-in .ensures) (c .if1 .taken)
+    a-start (now (whole n .args .source)) (now (whole n .args .tape)) (whole n .args .i) (n .before .before .before .start-at .result) (n .before .before .len-at .result) (n .before .before .before .start-at .ensures) (n .before .before .len-at .ensures) (fits n) (n .name-span .result) (n .name-span .ensures) (c .before .ends-in .result) (c .before .ends-in .ensures) (c .if1 .taken)
 
 ends-in-requires-2 : tie.Need-ends-in-requires-2
 ends-in-requires-2 c κs = search needs
@@ -91,14 +91,14 @@ sub-t27 : tie.Need-sub-t27
 sub-t27 c = base-start (c .before .before .before .before .before) 0x65 (sym (c .before .ends-in2 .ensures) ∙ c .if2 .taken)
 
 returns-2 : tie.Need-returns-2
-returns-2 c e of =
+returns-2 c =
     let n = c .before .before .before .before .before in
-    an-end (now (whole n .args .source)) (now (whole n .args .tape)) (whole n .args .i) (n .before .before .before .start-at .result) (n .before .before .len-at .result) (n .before .before .before .start-at .ensures) (n .before .before .len-at .ensures) (fits n) (n .name-span .result) (n .name-span .ensures) e of (c .before .before .before .ends-in .result) (c .before .ends-in2 .result) (c .before .before .before .ends-in .ensures) (c .before .ends-in2 .ensures) (c .before .before .if1 .left) (c .if2 .taken) (omega arith)
+    an-end (now (whole n .args .source)) (now (whole n .args .tape)) (whole n .args .i) (n .before .before .before .start-at .result) (n .before .before .len-at .result) (n .before .before .before .start-at .ensures) (n .before .before .len-at .ensures) (fits n) (n .name-span .result) (n .name-span .ensures) (c .before .before .before .ends-in .result) (c .before .ends-in2 .result) (c .before .before .before .ends-in .ensures) (c .before .ends-in2 .ensures) (c .before .before .if1 .left) (c .if2 .taken) (omega arith)
 
 returns-3 : tie.Need-returns-3
-returns-3 c e of =
+returns-3 c =
     let n = c .before .before .before .before .before in
-    neither (now (whole n .args .source)) (now (whole n .args .tape)) (whole n .args .i) (n .before .before .before .start-at .result) (n .before .before .len-at .result) (n .before .before .before .start-at .ensures) (n .before .before .len-at .ensures) (fits n) (n .name-span .result) (n .name-span .ensures) e of (c .before .before .before .ends-in .result) (c .before .ends-in2 .result) (c .before .before .before .ends-in .ensures) (c .before .ends-in2 .ensures) (c .before .before .if1 .left) (c .if2 .left)
+    neither (now (whole n .args .source)) (now (whole n .args .tape)) (whole n .args .i) (n .before .before .before .start-at .result) (n .before .before .len-at .result) (n .before .before .before .start-at .ensures) (n .before .before .len-at .ensures) (fits n) (n .name-span .result) (n .name-span .ensures) (c .before .before .before .ends-in .result) (c .before .ends-in2 .result) (c .before .before .before .ends-in .ensures) (c .before .ends-in2 .ensures) (c .before .before .if1 .left) (c .if2 .left)
 
 pub step-named-spec : {M : Type 1} → statement M
 step-named-spec =

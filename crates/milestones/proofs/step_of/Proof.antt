@@ -18,12 +18,12 @@ step-named-requires c κs = search needs
 returns : tie.Need-returns
 returns c =
     let m = c .before .before .before .before .before .args .m in
-    c .step-named .ensures (entryOfInfo m) (eqb-true (entryOfInfo m .category) milestoneCategory (sym (c .before .before .is-of .ensures) ∙ c .before .if1 .taken))
+    (c .step-named .ensures .0 (entryOfInfo m) (eqb-true (entryOfInfo m .category) milestoneCategory (sym (c .before .before .is-of .ensures) ∙ c .before .if1 .taken)), c .step-named .ensures .1)
 
 returns-2 : tie.Need-returns-2
 returns-2 c =
     let a = c .before .before .before .before .args in
-    other-category (entryOfInfo (a .m)) (now (a .source)) (now (a .tape)) (a .i) (c .before .is-of .result) (c .before .is-of .ensures) (c .if1 .left)
+    (other-category (entryOfInfo (a .m)) (now (a .source)) (now (a .tape)) (a .i) (c .before .is-of .result) (c .before .is-of .ensures) (c .if1 .left), tt)
 
 pub step-of-spec : {M : Type 1} → statement M
 step-of-spec = tie.close (tie.spec is-of-requires step-named-requires returns returns-2)

@@ -18,11 +18,11 @@ returns-2 c = search needs
 numbers-requires : tie.Need-numbers-requires
 numbers-requires c κs = search needs
 
+copies-requires : tie.Need-copies-requires
+copies-requires c κs = search needs
+
 words-requires : tie.Need-words-requires
 words-requires c κs = search needs
-
-words-requires-2 : tie.Need-words-requires-2
-words-requires-2 c κs = search needs
 
 array-borrow-prefix-seen : tie.Need-array-borrow-prefix-seen
 array-borrow-prefix-seen c = search needs
@@ -65,8 +65,8 @@ replayed-spec =
     returns
     returns-2
     numbers-requires
+    copies-requires
     words-requires
-    words-requires-2
     array-borrow-prefix-seen
     slice-aggregate-answered
     mul-opens

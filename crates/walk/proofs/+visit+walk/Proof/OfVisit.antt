@@ -1,7 +1,7 @@
 -- Written by proof_writer/write from proof_writer/descriptions/walk.py, from the code and its contracts.
 -- The walk of `walk::visit`.
 use Rattle.reference_laws.proofs.Walk.{_≡_, refl, _∙_, true, full, empty, ℕ, _<_, _≤_, _^_, _+_, _-_, _*_, [], _∷_, List, length, lit<, URA, w64, vint, Heap, Calls, Tables, Atoms, Given, ‵, atRet, runs, _$_, !, move, keep, Sq, look, look-raw, store-raw, init, forget, stop, hop, fld, from, load, lit, unit-lit, addr, of-opd, bin, un, and-then, no-more, assigns, first, whole, sub, look-in, Is, u8, u32, u64, SizeOf, heard, if-then, skip-then, is-true, At, ptrVal, fatVal, HasRef, HasMut, HasShr, of-struct, Inputs, Rule, rule-of, Met, Knows, WalkIn, Leaves, ends, say, span, env-of, Stands, cell, cell-field, sets, reslices, opens-ref, shuts-ref, calls-into-met, calls-into}
-use Rattle.tape.specs.Nodes.{kindAt, isOpen, count, linkAt}
+use Rattle.tape.specs.Nodes.{kindAt, count, linkAt, isOpen}
 use Rattle.tape.specs.Forest.{forest}
 use Rattle.table.specs.Entries.{entryOfInfo}
 use Rattle.cursor.specs.Inner.{Run}
