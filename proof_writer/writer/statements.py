@@ -5,7 +5,7 @@ from .kinds import BOOL, UNIT, Array, Declared, UInt
 from .state import Value
 from .terms import bracketed, dashed
 
-# From this number on, or from a smaller one above 512, the toolchain writes a literal as `intBig`, whose bound is a proof.
+# The toolchain writes a large literal as `intBig`, whose bound is a proof: this one, and not 512.
 LARGE_LITERAL = 2048
 SYMBOL = {'add': '+', 'sub': '-', 'mul': '*'}
 

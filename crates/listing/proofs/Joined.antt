@@ -2,6 +2,7 @@
 -- Assumes nothing.
 use Prim.Native.Nat.{ℕ, zero, suc, _+_, _*_, _-_, _<_, _≤_}
 use native.Mathlib.Omega.{arith}
+use native.Mathlib.Decide.{decLt}
 use mathlib.Core.Path.{_≡_, refl, sym, ap, _∙_}
 use mathlib.Core.Bool.{Bool, true, false, _&&_, _||_}
 use mathlib.Core.List.{List, [], _∷_, _++_, append-assoc, append-nil}
@@ -12,7 +13,8 @@ use lib.Seq.{take-at, take-all, drop-drop, length-take-le}
 use borrow.Author.Tests.{lt-ltb, le-ltb, ltb-true, ltb-false, leb-true}
 use Rattle.text.specs.Pick.{pick}
 use Rattle.text.specs.Literal.{ascii}
-use Rattle.text.proofs.Bool.{or-parts, and-left, and-right}
+use Rattle.text.proofs.Bool.{and-left, and-right}
+use Rattle.text.proofs.AnyOver.{any-parts}
 use Rattle.refusals.specs.Refusal.{Refusal}
 use Rattle.tape.specs.Nodes.{count}
 use Rattle.buffer.specs.Decimal.{decimal}
@@ -20,7 +22,7 @@ use Rattle.buffer.proofs.Decimal.{decimal-length}
 use Rattle.findings.specs.Finding.{Finding}
 use Rattle.findings.specs.Written.{room, wholeRecords, encode, findingsIn}
 use Rattle.findings.proofs.Overlay.{encode-length, findings-in-words}
-use Rattle.definition.specs.Outcome.{Lent, of10, refusal, smaller, listOf, checkedOf, Answer, checked, answerBy, answer, listAfter}
+use Rattle.definition.specs.Outcome.{Lent, of10, refusal, repeated, smaller, listOf, checkedOf, Answer, checked, answerBy, answer, listAfter}
 use Rattle.message_texts.specs.Filled.{joined}
 use Rattle.messages.specs.Message.{requestOf, messageText}
 use Rattle.messages.specs.Answer.{firstNine}
@@ -189,18 +191,18 @@ held-words l e =
     ∙ take-at (encode fit) rest (8 * length fit) (encode-length fit))
     ∙ findings-in-words fit
 
-module _ (l : Lent) (small : isTooLarge (l .table) (l .source) (l .tape) ≡ false) (seen : 4096 ≤ length (l .seen)) (opens : 4096 ≤ length (l .openStarts)) (holds : length (l .list) ≡ 8 * mostHeld) where
+module _ (l : Lent) (small : isTooLarge (l .table) (l .source) (l .tape) ≡ false) (seen : 4096 ≤ length (l .seen)) (opens : 4096 ≤ length (l .openStarts)) where
   few : count (l .tape) ≤ 4096
-  few =
-      let a = or-parts (ltb largestFile (length (l .table))) (ltb largestFile (length (l .source)) || ltb largestFile (length (l .tape))) small .1 in
-      omega (arith, ltb-false largestFile (length (l .tape)) (or-parts (ltb largestFile (length (l .source))) (ltb largestFile (length (l .tape))) a .1))
+  few = omega (arith, any-parts largestFile (length (l .table)) (length (l .source)) (length (l .tape)) small .1 .1)
 
-  no-ten : of10 l ≡ none
+  -- number 10 turns back no document of files
+  pub no-ten : of10 l ≡ none
   no-ten = rw (le-ltb (length (l .seen)) (count (l .tape)) (omega (arith, few)), le-ltb (length (l .openStarts)) (count (l .tape)) (omega (arith, few)))
 
+module _ (l : Lent) (small : isTooLarge (l .table) (l .source) (l .tape) ≡ false) (seen : 4096 ≤ length (l .seen)) (opens : 4096 ≤ length (l .openStarts)) (holds : length (l .list) ≡ 8 * mostHeld) where
   listing-is : listing (l .table) (l .source) (l .tape) ≡ listingBy (refusal l) (checkedListing (l .table) (l .source) (l .tape) (listOf l))
   unfolding listing
-  listing-is = rw (small, nine-whole l no-ten)
+  listing-is = rw (small, nine-whole l (no-ten l small seen opens))
 
   answer-is : refusal l ≡ none → answer l ≡ checked (checkedOf l)
   answer-is e = ap (λ (x : Option Refusal). answerBy x (checkedOf l)) e
@@ -222,3 +224,24 @@ module _ (l : Lent) (small : isTooLarge (l .table) (l .source) (l .tape) ≡ fal
   -- the lines of all held findings in pieces, the head before them
   pub listing-joined : (rooms : List ℕ) → nextAfter (heldTexts messageRoom l) 0 rooms ≡ length (heldTexts messageRoom l) → headLines (answer l) ++ piecesOf (heldTexts messageRoom l) 0 rooms ≡ listing (l .table) (l .source) (l .tape)
   listing-joined rooms e = ap (headLines (answer l) ++_) (pieces-joined (heldTexts messageRoom l) 0 rooms (omega arith) e) ∙ whole-listing (refusal l) refl
+
+  -- enough pieces, each with room for a message and 512 bytes more, reach the last held finding
+  module _ (r : ℕ) (enough : messageRoom + 512 ≤ r) where
+    held-goes-on : (k : ℕ) → k < length (heldTexts messageRoom l) → 1 ≤ wholeIn r (drop k (heldTexts messageRoom l))
+    held-goes-on k h =
+        let fs = heldFindings (heldCount (answer l)) (listAfter l) in
+        let short = any-parts largestFile (length (l .table)) (length (l .source)) (length (l .tape)) small .1 .0 in
+        each-goes-on messageRoom (l .table) (l .source) (l .tape) (omega arith) k fs r (rw (each-length messageRoom (l .table) (l .source) (l .tape) fs) at h) enough
+
+    texts-reached : (n k : ℕ) → k ≤ length (heldTexts messageRoom l) → length (heldTexts messageRoom l) ≤ k + n → nextAfter (heldTexts messageRoom l) k (repeated r n) ≡ length (heldTexts messageRoom l)
+    unfolding nextAfter repeated
+    texts-reached zero k low high = omega arith
+    texts-reached (suc n) k low high = texts-reached n (nextOf (heldTexts messageRoom l) k r) (next-le (heldTexts messageRoom l) k r low) (gone (decLt k (length (heldTexts messageRoom l))))
+      where
+        gone : Dec (k < length (heldTexts messageRoom l)) → length (heldTexts messageRoom l) ≤ nextOf (heldTexts messageRoom l) k r + n
+        gone (yes h) = omega (arith, held-goes-on k h)
+        gone (no h) = omega arith
+
+    -- whatever number of such pieces is at least that of the held findings
+    pub listing-printed : (n : ℕ) → length (heldTexts messageRoom l) ≤ n → headLines (answer l) ++ piecesOf (heldTexts messageRoom l) 0 (repeated r n) ≡ listing (l .table) (l .source) (l .tape)
+    listing-printed n h = listing-joined (repeated r n) (texts-reached n 0 (omega arith) (omega arith))

@@ -17,9 +17,9 @@ use Rattle.listing.specs.Inner.{lineOf, Near}
 pub line-written : {key value l l₁ l₂ l₃ l₄ : List ℕ} {at a b c r : ℕ} → Put key l at l₁ a → Put (0x3D ∷ []) l₁ a l₂ b → Put value l₂ b l₃ c → Put (10 ∷ []) l₃ c l₄ r → Put (lineOf key value) l at l₄ r
 line-written p q v e = put-then p (put-then q (put-then v e))
 
--- a line with a short key and a short value
-pub line-near : (key value : List ℕ) {l l′ : List ℕ} {at r : ℕ} → Put (lineOf key value) l at l′ r → length key ≤ 8 → length value ≤ 1000 → Near (lineOf key value) l at l′ r
-line-near key value p h k =
+-- a line with a short key, and a value of at most n bytes
+pub line-near : (n : ℕ) (key value : List ℕ) {l l′ : List ℕ} {at r : ℕ} → Put (lineOf key value) l at l′ r → length key ≤ 8 → length value ≤ n → Near (n + 10) (lineOf key value) l at l′ r
+line-near n key value p h k =
     record {
       written = p;
       near = (let e = p .end in omega (arith, length-append key (0x3D ∷ value ++ (10 ∷ [])), length-append value (10 ∷ [])));
@@ -32,7 +32,7 @@ pub put-short : {s l l′ : List ℕ} {at r : ℕ} (n : ℕ) → Put s l at l′
 put-short n p h = let e = p .end in omega arith
 
 -- a line with a number of 64 bits
-count-length : (key : String) (n : ℕ) → n < 18446744073709551616 → length (line key (decimal n)) ≤ length (ascii key) + 22
+pub count-length : (key : String) (n : ℕ) → n < 18446744073709551616 → length (line key (decimal n)) ≤ length (ascii key) + 22
 count-length key n h = omega (arith, line-length key (decimal n), decimal-length n h)
 
 pub refused-short : (number place : ℕ) → number < 18446744073709551616 → place < 18446744073709551616 → length (refusedLines number place) ≤ 256

@@ -1,4 +1,4 @@
--- A listing in pieces: which findings a piece has, and that pieces one behind another are the whole.
+-- A listing in pieces: the findings that a list holds, their lines, and a piece written finding by finding.
 -- Assumes nothing.
 use Prim.Native.Nat.{ℕ, zero, suc, _+_, _*_, _-_, _<_, _≤_}
 use native.Mathlib.Omega.{arith}
@@ -18,7 +18,7 @@ use Rattle.findings.specs.Finding.{Finding}
 use Rattle.findings.specs.Written.{findingsIn, wholeRecords}
 use Rattle.message_texts.specs.Filled.{joined}
 use Rattle.listing.specs.Listing.{listedFinding, listedEach}
-use Rattle.listing.specs.Pieces.{heldFindings, wholeIn, pieceOf, nextOf, piecesOf, nextAfter}
+use Rattle.listing.specs.Pieces.{heldFindings, wholeIn, pieceOf, nextOf}
 use Rattle.listing.specs.Inner.{recordAt, PutWhole}
 
 -- ---- The findings that a list holds

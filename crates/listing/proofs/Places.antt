@@ -11,8 +11,8 @@ use borrow.Author.Tests.{eq-eqb, ne-eqb}
 use Rattle.buffer.specs.Over.{over}
 use Rattle.buffer.proofs.Over.{over-none, over-set, length-over}
 use Rattle.listing.specs.Lines.{Place, afterByte, placeFrom, lineAndColumn}
-use Rattle.listing.specs.LinesAndColumns.{eachFrom, linesFrom, columnsFrom}
-use Rattle.listing.specs.Inner.{PlacesOf, Listable}
+use Rattle.listing.specs.LinesAndColumns.{eachFrom, linesFrom, columnsFrom, PlacesOf}
+use Rattle.listing.specs.Pieces.{Listable}
 use Rattle.table.specs.Inner.{Indexed}
 use Rattle.tape.specs.Forest.{Accepted}
 

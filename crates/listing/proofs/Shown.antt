@@ -21,8 +21,9 @@ use Rattle.messages.specs.declared.MessageAnswer.{MessageAnswer}
 use Rattle.messages.specs.declared.MessageAnswer.the-variants as answer
 use Rattle.definition.specs.Outcome.{smaller}
 use Rattle.listing.specs.Lines.{Place, afterByte, placeFrom, lineAndColumn, findingLines}
+use Rattle.listing.specs.LinesAndColumns.{PlacesOf}
 use Rattle.listing.specs.Listing.{messageShown, listedFinding}
-use Rattle.listing.specs.Inner.{ShownIn, PlacesOf, PutWhole, recordAt, listedOf}
+use Rattle.listing.specs.Inner.{ShownIn, PutWhole, recordAt, listedOf}
 use Rattle.listing.specs.declared.Listed.{Listed}
 
 -- what `message_in` answers and writes

@@ -1,13 +1,11 @@
 -- What the functions inside the crate promise.
-use Prim.Native.Nat.{ℕ, _+_, _*_, _<_, _≤_}
+use Prim.Native.Nat.{ℕ, _+_, _*_, _≤_}
 use mathlib.Core.Path.{_≡_}
 use mathlib.Core.List.{List, [], _∷_, _++_}
 use lib.Dec.{ltb}
 use lib.ListN.{length, getD, take}
 use Rattle.text.specs.Pick.{pick}
 use Rattle.buffer.specs.Over.{Put, over}
-use Rattle.table.specs.Inner.{Indexed}
-use Rattle.tape.specs.Forest.{Accepted}
 use Rattle.findings.specs.Finding.{Finding}
 use Rattle.listing.specs.Lines.{lineAndColumn}
 use Rattle.listing.specs.declared.Listed.{Listed}
@@ -16,24 +14,10 @@ use Rattle.listing.specs.declared.Listed.{Listed}
 abbrev pub lineOf : List ℕ → List ℕ → List ℕ
 lineOf key value = key ++ (0x3D ∷ value ++ (10 ∷ []))
 
--- written bytes, at most 1,024 of them
-pub record Near (s l : List ℕ) (at : ℕ) (l′ : List ℕ) (r : ℕ) : Type 0 where
+-- written bytes, at most n of them
+pub record Near (n : ℕ) (s l : List ℕ) (at : ℕ) (l′ : List ℕ) (r : ℕ) : Type 0 where
   pub written : Put s l at l′ r
-  pub near : r ≤ at + 1024
-
--- the lists that `lines_and_columns` writes: line and column of every place of a source
-pub record PlacesOf (s lines columns : List ℕ) : Type 0 where
-  pub lines-room : length s < length lines
-  pub columns-room : length s < length columns
-  pub lines-are : (i : ℕ) → i ≤ length s → getD lines i 0 ≡ lineAndColumn s i .line
-  pub columns-are : (i : ℕ) → i ≤ length s → getD columns i 0 ≡ lineAndColumn s i .column
-
--- a document that numbers 1 to 9 pass, with its table's index and the lines and columns of its source
-pub record Listable (table index : List ℕ) (entries : ℕ) (s t lines columns : List ℕ) : Type 0 where
-  pub indexed : Indexed table index entries
-  pub accepted : Accepted s t
-  pub short : length s ≤ 1048576
-  pub places : PlacesOf s lines columns
+  pub near : r ≤ at + n
 
 -- the first r bytes of a list are these
 pub record ShownIn (s text : List ℕ) (r : ℕ) : Type 0 where

@@ -1,11 +1,11 @@
 -- Document 01, "Listing": what check-exercise prints for a table, a source and a tape.
 use Prim.Native.Nat.{ℕ}
-use mathlib.Core.Bool.{Bool, _||_}
+use mathlib.Core.Bool.{Bool}
 use mathlib.Core.List.{List, [], _∷_, _++_}
 use mathlib.Core.Option.{Option, some, none}
 use lib.Dec.{ltb}
 use lib.ListN.{length, take}
-use Rattle.text.specs.Pick.{pick}
+use Rattle.text.specs.Pick.{pick, anyOver}
 use Rattle.refusals.specs.Refusal.{Refusal}
 use Rattle.tape.specs.Forest.{top}
 use Rattle.findings.specs.Finding.{Finding, errorSeverity, warningSeverity, infoSeverity}
@@ -21,7 +21,7 @@ abbrev pub largestFile : ℕ
 largestFile = 65536
 
 abbrev pub isTooLarge : List ℕ → List ℕ → List ℕ → Bool
-isTooLarge table s t = ltb largestFile (length table) || (ltb largestFile (length s) || ltb largestFile (length t))
+isTooLarge table s t = anyOver largestFile (length table) (length s) (length t)
 
 -- "Its findings list holds 1,024, its message list 65,536 bytes"
 abbrev pub mostHeld : ℕ
@@ -55,6 +55,6 @@ abbrev pub listingBy : Option Refusal → List ℕ → List ℕ
 listingBy (some r) checked = refusedLines (r .number) (r .place)
 listingBy none checked = checked
 
--- the whole output; number 10 never turns back a file's document, since the program lends a working list for 4,096 nodes, and a file has no more
+-- the whole output; number 10 never turns back a file's document, since the program lends working lists for 4,096 nodes, and a file has no more
 unfoldable pub listing : List ℕ → List ℕ → List ℕ → List ℕ
 listing table s t = pick (isTooLarge table s t) tooLargeLines (listingBy (firstNine table s t) (checkedListing table s t (findings table (top s t))))

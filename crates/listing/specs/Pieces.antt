@@ -1,14 +1,17 @@
 -- A listing in pieces: a head, then as many whole findings as fit into a lent list, and where to go on.
-use Prim.Native.Nat.{ℕ, suc, _+_, _*_, _-_}
+use Prim.Native.Nat.{ℕ, suc, _+_, _*_, _-_, _≤_}
 use mathlib.Core.List.{List, [], _∷_, _++_}
 use lib.Dec.{ltb}
 use lib.ListN.{length, take, drop}
 use Rattle.text.specs.Pick.{pick}
+use Rattle.tape.specs.Forest.{Accepted}
+use Rattle.table.specs.Inner.{Indexed}
 use Rattle.findings.specs.Finding.{Finding}
 use Rattle.findings.specs.Written.{findingsIn}
 use Rattle.definition.specs.Outcome.{Lent, Answer, refused, checked, answer, listAfter}
 use Rattle.message_texts.specs.Filled.{joined}
 use Rattle.listing.specs.Lines.{refusedLines, checkedLines}
+use Rattle.listing.specs.LinesAndColumns.{PlacesOf}
 use Rattle.listing.specs.Listing.{listedEach}
 
 -- the lines before the findings, by what the check answers
@@ -49,3 +52,10 @@ nextAfter xs k (room ∷ rooms) = nextAfter xs (nextOf xs k room) rooms
 -- the lines of each finding that the list holds after a check, their messages with so much room
 abbrev pub heldTexts : ℕ → Lent → List (List ℕ)
 heldTexts room l = listedEach room (l .table) (l .source) (l .tape) (heldFindings (heldCount (answer l)) (listAfter l))
+
+-- a document that numbers 1 to 9 pass, with its table's index and the lines and columns of its source
+pub record Listable (table index : List ℕ) (entries : ℕ) (s t lines columns : List ℕ) : Type 0 where
+  pub indexed : Indexed table index entries
+  pub accepted : Accepted s t
+  pub short : length s ≤ 1048576
+  pub places : PlacesOf s lines columns

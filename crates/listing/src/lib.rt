@@ -12,10 +12,10 @@ ghost use Rattle.buffer.specs.Over.{Put, over};
 ghost use Rattle.buffer.specs.Decimal.{decimal};
 ghost use Rattle.table.specs.Inner.{linesOf};
 ghost use Rattle.listing.specs.Lines.{tooLargeLines, refusedLines, checkedLines, findingLines, nameAt, farthest};
-ghost use Rattle.listing.specs.LinesAndColumns.{linesFrom, columnsFrom};
+ghost use Rattle.listing.specs.LinesAndColumns.{linesFrom, columnsFrom, PlacesOf};
 ghost use Rattle.listing.specs.Listing.{messageShown, listedFinding, listedEach};
-ghost use Rattle.listing.specs.Pieces.{headLines, heldCount, heldFindings, pieceOf, nextOf};
-ghost use Rattle.listing.specs.Inner.{lineOf, Near, Listable, PlacesOf, ShownIn, recordAt, listedOf, PutWhole};
+ghost use Rattle.listing.specs.Pieces.{headLines, heldCount, heldFindings, pieceOf, nextOf, Listable};
+ghost use Rattle.listing.specs.Inner.{lineOf, Near, ShownIn, recordAt, listedOf, PutWhole};
 ghost use Rattle.table.specs.Inner.{Indexed};
 ghost use Rattle.tape.specs.Forest.{Accepted};
 ghost use Rattle.findings.specs.Written.{wholeRecords};
@@ -50,9 +50,9 @@ fn put_line(out: &mut [u8], at: usize, key: &[u8], value: &[u8]) -> usize
 }
 
 // Writes a line whose value is a number in decimal digits.
-fn put_count(out: &mut [u8], at: usize, key: &[u8], n: u64) -> usize
+pub fn put_count(out: &mut [u8], at: usize, key: &[u8], n: u64) -> usize
     requires { ⌜ (at ≤ 2 * farthest) × (length (now key) ≤ 8) ⌝ }
-    ensures { λ r. ⌜ Near (lineOf (now (key .entry)) (decimal n)) (now (out .entry)) at (now (out .exit)) r ⌝ }
+    ensures { λ r. ⌜ Near 32 (lineOf (now (key .entry)) (decimal n)) (now (out .entry)) at (now (out .exit)) r ⌝ }
 {
     let sign = put(out, at, key);
     let from = put(out, sign, b"=");
@@ -88,7 +88,7 @@ fn word<'a>(words: &'a [u8], k: u64) -> &'a [u8]
 // Writes a line whose value is the k-th of some names; its value is empty past the last.
 fn put_named(out: &mut [u8], at: usize, key: &[u8], names: &[u8], k: u64) -> usize
     requires { ⌜ (at ≤ 2 * farthest) × (length (now key) ≤ 8) × (length (now names) ≤ 1000) ⌝ }
-    ensures { λ r. ⌜ Near (lineOf (now (key .entry)) (nameAt (linesOf (now (names .entry))) k)) (now (out .entry)) at (now (out .exit)) r ⌝ }
+    ensures { λ r. ⌜ Near 1024 (lineOf (now (key .entry)) (nameAt (linesOf (now (names .entry))) k)) (now (out .entry)) at (now (out .exit)) r ⌝ }
 {
     put_line(out, at, key, word(names, k))
 }

@@ -23,7 +23,7 @@ use Rattle.text.proofs.Blocks.{equal-apart, equal-ends}
 use Rattle.cursor.specs.Names.{namePart, nameOf}
 use Rattle.numbers.proofs.Labels.{part-from}
 use Rattle.definition.specs.Milestones.{endsIn, baseOf}
-use Rattle.milestones.specs.Inner.{baseIn, isMilestoneNamed, Measured}
+use Rattle.milestones.specs.Inner.{baseIn, Measured}
 use Rattle.text.specs.Bytes.{equal}
 
 pub too-short : (name : List ℕ) (letter : ℕ) → length name < 2 → false ≡ endsIn letter name

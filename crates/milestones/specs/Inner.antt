@@ -31,10 +31,6 @@ use Rattle.findings.specs.Inner.{Wrote, Room}
 abbrev pub baseIn : List ℕ → List ℕ
 baseIn name = take (length name - 2) name
 
--- a milestone by its table entry and its name
-abbrev pub isMilestoneNamed : Entry → List ℕ → Bool
-isMilestoneNamed e name = eqb (e .category) milestoneCategory && (endsIn 0x73 name || endsIn 0x65 name)
-
 -- a node with the length of its base
 pub record Measured (s t : List ℕ) (node len : ℕ) : Type 0 where
   pub spanned : Spanned s t node

@@ -18,3 +18,4 @@ pub mod Hits
 pub mod Blocks
 pub mod WellFormed
 pub mod Every
+pub mod AnyOver

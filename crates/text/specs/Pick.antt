@@ -3,7 +3,7 @@ use Prim.Native.Nat.{ℕ, _+_}
 use mathlib.Core.Bool.{Bool, true, false, not, _&&_, _||_}
 use mathlib.Core.List.{List, [], _∷_}
 use mathlib.Core.Option.{Option, some, none}
-use lib.Dec.{leb}
+use lib.Dec.{leb, ltb}
 use lib.ListN.{take, drop}
 
 -- a range of numbers, both ends included
@@ -32,6 +32,10 @@ known (some n) = true
 -- the number lies between the two ends, both included
 abbrev pub within : ℕ → ℕ → ℕ → Bool
 within lo hi b = leb lo b && leb b hi
+
+-- one of three numbers is over the most allowed
+abbrev pub anyOver : ℕ → ℕ → ℕ → ℕ → Bool
+anyOver most a b c = ltb most a || (ltb most b || ltb most c)
 
 -- the number lies in one of the ranges
 unfoldable pub inAny : List Range → ℕ → Bool

@@ -42,7 +42,7 @@ use Rattle.findings.specs.Finding.{Finding}
 use Rattle.findings.specs.Written.{wholeRecords, room, encode, findingsIn}
 use Rattle.definition.specs.Milestones.{visits, marks, freeStarts, takenFrom}
 use Rattle.definition.specs.Document.{walked, running, findings, unclosedOf, isUnclosed, those, Beginning}
-use Rattle.definition.specs.Outcome.{Lent, refusal, listOf, checkedOf, answer, listAfter, seenAfter, openAfter, cleared, noStart}
+use Rattle.definition.specs.Outcome.{Lent, refusal, listOf, checkedOf, answer, listAfter, seenAfter, openAfter, cleared, noStart, repeated}
 use Rattle.definition.specs.declared.OpenStart.{OpenStart}
 use Rattle.definition.specs.Examples as examples
 use Rattle.definition.proofs.OpenStart as open-start
@@ -277,7 +277,12 @@ pub listing-joined : (l : Lent) → isTooLarge (l .table) (l .source) (l .tape) 
     → headLines (answer l) ++ piecesOf (heldTexts messageRoom l) 0 rooms ≡ listing (l .table) (l .source) (l .tape)
 listing-joined l small seen opens holds rooms all = pieces.listing-joined l small seen opens holds rooms all
 
--- A piece with 512 bytes more than the room for a message has one finding at least, and it fits.
+-- As many pieces as there are held findings, each with 512 bytes more than the room for a message, as check-exercise writes them, reach the last: they are the listing.
+pub listing-printed : (l : Lent) → isTooLarge (l .table) (l .source) (l .tape) ≡ false → 4096 ≤ length (l .seen) → 4096 ≤ length (l .openStarts) → length (l .list) ≡ 8 * mostHeld → (r : ℕ) → messageRoom + 512 ≤ r → (n : ℕ) → length (heldTexts messageRoom l) ≤ n
+    → headLines (answer l) ++ piecesOf (heldTexts messageRoom l) 0 (repeated r n) ≡ listing (l .table) (l .source) (l .tape)
+listing-printed l small seen opens holds r enough n all = pieces.listing-printed l small seen opens holds r enough n all
+
+-- A piece with 512 bytes more than the room for a message has one finding at least; every piece fits.
 pub piece-goes-on : (room : ℕ) (table s t : List ℕ) → length s ≤ 1048576 → (n : ℕ) (words : List ℕ) → n ≤ wholeRecords words → (k out : ℕ) → k < n → room + 512 ≤ out → k < nextOf (listedEach room table s t (heldFindings n words)) k out
 piece-goes-on room table s t short n words few k out left enough = pieces.piece-goes-on room table s t short n words few k out left enough
 

@@ -84,10 +84,10 @@ use Rattle.messages.specs.declared.MessageAnswer.the-variants as message-answer
 use Rattle.messages.specs.declared.MessagesAnswer.the-variants as messages-answers
 use Rattle.tally.specs.Tally.{tallyRefusal, withCode, countsFrom, countsAfter, tallyAnswerOf}
 use Rattle.tally.specs.declared.Tallied.the-variants as tallied
-use Rattle.listing.specs.Lines.{refusedLines, checkedLines, placeFrom}
+use Rattle.listing.specs.Lines.{tooLargeLines, refusedLines, checkedLines, findingLines, severityNames, codeNames, nameAt, placeFrom}
 use Rattle.listing.specs.LinesAndColumns.{eachFrom, linesFrom, columnsFrom}
 use Rattle.listing.specs.Listing.{listing}
-use Rattle.listing.specs.Pieces.{headLines, wholeIn, pieceOf, nextOf}
+use Rattle.listing.specs.Pieces.{headLines, heldCount, wholeIn, pieceOf, nextOf}
 use Rattle.harkoxin.specs.Words.{answerWords, messagesWords}
 use Rattle.harkoxin.specs.Report.{reportAnswer, reportText}
 use Rattle.theorems.specs.ListingExample.{tableFile, output}
@@ -745,6 +745,18 @@ tally-refused-writes : repeated 0 35 ≡ countsAfter badCode (repeated 9 35) →
 unfolding tallyRefusal firstBad repeated
 tally-refused-writes e = eqb-false 0 9 refl (ap (wordIn 0) e)
 
+-- ---- listing::put_too_large
+
+-- the line without its byte 10
+too-large-open : (l l′ : List ℕ) → Put tooLargeLines l 0 l′ 16 → ⊥
+unfolding ascii
+too-large-open l l′ p = eqb-false 16 17 refl (p .end)
+
+-- nothing written
+too-large-unwritten : Put tooLargeLines (repeated 0 17) 0 (repeated 0 17) 17 → ⊥
+unfolding ascii repeated over
+too-large-unwritten p = eqb-false 0 0x76 refl (ap (wordIn 0) (p .list))
+
 -- ---- listing::put_refused
 
 -- the line `place=` missing: 26 bytes in place of 34
@@ -775,7 +787,7 @@ put-checked-swapped p = eqb-false 0x30 0x31 refl (ap (wordIn 23) (p .list))
 abbrev cutReport : Report
 cutReport = record { total = 1; written = 0; verses = 0; errors = 1; warnings = 0; infos = 0 }
 
--- what is written in place of the total
+-- the number written in place of the total
 head-written : (l l′ : List ℕ) (r : ℕ) → Put (headLines (answerOf (answers.Cut cutReport))) l 0 l′ r → l′ ≡ over l 0 (checkedLines 1 0 0 0) → l ≡ repeated 0 55 → ⊥
 unfolding checkedLines ascii decimal decimalFuel repeated over
 head-written l l′ r p e z = eqb-false 0x30 0x31 refl (ap (wordIn 53) (ap (λ (o : List ℕ). over o 0 (checkedLines 1 0 0 0)) (sym z) ∙ sym e ∙ p .list ∙ ap (λ (o : List ℕ). over o 0 (checkedLines 1 0 0 1)) z))
@@ -785,9 +797,31 @@ head-refused : (l l′ : List ℕ) → Put (headLines (answerOf (answers.Cut cut
 unfolding checkedLines ascii decimal decimalFuel
 head-refused l l′ p = eqb-false 34 55 refl (p .end)
 
+-- ---- listing::held
+
+-- the total in place of what is written
+held-total : 1 ≡ heldCount (answerOf (answers.Cut cutReport)) → ⊥
+held-total e = eqb-false 1 0 refl e
+
+-- findings held after a refusal
+held-refused : (n : ℕ) → suc n ≡ heldCount (answerOf (answers.Refused 4 0)) → ⊥
+held-refused n e = omega (arith, e)
+
+-- ---- listing::put_finding
+
+-- line and column exchanged: `line=12` in place of `line=3`
+finding-turned : (l l′ : List ℕ) (r : ℕ) → l ≡ repeated 0 80 → l′ ≡ over l 0 (findingLines 0 0 12 3 []) → Put (findingLines 0 0 3 12 []) l 0 l′ r → ⊥
+unfolding findingLines severityNames codeNames nameAt ascii decimal decimalFuel repeated over
+finding-turned l l′ r z e p = eqb-false 0x31 0x33 refl (ap (wordIn 39) (ap (λ (o : List ℕ). over o 0 (findingLines 0 0 12 3 [])) (sym z) ∙ sym e ∙ p .list ∙ ap (λ (o : List ℕ). over o 0 (findingLines 0 0 3 12 [])) z))
+
+-- the message missing: two bytes fewer
+finding-bare : (l l′ : List ℕ) → Put (findingLines 0 0 3 12 (ascii "ab")) l 0 l′ (length (findingLines 0 0 3 12 [])) → ⊥
+unfolding findingLines severityNames codeNames nameAt ascii decimal decimalFuel
+finding-bare l l′ p = eqb-false (length (findingLines 0 0 3 12 [])) (length (findingLines 0 0 3 12 (ascii "ab"))) refl (p .end)
+
 -- ---- listing::put_findings
 
--- two findings whose lines are `ab` and `cde`
+-- two texts in place of the lines of two findings
 abbrev twoTexts : List (List ℕ)
 twoTexts = ascii "ab" ∷ ascii "cde" ∷ []
 
@@ -819,9 +853,14 @@ piece-repeats p = eqb-false 0x61 0x63 refl (ap (wordIn 0) (p .list))
 -- ---- listing::lines_and_columns
 
 -- a line that is not counted: byte 1 of a source that begins with byte 10 stands on line 2
-line-missed : repeated 0 2 ≡ over (repeated 0 2) 0 (linesFrom (10 ∷ []) 0 2) → ⊥
+line-missed : 1 ∷ 1 ∷ [] ≡ over (repeated 0 2) 0 (linesFrom (10 ∷ []) 0 2) → ⊥
 unfolding repeated over eachFrom placeFrom
-line-missed e = eqb-false 0 1 refl (ap (wordIn 0) e)
+line-missed e = eqb-false 1 2 refl (ap (wordIn 1) e)
+
+-- lines that are not written
+lines-unwritten : repeated 0 2 ≡ over (repeated 0 2) 0 (linesFrom (10 ∷ []) 0 2) → ⊥
+unfolding repeated over eachFrom placeFrom
+lines-unwritten e = eqb-false 0 1 refl (ap (wordIn 0) e)
 
 -- a column that goes on counting on the next line
 column-kept : 1 ∷ 2 ∷ [] ≡ over (repeated 0 2) 0 (columnsFrom (10 ∷ []) 0 2) → ⊥
@@ -830,7 +869,7 @@ column-kept e = eqb-false 2 1 refl (ap (wordIn 1) e)
 
 -- ---- check_exercise: the listing
 
--- a listing without the lines of its finding: 56 bytes in place of 159
+-- a listing without the lines of its finding
 listing-bare : listing tableFile (worked.example1 .source) (worked.tapeOf (worked.example1 .nodes)) ≡ checkedLines 0 1 0 1 → ⊥
 unfolding checkedLines ascii decimal decimalFuel output
 listing-bare e = eqb-false (length output) (length (checkedLines 0 1 0 1)) refl (ap length (sym listing-example ∙ e))
@@ -838,8 +877,8 @@ listing-bare e = eqb-false (length output) (length (checkedLines 0 1 0 1)) refl 
 -- ---- walk::walk
 
 -- the walk of some nodes of an example, from a record, as the promise has it
-abbrev walkAt : worked.Example → ℕ → ℕ → State → Walked
-walkAt x from to r = walk worked.exampleTable outside (anchorOf (x .source) (worked.tapeOf (x .nodes)) (r .anchor) from) (forests.forest (x .source) (worked.tapeOf (x .nodes)) from to) (stateOf (x .source) (worked.tapeOf (x .nodes)) (repeated 0 13) (repeated noStart 13) r)
+abbrev walkFrom : worked.Example → ℕ → ℕ → State → Walked
+walkFrom x from to r = walk worked.exampleTable outside (anchorOf (x .source) (worked.tapeOf (x .nodes)) (r .anchor) from) (forests.forest (x .source) (worked.tapeOf (x .nodes)) from to) (stateOf (x .source) (worked.tapeOf (x .nodes)) (repeated 0 13) (repeated noStart 13) r)
 
 -- so many warnings
 abbrev warnings : ℕ → Counts
@@ -855,29 +894,29 @@ anchorKind none = 0
 anchorKind (some a) = a .kind
 
 -- the right results: the children of `\p` have one warning in example 1; the anchor after its nodes is the chapter; the `\ca` of example 5 have no finding, from the start on or after the chapter
-walk-right : (counted (warnings 0) (walkAt worked.example1 1 9 fresh .findings) ≡ warnings 1) × (anchorKind (walkAt worked.example1 1 9 fresh .anchor) ≡ 3) × (counted (warnings 0) (walkAt worked.example5 1 13 fresh .findings) ≡ warnings 0) × (counted (warnings 0) (walkAt worked.example5 5 13 afterChapter .findings) ≡ warnings 0)
+walk-right : (counted (warnings 0) (walkFrom worked.example1 1 9 fresh .findings) ≡ warnings 1) × (anchorKind (walkFrom worked.example1 1 9 fresh .anchor) ≡ 3) × (counted (warnings 0) (walkFrom worked.example5 1 13 fresh .findings) ≡ warnings 0) × (counted (warnings 0) (walkFrom worked.example5 5 13 afterChapter .findings) ≡ warnings 0)
 unfolding ascii worked.exampleTable worked.tapeOf utf8.table3-7 utf8.begins utf8.widthBy utf8.widthOf utf8.decoded utf8.decode inAny blankRanges blank charsPast bytesBefore findByte trimStart kept trim blankText wordFrom allDigits valueFrom digitsFrom digits parsed half word nodes followed runs equal all oneOf lines.lines lines.categories lines.roles entries.position entries.entriesOf entries.entries entries.nth names.frontMatter names.noteOnly books.bookCodes books.codeFrom books.bookOf attributes.attributesFindings namePart partOf versePart verseEnd next inSequence label.labelOf isAlternate isPublished plain runOf startOffsets among checks.given checks.afterChapter checks.afterVerse checks.leafChecked checks.bookCode checks.afterId checks.numberMarkers afterMilestone openChecked walk counted worked.example1 worked.example5 latest openNodes
 walk-right = (refl, refl, refl, refl)
 
 -- a walk that passes over the children of a marker
-walk-no-children : (l l′ : List ℕ) → Wrote (walkAt worked.example1 1 9 fresh .findings) l (warnings 0) l′ (warnings 0) → ⊥
+walk-no-children : (l l′ : List ℕ) → Wrote (walkFrom worked.example1 1 9 fresh .findings) l (warnings 0) l′ (warnings 0) → ⊥
 walk-no-children l l′ w = eqb-false 0 1 refl (ap (λ c. c .warnings) (w .counts ∙ walk-right .0))
 
 -- a walk that hands no anchor on
-walk-anchor-lost : anchorOf (worked.example1 .source) (worked.tapeOf (worked.example1 .nodes)) 0 9 ≡ walkAt worked.example1 1 9 fresh .anchor → ⊥
+walk-anchor-lost : anchorOf (worked.example1 .source) (worked.tapeOf (worked.example1 .nodes)) 0 9 ≡ walkFrom worked.example1 1 9 fresh .anchor → ⊥
 walk-anchor-lost e = eqb-false 0 3 refl (ap anchorKind e ∙ walk-right .1)
 
 -- a walk that hands on the anchor of a marker's children, the verse that is node 6
-walk-anchor-of-children : anchorOf (worked.example1 .source) (worked.tapeOf (worked.example1 .nodes)) 6 9 ≡ walkAt worked.example1 1 9 fresh .anchor → ⊥
+walk-anchor-of-children : anchorOf (worked.example1 .source) (worked.tapeOf (worked.example1 .nodes)) 6 9 ≡ walkFrom worked.example1 1 9 fresh .anchor → ⊥
 unfolding worked.example1 worked.tapeOf
 walk-anchor-of-children e = eqb-false 4 3 refl (ap anchorKind e ∙ walk-right .1)
 
 -- a walk that does not hand a chapter on to its siblings as their anchor, and so finds a `\ca` misplaced
-walk-anchor-dropped : (n : ℕ) (l l′ : List ℕ) → Wrote (walkAt worked.example5 1 13 fresh .findings) l (warnings 0) l′ (warnings (suc n)) → ⊥
+walk-anchor-dropped : (n : ℕ) (l l′ : List ℕ) → Wrote (walkFrom worked.example5 1 13 fresh .findings) l (warnings 0) l′ (warnings (suc n)) → ⊥
 walk-anchor-dropped n l l′ w = let z : suc n ≡ 0 = ap (λ c. c .warnings) (w .counts ∙ walk-right .2) in absurd (omega arith)
 
 -- a walk that forgets the anchor which it is given
-walk-anchor-forgotten : (n : ℕ) (l l′ : List ℕ) → Wrote (walkAt worked.example5 5 13 afterChapter .findings) l (warnings 0) l′ (warnings (suc n)) → ⊥
+walk-anchor-forgotten : (n : ℕ) (l l′ : List ℕ) → Wrote (walkFrom worked.example5 5 13 afterChapter .findings) l (warnings 0) l′ (warnings (suc n)) → ⊥
 walk-anchor-forgotten n l l′ w = let z : suc n ≡ 0 = ap (λ c. c .warnings) (w .counts ∙ walk-right .3) in absurd (omega arith)
 
 -- ---- What the functions below are lent

@@ -1,21 +1,20 @@
 -- `check_exercise::main` meets its contract.
 -- Assumes nothing.
-use mathlib.Core.Path.{sym}
-use native.Mathlib.Omega.{arith}
-use lib.ListN.{length-take}
+use mathlib.Core.Path.{sym, _∙_}
+use Rattle.exercise.proofs.Files.{not-too-large}
 use lib.Seq.{length-take-le}
 use borrow.Author.Needs.{needs}
 use Rattle.check_exercise.proofs.main.Statement.{statement}
 use Rattle.check_exercise.proofs.main.Tie as tie
 
-room-requires : tie.Need-room-requires
-room-requires c κs = search needs
+file-room-requires : tie.Need-file-room-requires
+file-room-requires c κs = search needs
 
-room-requires-2 : tie.Need-room-requires-2
-room-requires-2 c κs = search needs
+file-room-requires-2 : tie.Need-file-room-requires-2
+file-room-requires-2 c κs = search needs
 
-room-requires-3 : tie.Need-room-requires-3
-room-requires-3 c κs = search needs
+file-room-requires-3 : tie.Need-file-room-requires-3
+file-room-requires-3 c κs = search needs
 
 slice-aggregate-read : tie.Need-slice-aggregate-read
 slice-aggregate-read c = search needs
@@ -44,57 +43,51 @@ slice-aggregate-read-6 c = search needs
 read-requires-3 : tie.Need-read-requires-3
 read-requires-3 c κs = search needs
 
+is-too-large-requires : tie.Need-is-too-large-requires
+is-too-large-requires c κs = search needs
+
 write-too-large-requires : tie.Need-write-too-large-requires
 write-too-large-requires c κs = search needs
 
 returns : tie.Need-returns
 returns c = search needs
 
-write-too-large-requires-2 : tie.Need-write-too-large-requires-2
-write-too-large-requires-2 c κs = search needs
-
-returns-2 : tie.Need-returns-2
-returns-2 c = search needs
-
-write-too-large-requires-3 : tie.Need-write-too-large-requires-3
-write-too-large-requires-3 c κs = search needs
-
-returns-3 : tie.Need-returns-3
-returns-3 c = search needs
-
 array-share-prefix-table : tie.Need-array-share-prefix-table
 array-share-prefix-table c = search needs
 
-slice-aggregate-exercise : tie.Need-slice-aggregate-exercise
-slice-aggregate-exercise c = sym (length-take-le _ _ (c .before .before .before .before .before .before .before .before .before .before .before .before .before .read .ensures))
+slice-aggregate-run : tie.Need-slice-aggregate-run
+slice-aggregate-run c = sym (length-take-le _ _ (c .before .before .before .before .before .before .before .before .before .before .before .before .read .ensures))
 
 array-share-prefix-source : tie.Need-array-share-prefix-source
 array-share-prefix-source c = search needs
 
-slice-aggregate-exercise-2 : tie.Need-slice-aggregate-exercise-2
-slice-aggregate-exercise-2 c = sym (length-take-le _ _ (c .before .before .before .before .before .before .before .before .before .before .read2 .ensures))
+slice-aggregate-run-2 : tie.Need-slice-aggregate-run-2
+slice-aggregate-run-2 c = sym (length-take-le _ _ (c .before .before .before .before .before .before .before .before .before .read2 .ensures))
 
 array-share-prefix-nodes : tie.Need-array-share-prefix-nodes
 array-share-prefix-nodes c = search needs
 
-slice-aggregate-exercise-3 : tie.Need-slice-aggregate-exercise-3
-slice-aggregate-exercise-3 c = sym (length-take-le _ _ (c .before .before .before .before .before .before .before .read3 .ensures))
+slice-aggregate-run-3 : tie.Need-slice-aggregate-run-3
+slice-aggregate-run-3 c = sym (length-take-le _ _ (c .before .before .before .before .before .before .read3 .ensures))
 
-exercise-requires : tie.Need-exercise-requires
-exercise-requires c κs =
-    let r = c .before .before .before .before .before .before .before .before .before .before .before .read2 in
-    omega (arith, length-take (r .result) (r .last .1 .0), c .before .before .before .before .if2 .left)
+run-requires : tie.Need-run-requires
+run-requires c κs =
+    let a = c .before .before .before .before .before .before .before .before .before .before .before .before .before .before .read in
+    let b = c .before .before .before .before .before .before .before .before .before .before .read2 in
+    let d = c .before .before .before .before .before .before .read3 in
+    let w = c .before .before .before .before .is-too-large in
+    not-too-large (a .last .1 .0) (b .last .1 .0) (d .last .1 .0) (a .result) (b .result) (d .result) (a .ensures) (b .ensures) (d .ensures) (sym (w .ensures) ∙ c .before .before .before .if1 .left)
 
-returns-4 : tie.Need-returns-4
-returns-4 c = search needs
+returns-2 : tie.Need-returns-2
+returns-2 c = search needs
 
 pub main-spec : {M : Type 1} → statement M
 main-spec =
     tie.close
     (tie.spec
-    room-requires
-    room-requires-2
-    room-requires-3
+    file-room-requires
+    file-room-requires-2
+    file-room-requires-3
     slice-aggregate-read
     slice-aggregate-read-2
     read-requires
@@ -104,17 +97,14 @@ main-spec =
     slice-aggregate-read-5
     slice-aggregate-read-6
     read-requires-3
+    is-too-large-requires
     write-too-large-requires
     returns
-    write-too-large-requires-2
-    returns-2
-    write-too-large-requires-3
-    returns-3
     array-share-prefix-table
-    slice-aggregate-exercise
+    slice-aggregate-run
     array-share-prefix-source
-    slice-aggregate-exercise-2
+    slice-aggregate-run-2
     array-share-prefix-nodes
-    slice-aggregate-exercise-3
-    exercise-requires
-    returns-4)
+    slice-aggregate-run-3
+    run-requires
+    returns-2)

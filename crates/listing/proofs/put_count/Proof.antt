@@ -45,7 +45,7 @@ returns c =
     let digits = last .before .before .before .before .before in
     let sign = digits .before .before .before .before in
     let start = sign .before .before .before .before .before .before .before .before .before in
-    line-near (now (start .args .key)) (decimal (start .args .n)) (line-written (sign .before .before .before .before .before .put .ensures) (sign .put2 .ensures) (digits .put-decimal .ensures) (last .put3 .ensures)) (start .pre .1) (omega (arith, few start))
+    line-near 22 (now (start .args .key)) (decimal (start .args .n)) (line-written (sign .before .before .before .before .before .put .ensures) (sign .put2 .ensures) (digits .put-decimal .ensures) (last .put3 .ensures)) (start .pre .1) (omega (arith, few start))
 
 pub put-count-spec : {M : Type 1} → statement M
 put-count-spec =

@@ -20,7 +20,7 @@ returns : tie.Need-returns
 returns c =
     let w = c .before .before .before .word in
     let s = c .before .before .before .before .before .before .before .before in
-    rw (← w .ensures .0) (line-near (now (s .args .key)) (now (w .result)) (c .before .before .put-line .ensures) (s .pre .1) (omega arith))
+    rw (← w .ensures .0) (line-near 1014 (now (s .args .key)) (now (w .result)) (c .before .before .put-line .ensures) (s .pre .1) (omega arith))
 
 pub put-named-spec : {M : Type 1} → statement M
 put-named-spec = tie.close (tie.spec word-requires put-line-requires same-length returns)

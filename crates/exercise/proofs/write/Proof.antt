@@ -1,10 +1,10 @@
--- `check_exercise::write` meets its contract.
+-- `exercise::write` meets its contract.
 -- Assumes nothing.
 use mathlib.Core.Path.{sym}
 use lib.Seq.{length-take-le}
 use borrow.Author.Needs.{needs}
-use Rattle.check_exercise.proofs.write.Statement.{statement}
-use Rattle.check_exercise.proofs.write.Tie as tie
+use Rattle.exercise.proofs.write.Statement.{statement}
+use Rattle.exercise.proofs.write.Tie as tie
 
 slice-aggregate-write-all : tie.Need-slice-aggregate-write-all
 slice-aggregate-write-all c = sym (length-take-le _ _ (c .before .before .pre))

@@ -1,19 +1,22 @@
--- `check_exercise::exercise` meets its contract.
+-- `check_exercise::run` meets its contract.
 -- Assumes nothing.
+use lib.ListN.{length}
 use denote.Ref.{now}
+use Rattle.text.proofs.AnyOver.{any-parts}
+use Rattle.listing.specs.Listing.{largestFile}
 use Rattle.definition.specs.Outcome.{repeated, noStart}
 use Rattle.validate.specs.Entry.{answerOf, lent}
 use Rattle.messages.proofs.Nine.{passed, is-accepted}
 use Rattle.check_exercise.proofs.Progress.{held-few}
 use borrow.Author.Needs.{needs}
-use Rattle.check_exercise.proofs.exercise.Statement.{statement}
-use Rattle.check_exercise.proofs.exercise.Tie as tie
+use Rattle.check_exercise.proofs.run.Statement.{statement}
+use Rattle.check_exercise.proofs.run.Tie as tie
 
-numbers-requires : tie.Need-numbers-requires
-numbers-requires c κs = search needs
+chapters-seen-requires : tie.Need-chapters-seen-requires
+chapters-seen-requires c κs = search needs
 
-words-requires : tie.Need-words-requires
-words-requires c κs = search needs
+findings-list-requires : tie.Need-findings-list-requires
+findings-list-requires c κs = search needs
 
 slice-aggregate-checked : tie.Need-slice-aggregate-checked
 slice-aggregate-checked c = search needs
@@ -59,17 +62,17 @@ write-findings-requires c κs =
     let m = c .before .before .before .before .entries .given in
     let z = passed (now (a .table)) (now (a .source)) (now (a .tape)) (g .result) (g .ensures .0) (m .0 .0) (m .1) in
     let w = c .before .before .before .before .before .before .before .before .before .before .before .before .checked in
-    (rw (m .1) at (g .ensures .1), is-accepted (now (a .table)) (now (a .source)) (now (a .tape)) z, s .pre, held-few (lent (now (a .table)) (now (a .source)) (now (a .tape)) (c .before .before .before .before .before .before .before .before .before .before .before .before .before .before .before .before .numbers .result) (repeated noStart 4096) (c .before .before .before .before .before .before .before .before .before .before .before .before .before .before .before .words .result)) (answerOf (w .result)) (w .last .1 .1 .1 .1 .0) _ (w .ensures .0) (w .kept .1 .1 .1 .1 .0) (c .held .ensures))
+    (rw (m .1) at (g .ensures .1), is-accepted (now (a .table)) (now (a .source)) (now (a .tape)) z, any-parts largestFile (length (now (a .table))) (length (now (a .source))) (length (now (a .tape))) (s .pre) .1 .0, held-few (lent (now (a .table)) (now (a .source)) (now (a .tape)) (c .before .before .before .before .before .before .before .before .before .before .before .before .before .before .before .before .chapters-seen .result) (repeated noStart 4096) (c .before .before .before .before .before .before .before .before .before .before .before .before .before .before .before .findings-list .result)) (answerOf (w .result)) (w .last .1 .1 .1 .1 .0) _ (w .ensures .0) (w .kept .1 .1 .1 .1 .0) (c .held .ensures))
 
 returns-2 : tie.Need-returns-2
 returns-2 c = search needs
 
-pub exercise-spec : {M : Type 1} → statement M
-exercise-spec =
+pub run-spec : {M : Type 1} → statement M
+run-spec =
     tie.close
     (tie.spec
-    numbers-requires
-    words-requires
+    chapters-seen-requires
+    findings-list-requires
     slice-aggregate-checked
     slice-aggregate-checked-2
     checked-requires

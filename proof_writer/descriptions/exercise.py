@@ -1,4 +1,4 @@
-"""check_exercise: the check, with open starts of its own."""
+"""exercise: the check, with open starts of its own."""
 
 LAWS = ['definition::proofs/Filled', 'definition::specs/Outcome', 'validate::specs/Entry']
 

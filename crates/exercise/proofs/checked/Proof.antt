@@ -1,5 +1,5 @@
--- Written by proof_writer/write from proof_writer/descriptions/check_exercise.py, from the code and its contracts.
--- The walk of `check_exercise::checked`.
+-- Written by proof_writer/write from proof_writer/descriptions/exercise.py, from the code and its contracts.
+-- The walk of `exercise::checked`.
 use Rattle.reference_laws.proofs.Walk.{refl, ap, _∙_, [], _∷_, lit<, URA, Heap, Tables, Atoms, givenOf, tables, Given, _$_, !, move, keep, stop, from, lit, addr, and-then, no-more, agg, Is, Rule, rule-of, Knows, Facing, WalkFor, proves, ends, span, array, fills-array, cell, sets, big-lit, reslices, calls-into, lends-array, backs-array, frees-array}
 use Rattle.definition.specs.Outcome.{answer, listAfter, noStart}
 use Rattle.validate.specs.Entry.{lent}
@@ -10,11 +10,11 @@ use denote.Struct.Laws as LL
 use Rattle.definition.specs.declared.OpenStart.{OpenStart}
 use Rattle.definition.proofs.OpenStart as OpenStart-T
 use Rattle.definition.proofs.OpenStart.Laws as OpenStart-L
-use Rattle.check_exercise.proofs.CallChecked as checked-C
+use Rattle.exercise.proofs.CallChecked as checked-C
 use Rattle.validate.proofs.CallCheck as check-C
-use Rattle.check_exercise.proofs.checked.Code as code
-use Rattle.check_exercise.proofs.checked.Statement as stated
-use Rattle.check_exercise.proofs.checked.Key as key
+use Rattle.exercise.proofs.checked.Code as code
+use Rattle.exercise.proofs.checked.Statement as stated
+use Rattle.exercise.proofs.checked.Key as key
 use Rattle.validate.proofs.check as check-F
 
 module _ {M : Type 1} (𝓤 : URA M) (H : Heap 𝓤) (A : Atoms 𝓤) (W : Given 𝓤 H A) (𝓣 : Tables 𝓤 H) (known-check : Knows 𝓤 H A (𝓣 .C) check-C.terms) where

@@ -1,11 +1,11 @@
--- `check_exercise::read_open` meets its contract.
+-- `exercise::read_open` meets its contract.
 -- Assumes nothing.
 use Prim.Native.Nat.{_-_, _≤_}
 use mathlib.Core.Path.{_≡_}
 use lib.ListN.{length}
 use borrow.Author.Needs.{needs}
-use Rattle.check_exercise.proofs.read_open.Statement.{statement}
-use Rattle.check_exercise.proofs.read_open.Tie as tie
+use Rattle.exercise.proofs.read_open.Statement.{statement}
+use Rattle.exercise.proofs.read_open.Tie as tie
 
 abbrev Inv-loop : tie.InvT-loop
 Inv-loop fd file₀ done₀ file done = (done ≤ length file₀) × (length file ≡ length file₀)
