@@ -47,9 +47,12 @@ static void run(int function, unsigned empty, int is_null, struct lists *l)
         harkoxin_report(DOCUMENT, LENT(l->seen, 2, SEEN), LENT(l->opens, 2, OPENS), LENT(l->list, 40, LIST),
                         LENT(l->ends, 4, ENDS), LENT(l->text, 400, TEXT), LENT(l->out, HARKOXIN_REPORT_WORDS, OUT));
         break;
-    default:
+    case 4:
         harkoxin_tally(LENT(finding, HARKOXIN_FINDING_WORDS, LIST), LENT(l->list, 40, ENDS),
                        LENT(l->out, HARKOXIN_TALLY_WORDS, OUT));
+        break;
+    default:
+        harkoxin_mark(0, 1, 1, LENT(l->out, HARKOXIN_MARK_WORDS, OUT));
     }
 }
 
@@ -76,7 +79,7 @@ static int try_call(int function, unsigned empty)
 int main(void)
 {
     unsigned calls = 0;
-    for (int function = 0; function < 5; function++) {
+    for (int function = 0; function < 6; function++) {
         for (unsigned empty = 0; empty < 1u << LISTS; empty++) {
             if (!try_call(function, empty))
                 return 1;

@@ -118,6 +118,28 @@ static void print_finding(const uint64_t *finding, const uint8_t *text, size_t l
     putchar('\n');
 }
 
+/* Ends the line of counts with the mark. */
+static void print_mark(const uint64_t *check)
+{
+    uint64_t answer[HARKOXIN_MARK_WORDS];
+    harkoxin_mark(check[HARKOXIN_CHECK_ERRORS], check[HARKOXIN_CHECK_WARNINGS], check[HARKOXIN_CHECK_VERSES],
+                  answer, HARKOXIN_MARK_WORDS);
+    uint64_t mark = answer[HARKOXIN_MARK_MARK];
+    if (answer[HARKOXIN_MARK_VERDICT] == HARKOXIN_REFUSED)
+        printf(", no mark by number %" PRIu64 "\n", answer[HARKOXIN_MARK_NUMBER]);
+    else
+        printf(", mark %" PRIu64 ".%02" PRIu64 "\n", mark / 100, mark % 100);
+}
+
+/* Prints the counts of a checked document, and its mark. */
+static void print_counts(const uint64_t *check)
+{
+    printf("errors %" PRIu64 ", warnings %" PRIu64 ", infos %" PRIu64 ", verses %" PRIu64,
+           check[HARKOXIN_CHECK_ERRORS], check[HARKOXIN_CHECK_WARNINGS],
+           check[HARKOXIN_CHECK_INFOS], check[HARKOXIN_CHECK_VERSES]);
+    print_mark(check);
+}
+
 static void print_document(const char *folder, const struct document *d)
 {
     uint64_t answer[HARKOXIN_REPORT_WORDS];
@@ -128,9 +150,7 @@ static void print_document(const char *folder, const struct document *d)
         printf("refused by number %" PRIu64 ", place %" PRIu64 "\n",
                answer[HARKOXIN_CHECK_NUMBER], answer[HARKOXIN_CHECK_PLACE]);
     else
-        printf("errors %" PRIu64 ", warnings %" PRIu64 ", infos %" PRIu64 ", verses %" PRIu64 "\n",
-               answer[HARKOXIN_CHECK_ERRORS], answer[HARKOXIN_CHECK_WARNINGS],
-               answer[HARKOXIN_CHECK_INFOS], answer[HARKOXIN_CHECK_VERSES]);
+        print_counts(answer);
     size_t start = 0;
     for (size_t k = 0; k < answer[HARKOXIN_CHECK_WRITTEN]; k++) {
         size_t end = (size_t)l.ends[k];

@@ -46,7 +46,9 @@ enum {
     HARKOXIN_SHORT_WORKING_LIST = 10,  /* a working list has no entry for each node: the number of nodes */
     HARKOXIN_BAD_LIST = 11,            /* a findings list has a rest, or a severity or code that is unknown: record */
     HARKOXIN_NO_TEXT = 12,             /* the finding has no text in this document: 0 */
-    HARKOXIN_SHORT_TEXT_LIST = 13      /* the list is too short for the text: bytes needed */
+    HARKOXIN_SHORT_TEXT_LIST = 13,     /* the list is too short for the text: bytes needed */
+    HARKOXIN_LARGE_COUNT = 14,         /* a count of errors, warnings or verses is over 1,000,000: 0 */
+    HARKOXIN_NO_VERSES = 15            /* there are no verses to mark: 0 */
 };
 
 /* The words of a finding in a list. */
@@ -234,6 +236,24 @@ enum {
 void harkoxin_tally(
     const uint64_t *list, size_t list_len,
     uint64_t *counts, size_t counts_len,
+    uint64_t *out, size_t out_len);
+
+/* The answer of harkoxin_mark. After a refusal loss and mark are 0. */
+enum {
+    HARKOXIN_MARK_VERDICT = 0, /* done or refused */
+    HARKOXIN_MARK_NUMBER = 1,
+    HARKOXIN_MARK_PLACE = 2,
+    HARKOXIN_MARK_LOSS = 3,    /* in hundredths of a mark; it can be over 10,000 */
+    HARKOXIN_MARK_MARK = 4,    /* in hundredths: 10,000 less the loss, or 0 where the loss is larger */
+    HARKOXIN_MARK_WORDS = 5
+};
+
+/*
+ * Gives the mark of a document out of one hundred from three of its counts, which may be those of harkoxin_check. The loss is
+ * (250 * errors + 75 * warnings) * 10 / verses, rounded down. Numbers 14 and 15.
+ */
+void harkoxin_mark(
+    uint64_t errors, uint64_t warnings, uint64_t verses,
     uint64_t *out, size_t out_len);
 
 #ifdef __cplusplus

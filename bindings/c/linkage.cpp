@@ -1,4 +1,4 @@
-// The header and the library from C++: ends with 0 if an empty list is counted.
+// The header and the library from C++: ends with 0 if an empty list is counted and a verse without findings is marked.
 #include "harkoxin.h"
 
 // Where the library finds the fields of an open start.
@@ -8,7 +8,9 @@ static_assert(offsetof(harkoxin_open_start, base_len) == 4, "as the library has 
 
 int main()
 {
-    uint64_t out[HARKOXIN_TALLY_WORDS] = {HARKOXIN_REFUSED};
-    harkoxin_tally(nullptr, 0, nullptr, 0, out, HARKOXIN_TALLY_WORDS);
-    return static_cast<int>(out[HARKOXIN_TALLY_VERDICT]);
+    uint64_t tally[HARKOXIN_TALLY_WORDS] = {HARKOXIN_REFUSED};
+    harkoxin_tally(nullptr, 0, nullptr, 0, tally, HARKOXIN_TALLY_WORDS);
+    uint64_t mark[HARKOXIN_MARK_WORDS] = {HARKOXIN_REFUSED};
+    harkoxin_mark(0, 0, 1, mark, HARKOXIN_MARK_WORDS);
+    return static_cast<int>(tally[HARKOXIN_TALLY_VERDICT] + mark[HARKOXIN_MARK_VERDICT]);
 }

@@ -1,4 +1,4 @@
-//! Folders of files for check-exercise, with what it prints.
+//! Folders of files for check-exercise and mark-exercise.
 
 use crate::document::{Document, NODE_BYTES, Node, kind};
 use crate::refusals::DEEPEST;
@@ -40,6 +40,8 @@ fn refused() -> Vec<(&'static str, Document)> {
         ("refused-7", with_node(5, |node| node.link = 7)),
         ("refused-8", deep.under(&[entry("p", 3, 2)])),
         ("refused-9", split.under(&[entry("vv", 2, 0)])),
+        ("refused-14", million_errors("\\v 01 ")),
+        ("refused-15", read("\\id GEN\n\\c 1\n\\p Word\n")),
     ]
 }
 
@@ -51,6 +53,27 @@ fn many() -> Document {
         builder.leaf(kind::VERSE, 0, &text, 0);
     }
     builder.under(&[entry("v", 2, 0)])
+}
+
+/// A thousand attribute nodes that share a text with a thousand errors, behind this verse: with a zero before its number there
+/// is one error more.
+pub fn million_errors(verse: &str) -> Document {
+    let entries = [
+        entry("id", 0, 1),
+        entry("c", 1, 0),
+        entry("v", 2, 0),
+        entry("p", 3, 2),
+        entry("w", 4, 0),
+    ];
+    let mut builder = Builder::default();
+    builder.open(0, "\\id").text(" GEN\n").end();
+    builder.leaf(kind::CHAPTER, 1, "\\c 1\n", 1).open(3, "\\p ");
+    builder.leaf(kind::VERSE, 2, verse, 1).open(4, "\\w a");
+    let attributes = "|".to_string() + &"x= ".repeat(1_000);
+    builder.leaf(kind::ATTRIBUTE, 0, &attributes, 0);
+    let shared = builder.nodes[builder.nodes.len() - 1];
+    builder.nodes.extend([shared; 999]);
+    builder.close(kind::MARKER_CLOSE, "\\w*").under(&entries)
 }
 
 /// A book code that fills the source, so that its message is longer than the listing's room.

@@ -25,6 +25,7 @@ pub mod lent;
 #[cfg(feature = "library")]
 pub mod library;
 pub mod listing;
+pub mod marks;
 pub mod pages;
 pub mod parts;
 pub mod published;

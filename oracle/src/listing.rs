@@ -1,4 +1,4 @@
-//! The listing of document 01, plainly: from the published findings and the refusals.
+//! The listing of document 01, plainly: from the published findings and the refusals; and what other programs share with it.
 
 use std::fmt::Write;
 
@@ -34,30 +34,46 @@ fn finding(out: &mut String, source: &[u8], found: &Found) {
     .expect("a string takes all");
 }
 
-/// What check-exercise prints for these three files.
-pub fn listing(document: &Document) -> String {
+pub fn of_severity(list: &[Found], severity: u32) -> usize {
+    list.iter().filter(|f| f.severity == severity).count()
+}
+
+pub fn refused_lines(number: u64, place: u64) -> String {
+    format!("verdict=refused\nrefusal={number}\nplace={place}\n")
+}
+
+/// What a program prints for these three files; of a checked document it prints these lines of its findings.
+pub fn printed(document: &Document, lines: impl FnOnce(&[Found]) -> String) -> String {
     let files = [&document.table, &document.source, &document.tape];
     if files.iter().any(|file| file.len() > LARGEST_FILE) {
         return "verdict=toolarge\n".to_string();
     }
     if let Some((number, place)) = refusal(document, usize::MAX, usize::MAX) {
-        return format!("verdict=refused\nrefusal={number}\nplace={place}\n");
+        return refused_lines(number.into(), place);
     }
-    let Validated::Findings(list) = validate(document) else {
-        panic!("no sum of an example leaves 32 bits");
-    };
-    let count = |severity: u32| list.iter().filter(|f| f.severity == severity).count();
+    match validate(document) {
+        Validated::Findings(list) => lines(&list),
+        Validated::Overflowed => panic!("no sum of an example leaves 32 bits"),
+    }
+}
+
+fn checked_lines(source: &[u8], list: &[Found]) -> String {
     let mut out = format!(
         "verdict=checked\nerrors={}\nwarnings={}\ninfos={}\nfindings={}\n",
-        count(0),
-        count(1),
-        count(2),
+        of_severity(list, 0),
+        of_severity(list, 1),
+        of_severity(list, 2),
         list.len()
     );
     for found in list.iter().take(MOST_FINDINGS) {
-        finding(&mut out, &document.source, found);
+        finding(&mut out, source, found);
     }
     out
+}
+
+/// What check-exercise prints for these three files.
+pub fn listing(document: &Document) -> String {
+    printed(document, |list| checked_lines(&document.source, list))
 }
 
 #[cfg(test)]

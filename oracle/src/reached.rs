@@ -18,17 +18,18 @@ pub enum Function {
     /// Numbers 12 and 13 stop it before a text.
     Messages,
     Tally,
+    Mark,
 }
 
-const FUNCTIONS: usize = 6;
-const LAST_REFUSAL: usize = 13;
+const FUNCTIONS: usize = 7;
+const LAST_REFUSAL: usize = 15;
 const CODES: usize = 35;
 const ROOMS: [&str; 3] = ["too short", "exact", "longer"];
 
 impl Function {
     const ALL: [Function; FUNCTIONS] = {
         use Function::*;
-        [Check, Checker, Report, Message, Messages, Tally]
+        [Check, Checker, Report, Message, Messages, Tally, Mark]
     };
 
     fn name(self) -> &'static str {
@@ -39,10 +40,11 @@ impl Function {
             Function::Message => "message",
             Function::Messages => "messages",
             Function::Tally => "tally",
+            Function::Mark => "mark",
         }
     }
 
-    /// The numbers that turn its calls back, as document 01 has them.
+    /// The numbers that turn its calls back, as documents 01 and 02 have them.
     fn numbers(self) -> &'static [usize] {
         match self {
             Function::Check => &[1, 2, 3, 4, 5, 6, 7, 8, 9, 10],
@@ -50,6 +52,7 @@ impl Function {
             Function::Report => &[1, 2, 3, 4, 5, 6, 7, 8, 9, 10, 13],
             Function::Message | Function::Messages => &[1, 2, 3, 4, 5, 6, 7, 8, 9, 12, 13],
             Function::Tally => &[11],
+            Function::Mark => &[14, 15],
         }
     }
 }
@@ -136,12 +139,17 @@ impl Reached {
             }
         }
         for function in Function::ALL {
-            let answers = self.answers[function as usize];
-            write!(out, "{}: {} answered", function.name(), answers[0]).expect(TAKES_ALL);
-            for &number in function.numbers() {
-                write!(out, ", {number}: {}", answers[number]).expect(TAKES_ALL);
-            }
-            out.push('\n');
+            writeln!(out, "{}", self.answers_of(function)).expect(TAKES_ALL);
+        }
+        out
+    }
+
+    /// How often a function answered, and how often each number turned a call back.
+    pub fn answers_of(&self, function: Function) -> String {
+        let answers = self.answers[function as usize];
+        let mut out = format!("{}: {} answered", function.name(), answers[0]);
+        for &number in function.numbers() {
+            write!(out, ", {number}: {}", answers[number]).expect(TAKES_ALL);
         }
         out
     }
@@ -190,7 +198,7 @@ mod tests {
     #[test]
     fn everything_is_unreached_until_it_is_reached() {
         let mut reached = Reached::default();
-        let calls = 1 + 10 + 1 + 9 + 3 * (1 + 11) + 1 + 1;
+        let calls = 1 + 10 + 1 + 9 + 3 * (1 + 11) + 1 + 1 + 1 + 2;
         assert_eq!(reached.unreached().len(), 4 * FORMS.len() + calls);
         for (code, form) in FORMS {
             reached.finding(code.into(), form);

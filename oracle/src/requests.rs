@@ -1,5 +1,7 @@
-//! Requests for texts, and lists of findings, that no check gave: those of a check with something changed, and any words.
+//! Requests for texts, lists of findings, and counts for marks, that no check gave: those of a check with something changed,
+//! and any words.
 
+use crate::marks::MOST_COUNTED;
 use crate::rng::Rng;
 use crate::texts::Request;
 
@@ -129,6 +131,30 @@ pub fn damaged_list(rng: &mut Rng, list: &[u64], n: u64) -> Vec<u64> {
     made
 }
 
+/// A count for a mark: few, up to what is counted, at both sides of that, or any.
+fn count(rng: &mut Rng) -> u64 {
+    match rng.below(20) {
+        0 => border(rng, MOST_COUNTED),
+        1 => MOST_COUNTED - 1 + rng.below(3) as u64,
+        2..10 => rng.below(100) as u64,
+        _ => rng.below(MOST_COUNTED as usize + 1) as u64,
+    }
+}
+
+/// Errors, warnings and verses; most of them have a mark, and of these many one above 0.
+pub fn counts(rng: &mut Rng) -> [u64; 3] {
+    let verses = count(rng);
+    if rng.one_in(4) {
+        return [count(rng), count(rng), verses];
+    }
+    // A loss is below 10,000 with fewer errors than four a verse, or fewer warnings than 13.
+    let mut below = |a_verse: u64| {
+        let limit = a_verse.saturating_mul(verses).min(MOST_COUNTED) + 1;
+        rng.below(limit as usize) as u64
+    };
+    [below(4), below(13), verses]
+}
+
 fn any_list(rng: &mut Rng, n: u64) -> Vec<u64> {
     if rng.one_in(4) {
         return (0..rng.below(40)).map(|_| border(rng, n)).collect();
@@ -153,6 +179,7 @@ fn record(rng: &mut Rng, n: u64) -> [u64; WORDS] {
 #[cfg(test)]
 mod tests {
     use super::*;
+    use crate::marks::mark;
     use crate::samples::listing;
     use crate::tallies::tally;
     use crate::texts::{Reader, requests};
@@ -178,5 +205,22 @@ mod tests {
         let most = lists.iter().map(|list| requests(list).count()).max();
         assert!(most.unwrap() >= 4);
         assert!(lists.contains(&Vec::new()));
+    }
+
+    #[test]
+    fn counts_are_marked_and_turned_back() {
+        let rng = &mut Rng::new(3);
+        let mut outcomes = [0; 4];
+        for _ in 0..1000 {
+            let [errors, warnings, verses] = counts(rng);
+            let outcome = match mark(errors, warnings, verses) {
+                Ok(marked) => usize::from(marked.mark == 0),
+                Err((number, _)) => number as usize - 12,
+            };
+            outcomes[outcome] += 1;
+        }
+        let [above_0, at_0, by_14, by_15] = outcomes;
+        assert!(above_0 > 200 && at_0 > 200, "{outcomes:?}");
+        assert!(by_14 > 20 && by_15 > 2, "{outcomes:?}");
     }
 }

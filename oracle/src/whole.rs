@@ -1,9 +1,10 @@
-//! The whole check, its texts and its tally beside what document 01 and the published code give: answers, findings, texts, and
-//! every element of every lent list with the bytes around it.
+//! The whole check, its texts, its tally and its mark beside what the documents and the published code give: answers, findings,
+//! texts, and every element of every lent list with the bytes around it.
 
 mod counts;
 mod findings;
 mod limits;
+mod marks;
 mod messages;
 mod reports;
 mod slots;
@@ -23,6 +24,7 @@ use crate::texts::{Reader, requests};
 
 pub use counts::Counts;
 use findings::{same_counts, same_findings, same_nodes, severities, words_of};
+use marks::same_mark;
 use slots::Slots;
 pub use workers::{Source, all_threads, compare_seeds, expect_all_reached, failure_message};
 
@@ -106,7 +108,8 @@ impl Comparison {
         self.report_refused((number, place), lengths, rng)?;
         let n = document.node_count();
         self.refused_texts((number, place), n, rng)?;
-        self.tallies(&[], n as u64, rng)
+        self.tallies(&[], n as u64, rng)?;
+        self.any_mark(rng)
     }
 
     fn accepted(
@@ -132,7 +135,8 @@ impl Comparison {
             self.limits(&expected, rng)?;
         }
         self.texts(&expected, rng)?;
-        self.tallies(&expected.list, expected.nodes(), rng)
+        self.tallies(&expected.list, expected.nodes(), rng)?;
+        self.any_mark(rng)
     }
 
     /// The check through the binding, with lists of its own.
@@ -162,6 +166,7 @@ impl Comparison {
         same_nodes(document, &list)?;
         let verses = verses_visited(document);
         same_counts(&report, &list, verses)?;
+        same_mark(&report, &list, verses)?;
         self.counts.accepted(document.node_count(), &list);
         Ok(Expected {
             document,

@@ -5,10 +5,12 @@ use std::fmt::Write;
 use oracle::coverage::code_name;
 use oracle::document::Document;
 use oracle::examples::examples;
+use oracle::listing::of_severity;
+use oracle::marks::mark;
 use oracle::published::{Validated, validate};
 use oracle::refusals::{refusal, verses_visited};
 
-const FOLDERS: [&str; 7] = [
+const FOLDERS: [&str; 8] = [
     "listing",
     "each-code",
     "greek",
@@ -16,6 +18,7 @@ const FOLDERS: [&str; 7] = [
     "clean",
     "refused-3",
     "refused-7",
+    "refused-15",
 ];
 
 const SEVERITIES: [&str; 3] = ["error", "warning", "info"];
@@ -29,12 +32,16 @@ fn printed(out: &mut String, name: &str, document: &Document) {
     let Validated::Findings(findings) = validate(document) else {
         panic!("no sum of an example leaves 32 bits");
     };
-    let count = |severity| findings.iter().filter(|f| f.severity == severity).count();
+    let count = |severity| of_severity(&findings, severity) as u64;
     let (errors, warnings, infos) = (count(0), count(1), count(2));
     let verses = verses_visited(document);
+    let mark = match mark(errors, warnings, verses) {
+        Ok(marked) => format!("mark {:.2}", marked.mark as f64 / 100.0),
+        Err((number, _)) => format!("no mark by number {number}"),
+    };
     writeln!(
         out,
-        "{name}: errors {errors}, warnings {warnings}, infos {infos}, verses {verses}"
+        "{name}: errors {errors}, warnings {warnings}, infos {infos}, verses {verses}, {mark}"
     )
     .unwrap();
     for found in &findings {

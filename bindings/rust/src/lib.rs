@@ -35,6 +35,7 @@
 //!     assert_eq!(&source[finding.span()], "\\v 2 ");
 //!     assert_eq!(finding.message(), "expected verse 1 but found 2");
 //! }
+//! assert_eq!(report.mark()?.to_string(), "92.50");
 //! # Ok::<(), harkoxin::Refusal>(())
 //! ```
 //!
@@ -69,6 +70,7 @@ mod checker;
 mod code;
 mod document;
 mod finding;
+mod mark;
 mod node;
 #[allow(unsafe_code)]
 pub mod raw;
@@ -80,6 +82,7 @@ pub use checker::Checker;
 pub use code::{Code, Severity};
 pub use document::{Table, Tape};
 pub use finding::Finding;
+pub use mark::{Mark, mark};
 pub use node::{MarkerId, Node, NodeKind};
 pub use refusal::Refusal;
 pub use report::{Findings, Report};

@@ -36,6 +36,9 @@ pub const REPORT_WORDS: usize = CHECK_WORDS + MESSAGES_WORDS;
 /// Words of the answer of [`tally`].
 pub const TALLY_WORDS: usize = 3;
 
+/// Words of the answer of [`mark`].
+pub const MARK_WORDS: usize = 5;
+
 /// A verdict: all that was requested is done.
 pub const DONE: u64 = 0;
 
@@ -140,6 +143,13 @@ mod library {
             list_len: usize,
             counts: *mut u64,
             counts_len: usize,
+            out: *mut u64,
+            out_len: usize,
+        );
+        pub fn harkoxin_mark(
+            errors: u64,
+            warnings: u64,
+            verses: u64,
             out: *mut u64,
             out_len: usize,
         );
@@ -378,6 +388,26 @@ pub fn tally(list: &[u64], counts: &mut [u64], out: &mut [u64]) {
             out.as_mut_ptr(),
             out.len(),
         );
+    }
+}
+
+/// Gives the mark of a document out of one hundred from three of its counts, which may be those of [`check`].
+///
+/// `out`: verdict ([`DONE`] or [`REFUSED`]), number, place, loss and mark in hundredths; after a refusal these two are 0.
+///
+/// ```
+/// use harkoxin::raw;
+///
+/// let mut out = [0; raw::MARK_WORDS];
+/// raw::mark(0, 1, 1, &mut out);
+/// assert_eq!(out, [raw::DONE, 0, 0, 750, 9250]);
+/// raw::mark(0, 1, 0, &mut out);
+/// assert_eq!(out, [raw::REFUSED, 15, 0, 0, 0]);
+/// ```
+pub fn mark(errors: u64, warnings: u64, verses: u64, out: &mut [u64]) {
+    // SAFETY: as in `check`.
+    unsafe {
+        library::harkoxin_mark(errors, warnings, verses, out.as_mut_ptr(), out.len());
     }
 }
 

@@ -5,8 +5,8 @@ use std::fmt;
 
 /// Why a call was turned back: a number, with a place.
 ///
-/// A document is turned back by the numbers 1 to 9. The others are answers of the functions in [`raw`](crate::raw): 10 of a
-/// check, 11 of a tally, 12 and 13 of a text.
+/// A document is turned back by the numbers 1 to 9, a mark by 14 and 15. The others are answers of the functions in
+/// [`raw`](crate::raw): 10 of a check, 11 of a tally, 12 and 13 of a text.
 #[derive(Clone, Copy, PartialEq, Eq, Hash, Debug)]
 pub struct Refusal {
     /// Which condition turned it back.
@@ -16,7 +16,7 @@ pub struct Refusal {
 }
 
 /// Each number's condition and what its place counts, from 1 on.
-const CONDITIONS: [(&str, &str); 13] = [
+const CONDITIONS: [(&str, &str); 15] = [
     ("the marker table breaks its layout", "table byte"),
     ("the source is longer than 1,048,576 bytes", "place"),
     ("the source isn't UTF-8", "source byte"),
@@ -48,6 +48,11 @@ const CONDITIONS: [(&str, &str); 13] = [
     ),
     ("the finding has no text in this document", "place"),
     ("the list is too short for the text", "bytes needed"),
+    (
+        "a count of errors, warnings or verses is over 1,000,000",
+        "place",
+    ),
+    ("there are no verses to mark", "place"),
 ];
 
 const UNKNOWN: (&str, &str) = ("the number is unknown", "place");

@@ -5,6 +5,7 @@ use std::ops::Range;
 
 use crate::code::Code;
 use crate::finding::{Finding, Record};
+use crate::mark::{Mark, mark};
 use crate::raw::{self, FINDING_WORDS};
 use crate::refusal::Refusal;
 use crate::texts::Texts;
@@ -82,6 +83,15 @@ impl Report {
     /// How many of the document's findings are infos.
     pub fn infos(&self) -> u64 {
         self.counts.infos
+    }
+
+    /// The document's mark, from its errors, warnings and verses; these are those of the whole document where the report is cut.
+    ///
+    /// # Errors
+    ///
+    /// The numbers 14 and 15, as [`mark`](crate::mark()).
+    pub fn mark(&self) -> Result<Mark, Refusal> {
+        mark(self.errors(), self.warnings(), self.verses())
     }
 
     /// Whether the document has findings that a limit of the [`Checker`](crate::Checker) kept out of this report.

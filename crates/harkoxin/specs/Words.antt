@@ -7,6 +7,7 @@ use Rattle.refusals.specs.Refusal.{Refusal}
 use Rattle.definition.specs.Outcome.{Answer, Checked, refused, checked}
 use Rattle.messages.specs.Answer as message
 use Rattle.messages.specs.Messages as messages
+use Rattle.mark.specs.Mark as mark
 
 abbrev pub reportWords : ℕ → ℕ → ℕ → ℕ → ℕ → ℕ → ℕ → List ℕ
 reportWords verdict total written verses errors warnings infos =
@@ -41,3 +42,8 @@ messagesWords (messages.stopped records bytes r) = 1 ∷ r .number ∷ r .place 
 abbrev pub tallyWords : Option Refusal → List ℕ
 tallyWords none = 0 ∷ 0 ∷ 0 ∷ []
 tallyWords (some r) = 2 ∷ r .number ∷ r .place ∷ []
+
+-- the verdict (0 marked, 2 refused), a refusal's number and place, loss and mark
+abbrev pub markWords : mark.MarkAnswer → List ℕ
+markWords (mark.refused r) = 2 ∷ r .number ∷ r .place ∷ 0 ∷ 0 ∷ []
+markWords (mark.marked m) = 0 ∷ 0 ∷ 0 ∷ m .loss ∷ m .mark ∷ []

@@ -1,5 +1,6 @@
 // The library under C names. A caller must pass valid slices that don't overlap.
 use definition::OpenStart;
+use mark::MarkAnswer;
 use messages::MessageAnswer;
 use messages::MessageRequest;
 use messages::MessagesAnswer;
@@ -21,9 +22,10 @@ ghost use Rattle.tally.specs.Tally as tally;
 ghost use Rattle.tally.specs.Tally.{tallyRefusal, countsAfter};
 ghost use Rattle.messages.specs.Messages.{textsOf, endsFrom, messagesAnswer, messagesAnswerOf, messagesAfter, endsAfter};
 ghost use Rattle.message_texts.specs.Filled.{joined};
-ghost use Rattle.harkoxin.specs.Words.{answerWords, reportWords, refusalWords, messageWords, messagesWords, tallyWords};
+ghost use Rattle.harkoxin.specs.Words.{answerWords, reportWords, refusalWords, messageWords, messagesWords, tallyWords, markWords};
 ghost use Rattle.harkoxin.specs.Report.{heldOf, heldIn, heldAnswer, turnedWords, reportAnswer, reportText, reportEnds};
 ghost use Rattle.table.specs.Inner.{Indexed};
+ghost use Rattle.mark.specs.Mark.{markAnswer, markAnswerOf};
 ghost use Rattle.validate.specs.Entry.{lent};
 
 // Writes words over a lent list from a place on, as far as there is room.
@@ -274,4 +276,22 @@ pub extern "C" fn harkoxin_tally(list: &[u64], counts: &mut [u64], out: &mut [u6
     ensures counts { λ r. ⌜ now (counts .exit) ≡ countsAfter (now (list .entry)) (now (counts .entry)) ⌝ }
 {
     write_tallied(tally::tally(list, counts), out)
+}
+
+fn write_mark(a: MarkAnswer, out: &mut [u64])
+    ensures { λ r. ⌜ now (out .exit) ≡ over (now (out .entry)) 0 (markWords (markAnswerOf a)) ⌝ }
+{
+    match a {
+        MarkAnswer::Marked(loss, mark) => write_words(&[0, 0, 0, loss, mark], 0, out),
+        MarkAnswer::Refused(number, place) => write_words(&[2, number, place, 0, 0], 0, out),
+    }
+}
+
+// Loss and mark of a paper with these counts. It writes its answer over the list `out`: the verdict (0 marked, 2 refused), a refusal's
+// number and place, loss and mark in hundredths.
+#[no_mangle]
+pub extern "C" fn harkoxin_mark(errors: u64, warnings: u64, verses: u64, out: &mut [u64])
+    ensures { λ r. ⌜ now (out .exit) ≡ over (now (out .entry)) 0 (markWords (markAnswer errors warnings verses)) ⌝ }
+{
+    write_mark(mark::mark(errors, warnings, verses), out)
 }

@@ -1,4 +1,4 @@
--- Document 01, "Turned back, in checking order": "Each gives number and place and writes nothing. Of several nodes the first counts."
+-- Document 01, "Turned back, in checking order", and the numbers that document 02 adds: "Each gives number and place and writes nothing. Of several nodes the first counts."
 use Prim.Native.Nat.{ℕ, zero, suc, _<_, _≤_}
 use mathlib.Core.Path.{_≡_}
 use mathlib.Core.Bool.{Bool, true, false}
@@ -55,6 +55,14 @@ noMessage = 12
 -- "Message list too short"
 abbrev pub messageListTooShort : ℕ
 messageListTooShort = 13
+
+-- document 02, K1: "14 when any of the three counts is over 1,000,000"
+abbrev pub countTooLarge : ℕ
+countTooLarge = 14
+
+-- "15 when verses is 0"
+abbrev pub noVerses : ℕ
+noVerses = 15
 
 pub record Refusal : Type 0 where
   pub number : ℕ

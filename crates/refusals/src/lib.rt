@@ -37,3 +37,9 @@ pub const NO_MESSAGE: u64 = 12;
 
 // "Message list too short."
 pub const MESSAGE_LIST_TOO_SHORT: u64 = 13;
+
+// Document 02, K1: "14 when any of the three counts is over 1,000,000."
+pub const COUNT_TOO_LARGE: u64 = 14;
+
+// "15 when verses is 0."
+pub const NO_VERSES: u64 = 15;

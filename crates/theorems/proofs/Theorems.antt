@@ -64,6 +64,10 @@ use Rattle.messages.proofs.HasMessage as message
 use Rattle.listing.specs.Listing.{isTooLarge, mostHeld, messageRoom, listedEach, listing}
 use Rattle.listing.specs.Pieces.{headLines, heldFindings, pieceOf, nextOf, piecesOf, nextAfter, heldTexts}
 use Rattle.listing.proofs.Joined as pieces
+use Rattle.mark.specs.Mark.{markOf, fullMark, markRefusal, LossAndMark, marked, markAnswer}
+use Rattle.mark.specs.Conditions.{GivenMark}
+use Rattle.mark.specs.MarkLines.{markLines, markOfAnswer, markOutput}
+use Rattle.mark.proofs.Marks as marks
 use Rattle.tally.specs.Tally.{tallyRefusal, tallyOf, sum}
 use Rattle.tally.proofs.Sums as sums
 use Rattle.tally.proofs.Total as totals
@@ -292,6 +296,30 @@ piece-fits texts k room = pieces.piece-fits texts k room
 -- "Whole output"
 pub listing-example : listing tableFile (examples.example1 .source) (examples.tapeOf (examples.example1 .nodes)) ≡ output
 listing-example = printed.listing-example
+
+-- ---- The mark (document 02, K1)
+
+-- "It must be proved to lie from 0 to 10,000"
+pub mark-range : (errors warnings verses : ℕ) → markOf errors warnings verses ≤ fullMark
+mark-range errors warnings verses = marks.mark-range errors warnings verses
+
+-- "and never to rise with one error more"
+pub mark-monotone : (errors warnings verses : ℕ) → 1 ≤ verses → markOf (errors + 1) warnings verses ≤ markOf errors warnings verses
+mark-monotone errors warnings verses some-verses = marks.mark-monotone errors warnings verses some-verses
+
+-- Of the entry's answers, wherever both have a mark.
+pub mark-falls : (errors warnings verses : ℕ) (m n : LossAndMark) → markAnswer errors warnings verses ≡ marked m → markAnswer (errors + 1) warnings verses ≡ marked n → n .mark ≤ m .mark
+mark-falls errors warnings verses m n first second = marks.mark-falls errors warnings verses m n first second
+
+-- "14 when any of the three counts is over 1,000,000, place 0; then 15 when verses is 0, place 0"
+-- `GivenMark` has one case for each number, with its condition, and one for none.
+pub mark-number : (errors warnings verses : ℕ) → GivenMark errors warnings verses (markRefusal errors warnings verses)
+mark-number errors warnings verses = marks.mark-number errors warnings verses
+
+-- "A small program over check-exercise's files prints it as `loss=` and `mark=`, or a refusal as there."
+-- What `put_mark` writes by the check's answer is what mark-exercise prints for these files.
+pub mark-printed : (l : Lent) → isTooLarge (l .table) (l .source) (l .tape) ≡ false → 4096 ≤ length (l .seen) → 4096 ≤ length (l .openStarts) → markLines (markOfAnswer (answer l)) ≡ markOutput (l .table) (l .source) (l .tape)
+mark-printed l small seen opens = marks.mark-printed l small seen opens
 
 -- ---- Examples
 

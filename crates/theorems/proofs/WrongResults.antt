@@ -88,6 +88,8 @@ use Rattle.listing.specs.Lines.{tooLargeLines, refusedLines, checkedLines, find
 use Rattle.listing.specs.LinesAndColumns.{eachFrom, linesFrom, columnsFrom}
 use Rattle.listing.specs.Listing.{listing}
 use Rattle.listing.specs.Pieces.{headLines, heldCount, wholeIn, pieceOf, nextOf}
+use Rattle.mark.specs.Mark as marks
+use Rattle.mark.specs.Mark.{markRefusal, markAnswer}
 use Rattle.harkoxin.specs.Words.{answerWords, messagesWords}
 use Rattle.harkoxin.specs.Report.{reportAnswer, reportText}
 use Rattle.theorems.specs.ListingExample.{tableFile, output}
@@ -139,6 +141,23 @@ abbrev recordsSaid : text-answers.MessagesAnswer → ℕ
 recordsSaid (text-answers.refused r) = 0
 recordsSaid (text-answers.all records bytes) = records
 recordsSaid (text-answers.stopped records bytes r) = records
+
+-- the loss, whether the mark is over 0 (1), and the number of a refusal (0 for none) in an answer for a mark
+abbrev lossSaid : marks.MarkAnswer → ℕ
+lossSaid (marks.refused r) = 0
+lossSaid (marks.marked m) = m .loss
+
+abbrev firstOfMark : marks.MarkAnswer → ℕ
+firstOfMark (marks.refused r) = 0
+firstOfMark (marks.marked m) = someOf (m .mark)
+  where
+    someOf : ℕ → ℕ
+    someOf zero = 0
+    someOf (suc n) = 1
+
+abbrev markNumberSaid : marks.MarkAnswer → ℕ
+markNumberSaid (marks.refused r) = r .number
+markNumberSaid (marks.marked m) = 0
 
 -- 1 for a refusal, 0 for none
 abbrev turnedBack : Option Refusal → ℕ
@@ -866,6 +885,33 @@ lines-unwritten e = eqb-false 0 1 refl (ap (wordIn 0) e)
 column-kept : 1 ∷ 2 ∷ [] ≡ over (repeated 0 2) 0 (columnsFrom (10 ∷ []) 0 2) → ⊥
 unfolding repeated over eachFrom placeFrom
 column-kept e = eqb-false 2 1 refl (ap (wordIn 1) e)
+
+-- ---- mark::mark
+
+-- the right marks: one error and one warning in 67 verses; a million of each in one verse; a count too many; no verses
+mark-right : (markAnswer 1 1 67 ≡ marks.marked (record { loss = 48; mark = 9952 })) × (markAnswer 1000000 0 1 ≡ marks.marked (record { loss = 2500000000; mark = 0 })) × (markAnswer 1000001 0 0 ≡ marks.refused (record { number = 14; place = 0 })) × (markAnswer 0 0 0 ≡ marks.refused (record { number = 15; place = 0 }))
+unfolding markRefusal
+mark-right = (refl, refl, refl, refl)
+
+-- loss in whole marks
+mark-coarse : marks.marked (record { loss = 0; mark = 10000 }) ≡ markAnswer 1 1 67 → ⊥
+unfolding markRefusal
+mark-coarse e = eqb-false 0 48 refl (ap lossSaid e)
+
+-- a mark that goes round below 0
+mark-wraps : (n : ℕ) → marks.marked (record { loss = 2500000000; mark = suc n }) ≡ markAnswer 1000000 0 1 → ⊥
+unfolding markRefusal
+mark-wraps n e = eqb-false 1 0 refl (ap firstOfMark e)
+
+-- 15 before 14
+mark-fifteen-first : marks.refused (record { number = 15; place = 0 }) ≡ markAnswer 1000001 0 0 → ⊥
+unfolding markRefusal
+mark-fifteen-first e = eqb-false 15 14 refl (ap markNumberSaid e)
+
+-- a mark without verses
+mark-no-verses : marks.marked (record { loss = 0; mark = 10000 }) ≡ markAnswer 0 0 0 → ⊥
+unfolding markRefusal
+mark-no-verses e = eqb-false 0 15 refl (ap markNumberSaid e)
 
 -- ---- check_exercise: the listing
 

@@ -1,6 +1,6 @@
-//! Compares the whole check, its texts and its tally with the published `validate` and with
-//! document 01's refusals, on generated documents, every small document and the documents by hand:
-//! answers, findings, texts and every element of every lent list. Exit status 1 at the first
+//! Compares the whole check, its texts, its tally and its mark with the published `validate` and
+//! with the documents' refusals, on generated documents, every small document and the documents by
+//! hand: answers, findings, texts and every element of every lent list. Exit status 1 at the first
 //! difference, and where a form or a refusal was never reached.
 
 use std::process::ExitCode;

@@ -1,5 +1,5 @@
-//! Compares what check-exercise prints with the plain listing, on generated documents. Exit status
-//! 1 at the first difference.
+//! Compares what check-exercise and mark-exercise print with the plain listing and the plain mark, on generated documents and
+//! on one with a million errors. Exit status 1 at the first difference.
 
 use std::path::Path;
 use std::process::{Command, ExitCode};
@@ -7,15 +7,21 @@ use std::{env, fs};
 
 use oracle::arguments::numbers;
 use oracle::document::Document;
+use oracle::examples::million_errors;
 use oracle::generate::generate;
 use oracle::listing::listing;
+use oracle::marks;
 use oracle::published::{Validated, overflow_is_noticed, try_validate};
 use oracle::refusals::refusal;
 
-const PROGRAM: &str = concat!(env!("CARGO_MANIFEST_DIR"), "/../target/bin/check_exercise");
+const PROGRAMS: &str = concat!(env!("CARGO_MANIFEST_DIR"), "/../target/bin");
 
-/// What the program prints in a folder with the document's files.
-fn printed(folder: &Path, document: &Document) -> Result<Vec<u8>, String> {
+/// The programs, each with what it prints for a document.
+const COMPARED: [(&str, Lines); 2] = [("check_exercise", listing), ("mark_exercise", marks::lines)];
+
+type Lines = fn(&Document) -> String;
+
+fn write_files(folder: &Path, document: &Document) -> Result<(), String> {
     let files = [
         ("table.txt", &document.table),
         ("source.usfm", &document.source),
@@ -24,9 +30,28 @@ fn printed(folder: &Path, document: &Document) -> Result<Vec<u8>, String> {
     for (name, bytes) in files {
         fs::write(folder.join(name), bytes).map_err(|error| error.to_string())?;
     }
-    let mut program = Command::new(PROGRAM);
+    Ok(())
+}
+
+/// What a program prints in a folder.
+fn printed(folder: &Path, program: &str) -> Result<Vec<u8>, String> {
+    let mut program = Command::new(Path::new(PROGRAMS).join(program));
     let output = program.current_dir(folder).output();
     Ok(output.map_err(|error| error.to_string())?.stdout)
+}
+
+/// The lines that all programs print for a document.
+fn compare(folder: &Path, document: &Document) -> Result<usize, String> {
+    write_files(folder, document)?;
+    let mut count = 0;
+    for (program, lines) in COMPARED {
+        let expected = lines(document).into_bytes();
+        if printed(folder, program)? != expected {
+            return Err(format!("{program} prints otherwise: {}", document.to_hex()));
+        }
+        count += expected.iter().filter(|&&byte| byte == b'\n').count();
+    }
+    Ok(count)
 }
 
 /// Whether a sum of the published code leaves 32 bits.
@@ -45,23 +70,18 @@ fn run() -> Result<(), String> {
     numbers(&mut [("--documents", &mut documents), ("--seed", &mut seed)])?;
     let folder = env::temp_dir().join(format!("compare_listing_{}", std::process::id()));
     fs::create_dir_all(&folder).map_err(|error| error.to_string())?;
-    let (mut compared, mut lines) = (0u64, 0usize);
+    let mut lines = compare(&folder, &million_errors("\\v 1 "))?;
+    let mut compared = 1u64;
     for seed in seed..seed + documents {
         let document = generate(seed);
         if is_past_32_bits(&document)? {
             continue;
         }
-        let expected = listing(&document).into_bytes();
-        if printed(&folder, &document)? != expected {
-            return Err(format!(
-                "seed {seed} is listed otherwise: {}",
-                document.to_hex()
-            ));
-        }
+        let printed = compare(&folder, &document);
+        lines += printed.map_err(|why| format!("seed {seed}: {why}"))?;
         compared += 1;
-        lines += expected.iter().filter(|&&byte| byte == b'\n').count();
     }
-    println!("no difference: {compared} listings, {lines} lines");
+    println!("no difference: {compared} listings and marks, {lines} lines");
     fs::remove_dir_all(&folder).map_err(|error| error.to_string())
 }
 

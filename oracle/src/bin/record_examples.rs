@@ -1,5 +1,5 @@
-//! Writes the folders of examples for check-exercise, each with what it prints; with --check it
-//! makes them anew and compares.
+//! Writes the folders of examples for check-exercise and mark-exercise, each with what they print;
+//! with --check it makes them anew and compares.
 
 use std::fs;
 use std::path::{Path, PathBuf};
@@ -7,6 +7,7 @@ use std::process::ExitCode;
 
 use oracle::examples::examples;
 use oracle::listing::listing;
+use oracle::marks;
 
 const FOLDER: &str = concat!(env!("CARGO_MANIFEST_DIR"), "/../examples");
 
@@ -17,11 +18,13 @@ fn files() -> Vec<(PathBuf, Vec<u8>)> {
     for (name, document) in examples() {
         let folder = Path::new(FOLDER).join(name);
         let expected = listing(&document).into_bytes();
+        let expected_mark = marks::lines(&document).into_bytes();
         list.extend([
             (folder.join("table.txt"), document.table),
             (folder.join("source.usfm"), document.source),
             (folder.join("nodes.bin"), document.tape),
             (folder.join("expected"), expected),
+            (folder.join("expected-mark"), expected_mark),
         ]);
     }
     list.retain(|(_, bytes)| !bytes.is_empty());

@@ -3,6 +3,7 @@
 use harkoxin::{Checker, Table, Tape};
 
 use super::findings::{severities, words_of};
+use super::marks::same_mark;
 use super::messages::room_for;
 use super::{Comparison, Expected, FINDING_WORDS};
 use crate::differ::agree;
@@ -34,6 +35,7 @@ impl Comparison {
         let counted = [report.errors(), report.warnings(), report.infos()];
         agree("a report's severities", counted, severities(&expected.list))?;
         agree("a report's verses", report.verses(), expected.verses)?;
+        same_mark(&report, &expected.list, expected.verses)?;
         self.counts.limited(report.is_cut());
         Ok(())
     }

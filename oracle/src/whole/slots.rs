@@ -123,4 +123,8 @@ impl Slots {
             self.out.list_mut(),
         );
     }
+
+    pub fn mark(&mut self, errors: u64, warnings: u64, verses: u64) {
+        raw::mark(errors, warnings, verses, self.out.list_mut());
+    }
 }

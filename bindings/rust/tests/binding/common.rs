@@ -143,13 +143,18 @@ pub fn example_names() -> Vec<String> {
         .map(|entry| entry.file_name().into_string().unwrap())
         .collect();
     names.sort();
-    assert!(names.len() >= 18, "{names:?}");
+    assert!(names.len() >= 20, "{names:?}");
     names
 }
 
 /// What check-exercise prints for an example.
 pub fn example_listing(name: &str) -> String {
     fs::read_to_string(examples().join(name).join("expected")).expect("an example has a listing")
+}
+
+/// What mark-exercise prints for an example.
+pub fn example_mark(name: &str) -> String {
+    fs::read_to_string(examples().join(name).join("expected-mark")).expect("an example has a mark")
 }
 
 /// Repeatable numbers (xorshift).

@@ -2,9 +2,9 @@
 
 use std::fmt::Write;
 
-use harkoxin::{Finding, Report};
+use harkoxin::{Finding, Mark, Refusal, Report};
 
-use crate::common::{Document, example_listing, example_names};
+use crate::common::{Document, example_listing, example_mark, example_names};
 
 const LARGEST_FILE: usize = 65_536;
 const MOST_FINDINGS: usize = 1_024;
@@ -41,26 +41,43 @@ fn report_lines(source: &[u8], report: &Report) -> String {
     out
 }
 
-/// What check-exercise prints for a document, made with the binding.
-fn listing(document: &Document) -> String {
+fn mark_lines(report: &Report) -> String {
+    match report.mark() {
+        Ok(Mark { loss, mark }) => format!("loss={loss}\nmark={mark}\n"),
+        Err(refusal) => refusal_lines(refusal),
+    }
+}
+
+fn refusal_lines(Refusal { number, place }: Refusal) -> String {
+    format!("verdict=refused\nrefusal={number}\nplace={place}\n")
+}
+
+/// What a program prints for a document, made with the binding, where these are its lines for a checked one.
+fn printed(document: &Document, lines: impl FnOnce(&Report) -> String) -> String {
     let files = [&document.table, &document.source, &document.tape];
     if files.iter().any(|file| file.len() > LARGEST_FILE) {
         return "verdict=toolarge\n".to_string();
     }
     match document.check() {
-        Ok(report) => report_lines(&document.source, &report),
-        Err(refusal) => format!(
-            "verdict=refused\nrefusal={}\nplace={}\n",
-            refusal.number, refusal.place
-        ),
+        Ok(report) => lines(&report),
+        Err(refusal) => refusal_lines(refusal),
     }
 }
 
 #[test]
 fn every_example_has_its_listing() {
     for name in example_names() {
-        let printed = listing(&Document::example(&name));
-        assert_eq!(printed, example_listing(&name), "{name}");
+        let document = Document::example(&name);
+        let listing = printed(&document, |report| report_lines(&document.source, report));
+        assert_eq!(listing, example_listing(&name), "{name}");
+    }
+}
+
+#[test]
+fn every_example_has_its_mark() {
+    for name in example_names() {
+        let lines = printed(&Document::example(&name), mark_lines);
+        assert_eq!(lines, example_mark(&name), "{name}");
     }
 }
 

@@ -1,6 +1,6 @@
 //! More findings than nodes, and reports that a limit cuts.
 
-use harkoxin::{Checker, Code, Node, NodeKind, Report};
+use harkoxin::{Checker, Code, Node, NodeKind, Refusal, Report};
 
 use crate::common::Document;
 
@@ -90,6 +90,11 @@ fn overlapping_spans_pass_no_limit() {
     assert_eq!(report.total(), 520 * 2_049);
     assert_eq!(report.findings().len(), 1_048_576);
     assert!(report.is_cut());
+    let refusal = Refusal {
+        number: 14,
+        place: 0,
+    };
+    assert_eq!(report.mark(), Err(refusal));
 }
 
 #[test]

@@ -5,6 +5,7 @@ mod documents;
 mod folders;
 mod garbage;
 mod limits;
+mod marks;
 mod nodes;
 mod raw;
 mod refusals;

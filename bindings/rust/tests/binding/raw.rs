@@ -122,7 +122,8 @@ fn texts_together_are_the_texts_by_themselves() {
     let mut written = 0;
     for name in example_names() {
         let document = Document::example(&name);
-        if document.check().is_err() {
+        // As many findings as `findings` has room for.
+        if !document.check().is_ok_and(|report| report.total() <= 2_500) {
             continue;
         }
         let list = findings(&document);
@@ -260,6 +261,24 @@ fn tallies_and_their_refusals() {
     }
 }
 
+#[test]
+fn marks_and_their_refusals() {
+    for (counts, answer) in [
+        ([0, 1, 1], [DONE, 0, 0, 750, 9_250]),
+        ([5, 0, 1], [DONE, 0, 0, 12_500, 0]),
+        ([1_000_001, 0, 0], [REFUSED, 14, 0, 0, 0]),
+        ([1_000_000, 0, 0], [REFUSED, 15, 0, 0, 0]),
+    ] {
+        let [errors, warnings, verses] = counts;
+        for room in 0..raw::MARK_WORDS + 3 {
+            let mut out = vec![ANY; room];
+            raw::mark(errors, warnings, verses, &mut out);
+            let words = answer.iter().chain(&[ANY; 3]).take(room);
+            assert!(out.iter().eq(words), "{counts:?}: {out:?}");
+        }
+    }
+}
+
 /// A check, and then the texts of the findings that it wrote: what a report gives by one call.
 fn in_two_calls(document: &Document, lent: &mut Lists, ends: &mut [u64], text: &mut [u8]) {
     let out = std::mem::replace(&mut lent.out, vec![ANY; raw::CHECK_WORDS]);
@@ -346,4 +365,5 @@ fn empty_slices_everywhere() {
     raw::tally(&[], &mut [], &mut []);
     raw::tally(&[], &mut [], &mut out);
     assert_eq!(out[..3], [DONE, 0, 0]);
+    raw::mark(0, 0, 0, &mut []);
 }
