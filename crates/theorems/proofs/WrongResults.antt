@@ -90,7 +90,7 @@ use Rattle.listing.specs.Listing.{listing}
 use Rattle.listing.specs.Pieces.{headLines, heldCount, wholeIn, pieceOf, nextOf}
 use Rattle.mark.specs.Mark as marks
 use Rattle.mark.specs.Mark.{markRefusal, markAnswer}
-use Rattle.harkoxin.specs.Words.{answerWords, messagesWords}
+use Rattle.harkoxin.specs.Words.{answerWords, messageWords, messagesWords, tallyWords, markWords}
 use Rattle.harkoxin.specs.Report.{reportAnswer, reportText}
 use Rattle.theorems.specs.ListingExample.{tableFile, output}
 use Rattle.theorems.proofs.Printed.{listing-example}
@@ -912,6 +912,54 @@ mark-fifteen-first e = eqb-false 15 14 refl (ap markNumberSaid e)
 mark-no-verses : marks.marked (record { loss = 0; mark = 10000 }) ≡ markAnswer 0 0 0 → ⊥
 unfolding markRefusal
 mark-no-verses e = eqb-false 0 15 refl (ap markNumberSaid e)
+
+-- ---- harkoxin::harkoxin_message
+
+-- a refusal without its verdict
+message-words-verdict : 0 ∷ 12 ∷ 0 ∷ 0 ∷ [] ≡ over (repeated 0 4) 0 (messageWords (answerHere (asked 0 0) 40)) → ⊥
+unfolding repeated over
+message-words-verdict e = eqb-false 0 2 refl (ap (wordIn 0) (e ∙ ap (λ (x : text-answer.MessageAnswer). over (repeated 0 4) 0 (messageWords x)) (message-right .2)))
+
+-- a text without its length
+message-words-length : 0 ∷ 0 ∷ 0 ∷ 0 ∷ [] ≡ over (repeated 0 4) 0 (messageWords (answerHere (asked 16 0) 40)) → ⊥
+unfolding repeated over
+message-words-length e = eqb-false 0 37 refl (ap (wordIn 3) (e ∙ ap (λ (x : text-answer.MessageAnswer). over (repeated 0 4) 0 (messageWords x)) (message-right .0)))
+
+-- ---- harkoxin::harkoxin_messages
+
+-- texts that stop, written as all written
+messages-words-verdict : 0 ∷ 13 ∷ 40 ∷ 1 ∷ 37 ∷ [] ≡ over (repeated 0 5) 0 (messagesWords (text-answers.stopped 1 37 (record { number = 13; place = 40 }))) → ⊥
+unfolding repeated over
+messages-words-verdict e = eqb-false 0 1 refl (ap (wordIn 0) e)
+
+-- texts without their bytes
+messages-words-bytes : 0 ∷ 0 ∷ 0 ∷ 1 ∷ 0 ∷ [] ≡ over (repeated 0 5) 0 (messagesWords (text-answers.all 1 37)) → ⊥
+unfolding repeated over
+messages-words-bytes e = eqb-false 0 37 refl (ap (wordIn 4) e)
+
+-- ---- harkoxin::harkoxin_tally
+
+-- a refusal without its verdict
+tally-words-verdict : 0 ∷ 11 ∷ 3 ∷ [] ≡ over (repeated 0 3) 0 (tallyWords (some (record { number = 11; place = 3 }))) → ⊥
+unfolding repeated over
+tally-words-verdict e = eqb-false 0 2 refl (ap (wordIn 0) e)
+
+-- the place as the number, and the number as the place
+tally-words-turned : 2 ∷ 3 ∷ 11 ∷ [] ≡ over (repeated 0 3) 0 (tallyWords (some (record { number = 11; place = 3 }))) → ⊥
+unfolding repeated over
+tally-words-turned e = eqb-false 3 11 refl (ap (wordIn 1) e)
+
+-- ---- harkoxin::harkoxin_mark
+
+-- the mark as the loss, and the loss as the mark
+mark-words-turned : 0 ∷ 0 ∷ 0 ∷ 9250 ∷ 750 ∷ [] ≡ over (repeated 0 5) 0 (markWords (markAnswer 0 1 1)) → ⊥
+unfolding markRefusal repeated over
+mark-words-turned e = eqb-false 9250 750 refl (ap (wordIn 3) e)
+
+-- a refusal without its verdict
+mark-words-verdict : 0 ∷ 15 ∷ 0 ∷ 0 ∷ 0 ∷ [] ≡ over (repeated 0 5) 0 (markWords (markAnswer 0 0 0)) → ⊥
+unfolding markRefusal repeated over
+mark-words-verdict e = eqb-false 0 2 refl (ap (wordIn 0) e)
 
 -- ---- check_exercise: the listing
 
