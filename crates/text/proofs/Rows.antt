@@ -6,6 +6,7 @@ use mathlib.Core.List.{List, [], _∷_, List·Memᴰ, List·Memᴰ·head, List·
 use Prim.Native.Nat.{ℕ, zero, suc, _+_, _-_, _<_, _≤_, zero-le, suc-le-suc}
 use native.Mathlib.Nat.{not-suc-le-zero, le-of-suc-le-suc}
 use native.Mathlib.Numerals.{add-one}
+use native.Mathlib.Decide.{decLt}
 use native.Mathlib.Omega.{arith}
 use lib.Dec.{leb, ltb}
 use lib.ListN.{length, getD, drop, length-drop}
@@ -21,6 +22,13 @@ within-lo lo hi b e = leb-true lo b (and-left (leb lo b) (leb b hi) e)
 pub within-hi : (lo hi b : ℕ) → within lo hi b ≡ true → b ≤ hi
 within-hi lo hi b e = leb-true b hi (and-right (leb lo b) (leb b hi) e)
 
+pub within-above : (hi b : ℕ) → within 0 hi b ≡ false → hi < b
+within-above hi b e = go (decLt hi b)
+  where
+    go : Dec (hi < b) → hi < b
+    go (yes h) = h
+    go (no h) = absurd (false≢true (sym e ∙ rw (le-leb 0 b zero-le, le-leb b hi (omega arith)) refl))
+
 -- what stands at a place
 pub place : (s : List ℕ) (at : ℕ) → at < length s → drop at s ≡ getD s at 0 ∷ drop (at + 1) s
 place s at h = rw (add-one, drop-cons s at 0)
@@ -30,7 +38,7 @@ unfolding begins
 begins-nil s = refl
 
 -- one byte of a row at a place
-begins-at : (r : Range) (rs : List Range) (s : List ℕ) (at : ℕ) → at < length s → begins (r ∷ rs) (drop at s) ≡ (within (r .lo) (r .hi) (getD s at 0) && begins rs (drop (at + 1) s))
+pub begins-at : (r : Range) (rs : List Range) (s : List ℕ) (at : ℕ) → at < length s → begins (r ∷ rs) (drop at s) ≡ (within (r .lo) (r .hi) (getD s at 0) && begins rs (drop (at + 1) s))
 unfolding begins
 begins-at r rs s at h = rw (place s at h)
 
@@ -199,7 +207,7 @@ row-there (row ∷ rows) zero h = List·Memᴰ·head refl
 row-there (row ∷ rows) (suc k) h = List·Memᴰ·tail (row-there rows k (le-of-suc-le-suc h))
 
 -- row number k, from 0, at a place
-abbrev rowOf : ℕ → List Range
+abbrev pub rowOf : ℕ → List Range
 rowOf k = getD table3-7 k []
 
 module _ (s : List ℕ) (at : ℕ) (h : at < length s) where

@@ -64,9 +64,9 @@ ascii-by (suc n) s from to e h k low =
 pub ascii-run : (s : List ℕ) (from to : ℕ) → from ≤ to → to ≤ length s → Ascii s from to → scan (drop from s) 0 from ≡ scan (drop to s) 0 to
 ascii-run s from to h k low = ascii-by (to - from) s from to refl h k low
 
--- an ASCII byte is passed, and a run that starts with one
-pub passed-one : (s : List ℕ) (at : ℕ) → at < length s → getD s at 0 < 0x80 → Passed s at 1
-passed-one s at h l = record { none = λ z. absurd (omega arith); some = λ g. past s at 1 (ascii-one s at h l) g; inside = omega arith }
+-- a sequence is passed, or where none begins nothing; and a run of ASCII
+pub passed-width : (s : List ℕ) (at w : ℕ) → at < length s → w ≡ widthOf (drop at s) → Passed s at w
+passed-width s at w h e = record { none = λ z. sym e ∙ z; some = λ g. past s at w (sym e) g; inside = omega (arith, within-text s at (omega arith)) }
 
 pub passed-run : (s : List ℕ) (at r : ℕ) → at < length s → getD s at 0 < 0x80 → at + 1 ≤ r → r ≤ length s → Ascii s (at + 1) r → Passed s at (r - at)
 passed-run s at r h l g k low =

@@ -3,9 +3,8 @@ use Prim.Native.Nat.{ℕ, _+_, _*_, _%_, _^_, _<_, _≤_}
 use mathlib.Core.Path.{_≡_}
 use mathlib.Core.Bool.{Bool}
 use mathlib.Core.List.{List}
-use lib.Dec.{eqb}
 use lib.ListN.{length, getD, drop}
-use Rattle.text.specs.Pick.{same, pick}
+use Rattle.text.specs.Pick.{same}
 use Rattle.text.specs.Utf8.{widthOf, scan}
 use Rattle.text.specs.Blank.{blank}
 
@@ -18,13 +17,6 @@ pub record Led (s : List ℕ) (at lo hi : ℕ) : Type 0 where
   pub inside : at < length s
   pub low : lo ≤ getD s at 0
   pub high : getD s at 0 ≤ hi
-
--- the lowest and the highest second byte, in the rows of Table 3-7 that begin with E0 to F4
-abbrev pub secondLow : ℕ → ℕ
-secondLow b = pick (eqb b 0xE0) 0xA0 (pick (eqb b 0xF0) 0x90 0x80)
-
-abbrev pub secondHigh : ℕ → ℕ
-secondHigh b = pick (eqb b 0xED) 0x9F (pick (eqb b 0xF4) 0x8F 0xBF)
 
 -- a scan passes r bytes at a place, or none, where an ill-formed sequence begins
 pub record Passed (s : List ℕ) (at r : ℕ) : Type 0 where

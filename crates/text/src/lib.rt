@@ -13,7 +13,7 @@ ghost use Rattle.text.specs.Blank.{blank};
 ghost use Rattle.text.specs.Characters.{chars, bytesBefore, find, findByte, isBoundary};
 ghost use Rattle.text.specs.Words.{blankText, trimStart, trim, kept, firstWord, secondWord};
 ghost use Rattle.text.specs.Number.{digit, digits, parsed, numberOf};
-ghost use Rattle.text.specs.Inner.{Ascii, eightBytes, fourBytes, High, Ended, Led, Passed, secondLow, secondHigh, blankIs};
+ghost use Rattle.text.specs.Inner.{Ascii, eightBytes, fourBytes, High, Ended, Led, Passed, blankIs};
 
 // Whether a text is well formed, or where its first ill-formed sequence starts.
 pub enum Utf8 {
@@ -40,103 +40,18 @@ pub fn holds(b: u8, lo: u8, hi: u8) -> bool
     if lo <= b { b <= hi } else { false }
 }
 
-fn two(s: &[u8], at: usize) -> bool
-    requires { ⌜ at ≤ length (now s) ⌝ }
-    ensures { λ r. ⌜ r ≡ begins (range 0x80 0xBF ∷ []) (drop at (now (s .entry))) ⌝ }
-{
-    if s.len() - at < 1 {
-        return false;
-    }
-    holds(s[at], 0x80, 0xBF)
-}
-
-fn three(s: &[u8], at: usize, lo: u8, hi: u8) -> bool
-    requires { ⌜ at ≤ length (now s) ⌝ }
-    ensures { λ r. ⌜ r ≡ begins (range lo hi ∷ range 0x80 0xBF ∷ []) (drop at (now (s .entry))) ⌝ }
-{
-    if s.len() - at < 2 {
-        return false;
-    }
-    if holds(s[at], lo, hi) {
-        holds(s[at + 1], 0x80, 0xBF)
-    } else {
-        false
-    }
-}
-
-fn four(s: &[u8], at: usize, lo: u8, hi: u8) -> bool
-    requires { ⌜ at ≤ length (now s) ⌝ }
-    ensures { λ r. ⌜ r ≡ begins (range lo hi ∷ range 0x80 0xBF ∷ range 0x80 0xBF ∷ []) (drop at (now (s .entry))) ⌝ }
-{
-    if s.len() - at < 3 {
-        return false;
-    }
-    if holds(s[at], lo, hi) {
-        if holds(s[at + 1], 0x80, 0xBF) {
-            return holds(s[at + 2], 0x80, 0xBF);
-        }
-    }
-    false
-}
-
-// The lowest second byte after a first byte from E0 to F4.
-fn second_low(b: u8) -> u8
-    ensures { λ r. ⌜ r ≡ secondLow b ⌝ }
-{
-    if b == 0xE0 {
-        return 0xA0;
-    }
-    if b == 0xF0 { 0x90 } else { 0x80 }
-}
-
-// The highest second byte after a first byte from E0 to F4.
-fn second_high(b: u8) -> u8
-    ensures { λ r. ⌜ r ≡ secondHigh b ⌝ }
-{
-    if b == 0xED {
-        return 0x9F;
-    }
-    if b == 0xF4 { 0x8F } else { 0xBF }
-}
-
-// Whether the first byte, from 80 to DF, begins a sequence of two bytes; one of no other length.
-fn two_at(s: &[u8], at: usize) -> bool
-    requires { ⌜ Led (now s) at 0x80 0xDF ⌝ }
-    ensures { λ r. ⌜ widthOf (drop at (now (s .entry))) ≡ pick r 2 0 ⌝ }
-{
-    if s[at] < 0xC2 {
-        return false;
-    }
-    two(s, at + 1)
-}
-
-// Whether the first byte, from E0 to EF, begins a sequence of three bytes; one of no other length.
-fn three_at(s: &[u8], at: usize) -> bool
-    requires { ⌜ Led (now s) at 0xE0 0xEF ⌝ }
-    ensures { λ r. ⌜ widthOf (drop at (now (s .entry))) ≡ pick r 3 0 ⌝ }
-{
-    let b = s[at];
-    three(s, at + 1, second_low(b), second_high(b))
-}
-
-// Whether the first byte, from F0 on, begins a sequence of four bytes; one of no other length.
-fn four_at(s: &[u8], at: usize) -> bool
-    requires { ⌜ Led (now s) at 0xF0 0xFF ⌝ }
-    ensures { λ r. ⌜ widthOf (drop at (now (s .entry))) ≡ pick r 4 0 ⌝ }
-{
-    let b = s[at];
-    if 0xF4 < b {
-        return false;
-    }
-    four(s, at + 1, second_low(b), second_high(b))
-}
-
-// How long the well-formed sequence is that begins with a byte above ASCII, or 0.
+// Table 3-7 of the Unicode Standard, "Well-Formed UTF-8 Byte Sequences": its nine rows stand here once each, in the table's order
+// and with the table's ranges. Third and fourth bytes are from 80 to BF in every row, and tested once for all rows of a length.
+//
+// Row 1, then the rows of two, three and four bytes: how long the well-formed sequence is that begins at a place, or 0.
 fn width_at(s: &[u8], at: usize) -> usize
-    requires { ⌜ Led (now s) at 0x80 0xFF ⌝ }
+    requires { ⌜ at < length (now s) ⌝ }
     ensures { λ r. ⌜ r ≡ widthOf (drop at (now (s .entry))) ⌝ }
 {
     let b = s[at];
+    if holds(b, 0x00, 0x7F) {
+        return 1;
+    }
     if b < 0xE0 {
         return if two_at(s, at) { 2 } else { 0 };
     }
@@ -144,6 +59,67 @@ fn width_at(s: &[u8], at: usize) -> usize
         return if three_at(s, at) { 3 } else { 0 };
     }
     if four_at(s, at) { 4 } else { 0 }
+}
+
+// Row 2: whether the first byte, from 80 to DF, begins a sequence of two bytes; one of no other length.
+fn two_at(s: &[u8], at: usize) -> bool
+    requires { ⌜ Led (now s) at 0x80 0xDF ⌝ }
+    ensures { λ r. ⌜ widthOf (drop at (now (s .entry))) ≡ pick r 2 0 ⌝ }
+{
+    if !holds(s[at], 0xC2, 0xDF) {
+        return false;
+    }
+    let left = s.len() - (at + 1);
+    0 < left && holds(s[at + 1], 0x80, 0xBF)
+}
+
+// Rows 3 to 6: whether the bytes are the first and the second of a sequence of three.
+fn rows_of_three(first: u8, second: u8) -> bool
+    ensures { λ r. ⌜ r ≡ eqb (widthOf (first ∷ second ∷ 0x80 ∷ [])) 3 ⌝ }
+{
+    match first {
+        0xE0 => holds(second, 0xA0, 0xBF),
+        0xE1..=0xEC => holds(second, 0x80, 0xBF),
+        0xED => holds(second, 0x80, 0x9F),
+        0xEE..=0xEF => holds(second, 0x80, 0xBF),
+        _ => false,
+    }
+}
+
+// Rows 7 to 9: whether the bytes are the first and the second of a sequence of four.
+fn rows_of_four(first: u8, second: u8) -> bool
+    ensures { λ r. ⌜ r ≡ eqb (widthOf (first ∷ second ∷ 0x80 ∷ 0x80 ∷ [])) 4 ⌝ }
+{
+    match first {
+        0xF0 => holds(second, 0x90, 0xBF),
+        0xF1..=0xF3 => holds(second, 0x80, 0xBF),
+        0xF4 => holds(second, 0x80, 0x8F),
+        _ => false,
+    }
+}
+
+// Whether the first byte, from E0 to EF, begins a sequence of three bytes; one of no other length.
+fn three_at(s: &[u8], at: usize) -> bool
+    requires { ⌜ Led (now s) at 0xE0 0xEF ⌝ }
+    ensures { λ r. ⌜ widthOf (drop at (now (s .entry))) ≡ pick r 3 0 ⌝ }
+{
+    let left = s.len() - (at + 1);
+    if left < 2 {
+        return false;
+    }
+    rows_of_three(s[at], s[at + 1]) && holds(s[at + 2], 0x80, 0xBF)
+}
+
+// Whether the first byte, from F0 on, begins a sequence of four bytes; one of no other length.
+fn four_at(s: &[u8], at: usize) -> bool
+    requires { ⌜ Led (now s) at 0xF0 0xFF ⌝ }
+    ensures { λ r. ⌜ widthOf (drop at (now (s .entry))) ≡ pick r 4 0 ⌝ }
+{
+    let left = s.len() - (at + 1);
+    if left < 3 {
+        return false;
+    }
+    rows_of_four(s[at], s[at + 1]) && holds(s[at + 2], 0x80, 0xBF) && holds(s[at + 3], 0x80, 0xBF)
 }
 
 fn byte(s: &[u8], k: usize) -> u64
@@ -228,21 +204,20 @@ fn ascii_end(s: &[u8], from: usize) -> usize
     i
 }
 
-// How many bytes a scan passes at a place, or 0 at an ill-formed sequence. In text of another script an ASCII byte seldom
-// has an ASCII byte three places on, so that a run is looked for only where there may be one.
+// How many bytes a scan passes at a place, or 0 at an ill-formed sequence: a run of ASCII where there may be one, for speed, else
+// what a row of the table gives. In text of another script an ASCII byte seldom has an ASCII byte three places on.
 fn passed(s: &[u8], at: usize) -> usize
     requires { ⌜ at < length (now s) ⌝ }
     ensures { λ r. ⌜ Passed (now (s .entry)) at r ⌝ }
 {
-    if 0x80 <= s[at] {
-        return width_at(s, at);
-    }
-    if 3 < s.len() - at {
-        if s[at + 3] < 0x80 {
-            return ascii_end(s, at + 1) - at;
+    if s[at] < 0x80 {
+        if 3 < s.len() - at {
+            if s[at + 3] < 0x80 {
+                return ascii_end(s, at + 1) - at;
+            }
         }
     }
-    1
+    width_at(s, at)
 }
 
 // The place of the first ill-formed sequence, if there is one.

@@ -7,10 +7,14 @@ use oracle::library;
 
 const SIZE: usize = 1 << 20;
 
-const TEXTS: [(&str, &str); 5] = [
+const TEXTS: [(&str, &str); 7] = [
     (
         "ASCII",
         "\\v 2 And the earth was without form, and void; and darkness was upon the face of the deep.\n",
+    ),
+    (
+        "French",
+        "\\v 2 La terre était informe et vide: il y avait des ténèbres à la surface de l'abîme.\n",
     ),
     (
         "Greek",
@@ -22,6 +26,7 @@ const TEXTS: [(&str, &str); 5] = [
     ),
     ("Arabic", "فِي الْبَدْءِ كَانَ الْكَلِمَةُ، "),
     ("Chinese", "太初有道，道与神同在，道就是神。"),
+    ("emoji and ASCII", "a😀b😀 😀😀é "),
 ];
 
 fn filled(piece: &str) -> Vec<u8> {

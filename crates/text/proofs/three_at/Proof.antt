@@ -1,47 +1,70 @@
--- `text::three_at` meets its contract: the bounds of the second byte pick the row.
+-- `text::three_at` meets its contract: the first two bytes decide, with a third that fits.
 -- Assumes nothing.
-use Prim.Native.Nat.{_+_}
 use borrow.Author.Needs.{needs}
 use denote.Ref.{now}
-use lib.ListN.{drop}
-use mathlib.Core.Bool.{Bool}
-use mathlib.Core.List.{[], _∷_}
-use mathlib.Core.Path.{_≡_, sym, ap, _∙_}
+use mathlib.Core.Path.{refl, sym, _∙_}
 use native.Mathlib.Omega.{arith}
-use Rattle.text.proofs.Second.{three-row}
-use Rattle.text.specs.Pick.{range, pick}
-use Rattle.text.specs.Utf8.{begins}
+use Rattle.text.proofs.Second.{three-row, three-bytes}
 use Rattle.text.proofs.three_at.Statement.{statement}
 use Rattle.text.proofs.three_at.Tie as tie
 
-shared-slice-read-b : tie.Need-shared-slice-read-b
-shared-slice-read-b c = search needs
+add-left : tie.Need-add-left
+add-left c = search needs
 
-add-three : tie.Need-add-three
-add-three c = search needs
-
-second-low-requires : tie.Need-second-low-requires
-second-low-requires c κs = search needs
-
-second-high-requires : tie.Need-second-high-requires
-second-high-requires c κs = search needs
-
-three-requires : tie.Need-three-requires
-three-requires c κs = search needs
+sub-left : tie.Need-sub-left
+sub-left c = search needs
 
 returns : tie.Need-returns
 returns c =
-    let a = c .before .before .before .before .before .args in
-    three-row (now (a .s)) (a .at) (omega arith) (omega arith) (omega arith)
-    ∙ ap (λ (t : Bool). pick t 3 0) (sym (rw (c .before .before .second-low .ensures, c .before .second-high .ensures) at (c .three .ensures)))
+    let a = c .before .before .args in
+    three-row (now (a .s)) (a .at) (omega arith) (omega arith) (omega arith) .short (omega arith)
+
+shared-slice-read-rows-of-three : tie.Need-shared-slice-read-rows-of-three
+shared-slice-read-rows-of-three c = search needs
+
+add-rows-of-three : tie.Need-add-rows-of-three
+add-rows-of-three c = search needs
+
+shared-slice-read-rows-of-three-2 : tie.Need-shared-slice-read-rows-of-three-2
+shared-slice-read-rows-of-three-2 c = search needs
+
+rows-of-three-requires : tie.Need-rows-of-three-requires
+rows-of-three-requires c κs = search needs
+
+add-holds : tie.Need-add-holds
+add-holds c = search needs
+
+shared-slice-read-holds : tie.Need-shared-slice-read-holds
+shared-slice-read-holds c = search needs
+
+holds-requires : tie.Need-holds-requires
+holds-requires c κs = search needs
+
+returns-2 : tie.Need-returns-2
+returns-2 c =
+    let a = c .before .before .before .before .before .before .before .before .args in
+    three-bytes (now (a .s)) (a .at) (omega arith) (omega arith) (omega arith) (omega arith)
+    ∙ rw (c .holds .ensures, sym (c .before .before .before .rows-of-three .ensures) ∙ c .before .before .if2 .taken) refl
+
+returns-3 : tie.Need-returns-3
+returns-3 c =
+    let a = c .before .before .before .before .before .before .args in
+    three-bytes (now (a .s)) (a .at) (omega arith) (omega arith) (omega arith) (omega arith)
+    ∙ rw (c .if2 .left, sym (c .before .rows-of-three .ensures) ∙ c .if2 .left) refl
 
 pub three-at-spec : {M : Type 1} → statement M
 three-at-spec =
     tie.close
     (tie.spec
-    shared-slice-read-b
-    add-three
-    second-low-requires
-    second-high-requires
-    three-requires
-    returns)
+    add-left
+    sub-left
+    returns
+    shared-slice-read-rows-of-three
+    add-rows-of-three
+    shared-slice-read-rows-of-three-2
+    rows-of-three-requires
+    add-holds
+    shared-slice-read-holds
+    holds-requires
+    returns-2
+    returns-3)
