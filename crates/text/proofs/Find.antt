@@ -3,6 +3,7 @@
 use mathlib.Core.Path.{_≡_, refl, sym, ap, _∙_}
 use mathlib.Core.Bool.{Bool, true, false, not, false≢true, and-false}
 use mathlib.Core.List.{List, [], _∷_, _++_, List·Memᴰ, List·Memᴰ·head, List·Memᴰ·tail}
+use mathlib.Core.Logic.{inl}
 use Prim.Native.Nat.{ℕ, zero, suc, _+_, _-_, _*_, _%_, _<_, _≤_}
 use native.Mathlib.Nat.{not-suc-le-zero, le-of-suc-le-suc, zero-add}
 use native.Mathlib.Decide.{decLt}
@@ -19,7 +20,7 @@ use Rattle.text.specs.Inner.{blankIs}
 use Rattle.text.specs.Number.{digit}
 use Rattle.text.specs.Characters.{chars, bytesBefore, find, findByte}
 use Rattle.text.proofs.Rows.{within-lo, within-hi, row-short}
-use Rattle.text.proofs.Blank.{ascii-not-blank}
+use Rattle.text.proofs.Blank.{ascii-not-blank, blank-key}
 use Rattle.text.proofs.Scan.{ascii-one}
 use Rattle.text.proofs.Decode.{decode-1, decode-width}
 use Rattle.text.proofs.Chars.{chars-nil, chars-cons, tested-by, past, stops}
@@ -132,6 +133,17 @@ module _ (s : List ℕ) (i : ℕ) (t : Bool) (some : i < length s) (byte : withi
 
   pub stops-plain : t ≡ false → i + find (blankIs t) (drop i s) ≡ i
   stops-plain y = stops-ascii (blankIs t) s i some ascii (rw (y, plain))
+
+-- a space
+module _ (s : List ℕ) (i : ℕ) (t : Bool) (some : i < length s) (byte : getD s i 0 ≡ 0x20) where
+  space : blank (getD s i 0) ≡ true
+  space = blank-key (getD s i 0) (inl byte)
+
+  pub past-space : t ≡ false → i + find (blankIs t) (drop i s) ≡ i + 1 + find (blankIs t) (drop (i + 1) s)
+  past-space y = past-ascii (blankIs t) s i some (omega arith) (rw (y, space))
+
+  pub stops-space : t ≡ true → i + find (blankIs t) (drop i s) ≡ i
+  stops-space y = stops-ascii (blankIs t) s i some (omega arith) (rw (y, space))
 
 module _ (p : ℕ → Bool) (flat : (c d : ℕ) → 0x80 ≤ c → 0x80 ≤ d → p c ≡ p d) where
   -- bytes that do not pass are passed over

@@ -372,7 +372,7 @@ fn agree(a: bool, b: bool) -> bool
 }
 
 // The place of the first character, from a place on, that is blank (t is true) or isn't (t is false), or the length. Most bytes
-// are ASCII above the space, which are no blanks and need no decoding.
+// are ASCII above the space, which are no blanks, and most blanks are spaces: neither needs decoding.
 pub fn find_from(s: &[u8], from: usize, t: bool) -> usize
     requires { ⌜ from ≤ length (now s) ⌝ }
     ensures { λ r. ⌜ Ended (now (s .entry)) from (find (blankIs t) (drop from (now (s .entry)))) r ⌝ }
@@ -381,6 +381,13 @@ pub fn find_from(s: &[u8], from: usize, t: bool) -> usize
     while i < s.len() {
         if holds(s[i], 0x21, 0x7F) {
             if !t {
+                return i;
+            }
+            i += 1;
+            continue;
+        }
+        if s[i] == b' ' {
+            if t {
                 return i;
             }
             i += 1;
