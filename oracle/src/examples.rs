@@ -7,6 +7,10 @@ use crate::samples::{self, Builder, entry, listing, read};
 /// A passage in several scripts, each check of a whole book somewhere in it.
 const GREEK: &str = "\\id JHN Κατὰ Ἰωάννην\n\\c 1\n\\p \\v 1 Ἐν ἀρχῇ ἦν ὁ λόγος, \\nd θεὸς\\nd*\n\\v 3 πάντα δι’ αὐτοῦ \\ft ἐγένετο\\ft* \\w λόγος|lemma=λόγος\\w*\n\\c 2\n\\v 01 Καὶ τῇ ἡμέρᾳ\n\\p \\v2 καὶ \\qt-s |who=\"Ἰησοῦς\"\\*τί ἐμοὶ\n";
 const ARABIC: &str = "\\id GEN سفر التكوين\n\\c 1\n\\p \\v 1 فِي ٱلْبَدْءِ \\add خلق\\add* \\v ٢ ٱللهُ\n\\v 2 وَكَانَتِ ٱلْأَرْضُ \\w خَرِبَةً|\\w* \\qt-e\\* \\va ٣\\va*\n";
+/// Greek and Arabic with each mark a character of its own.
+const COMBINING: &str = "\\id JHN Κατα\u{300} Ι\u{313}ωα\u{301}ννην\n\\c 1\n\\p \\v 1 Ε\u{313}ν α\u{313}ρχη\u{342}\u{345} η\u{313}\u{342}ν ο\u{314} λο\u{301}γος \\v 3 \\w λο\u{301}γος|\\w* \\xop α\u{313}ρχη\u{301}\\xop*\n\\v 4 ف\u{650}ي \\qt-e\\* ال\u{652}ب\u{64E}د\u{652}ء\u{650} \\va ٣\\va*\n";
+/// A byte order mark, lines that end in bytes 13 and 10, characters of four bytes.
+const CRLF: &str = "\u{FEFF}\\id gen 😀\r\n\\c 1\r\n\\p \\v 1 👩\u{200D}👧 \\v 3 𐀀𐀁 \\ft 😀\\ft* \\fig 😀|\\fig*\r\n\\v 4 \\nd cafe\u{301}|x\\nd*\r\n😀\\v5 \\qt-s\\*\r\n";
 const EACH_CODE: &str = "text \\id gen\n\\p early\n\\c 01\n\\s \\v 1 a\n\\p \\nd \\v 3 b\\nd* \\ft out\\ft*\n\\b full\n\\c\n\\c 5\n\\c 5\n\\p \\v \n\\fig |src=\"a\"\\fig* \\w \\w* \\rb word\\rb* \\w a|\\w* \\w b|x=\"\\w* \\w c|k v=\"1\"\\w* \\w d|v=\"\"\\w* \\w e|v=w\\w* \\nd f|g\\nd*\n\\tr \\tc2 h\n\\p \\cp 3\\cp* \\qt-s\\* \\zaln-e\\*\n\\id XYZ\n";
 
 /// The document of document 01's listing with another node at a place.
@@ -102,6 +106,8 @@ pub fn examples() -> Vec<(&'static str, Document)> {
         ("listing", listing()),
         ("greek", read(GREEK)),
         ("arabic", read(ARABIC)),
+        ("combining", read(COMBINING)),
+        ("crlf", read(CRLF)),
         ("each-code", read(EACH_CODE)),
         ("many", many()),
         ("long-message", long_message()),

@@ -3,6 +3,7 @@
 
 mod attributes;
 mod damage;
+mod framed;
 mod items;
 mod labels;
 mod layout;
@@ -13,6 +14,7 @@ mod words;
 use crate::document::{Document, Node, kind};
 use crate::rng::Rng;
 
+pub use framed::partly_framed;
 pub use tables::STANDARD;
 
 /// The document of this seed, the same on every machine.

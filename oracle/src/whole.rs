@@ -23,7 +23,7 @@ use crate::rng::Rng;
 use crate::texts::{Reader, requests};
 
 pub use counts::Counts;
-use findings::{same_counts, same_findings, same_nodes, severities, words_of};
+use findings::{same_counts, same_findings, same_nodes, same_positions, severities, words_of};
 use marks::same_mark;
 use slots::Slots;
 pub use workers::{Source, all_threads, compare_seeds, expect_all_reached, failure_message};
@@ -164,6 +164,7 @@ impl Comparison {
             agree("a text", finding.message(), text)?;
         }
         same_nodes(document, &list)?;
+        same_positions(&report, &document.source)?;
         let verses = verses_visited(document);
         same_counts(&report, &list, verses)?;
         same_mark(&report, &list, verses)?;

@@ -4,6 +4,7 @@ use std::fmt;
 use std::ops::Range;
 
 use crate::code::{Code, Severity};
+use crate::position::Position;
 use crate::raw::FINDING_WORDS;
 
 /// The words of a finding, read.
@@ -61,6 +62,17 @@ impl<'a> Finding<'a> {
     pub fn span(&self) -> Range<usize> {
         let Record { start, len, .. } = *self.record;
         start..start.saturating_add(len)
+    }
+
+    /// The line and the column, in characters and in bytes, at which it begins in the source that was checked, lent as text or as
+    /// bytes; a finding about the whole document stands at line 1, column 1.
+    ///
+    /// A call reads the source up to the finding. [`Report::positions`](crate::Report::positions) reads it once for all findings.
+    ///
+    /// In another source than the checked one the finding may begin past the end: its position is then that of the end. Where it
+    /// would begin inside a character, this character is counted too.
+    pub fn position(&self, source: impl AsRef<[u8]>) -> Position {
+        Position::at(source.as_ref(), self.record.start)
     }
 
     /// The node whose span it has, as a place on the tape; 0, the root, where it is about the whole document.

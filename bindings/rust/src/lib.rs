@@ -33,6 +33,7 @@
 //!     assert_eq!(finding.severity(), Severity::Warning);
 //!     assert_eq!(finding.code(), Code::InvalidVerseSequence);
 //!     assert_eq!(&source[finding.span()], "\\v 2 ");
+//!     assert_eq!(finding.position(source).to_string(), "4:1");
 //!     assert_eq!(finding.message(), "expected verse 1 but found 2");
 //! }
 //! assert_eq!(report.mark()?.to_string(), "92.50");
@@ -72,6 +73,7 @@ mod document;
 mod finding;
 mod mark;
 mod node;
+mod position;
 #[allow(unsafe_code)]
 pub mod raw;
 mod refusal;
@@ -84,6 +86,7 @@ pub use document::{Table, Tape};
 pub use finding::Finding;
 pub use mark::{Mark, mark};
 pub use node::{MarkerId, Node, NodeKind};
+pub use position::Position;
 pub use refusal::Refusal;
 pub use report::{Findings, Report};
 

@@ -6,6 +6,7 @@ use std::ops::Range;
 use crate::code::Code;
 use crate::finding::{Finding, Record};
 use crate::mark::{Mark, mark};
+use crate::position::Position;
 use crate::raw::{self, FINDING_WORDS};
 use crate::refusal::Refusal;
 use crate::texts::Texts;
@@ -111,6 +112,27 @@ impl Report {
     pub fn get(&self, place: usize) -> Option<Finding<'_>> {
         let record = self.records.get(place)?;
         Some(Finding::new(record, self.texts.get(place)?))
+    }
+
+    /// The [position](Finding::position) of each finding, in the order of the findings.
+    ///
+    /// The source, lent as text or as bytes, is read once, whatever the number of findings.
+    ///
+    /// ```
+    /// # use harkoxin::{Node, NodeKind, Table, Tape};
+    /// # let table = Table::from("name=v\ncategory=verse\nrole=content\n");
+    /// # let source = "λόγος \\v 2";
+    /// # let nodes = [Node::new(NodeKind::Root, 0, 0, 0, 2), Node::new(NodeKind::Verse, 0, 11, 4, 0)];
+    /// # let report = harkoxin::check(&table, source, &Tape::from_nodes(&nodes))?;
+    /// for (finding, position) in report.findings().zip(report.positions(source)) {
+    ///     println!("{position}: {}", finding.message());
+    /// #   assert_eq!(position, finding.position(source));
+    /// }
+    /// # Ok::<(), harkoxin::Refusal>(())
+    /// ```
+    pub fn positions(&self, source: impl AsRef<[u8]>) -> Vec<Position> {
+        let starts = self.findings().map(|finding| finding.span().start);
+        Position::at_each(source.as_ref(), &starts.collect::<Vec<_>>())
     }
 
     /// How many of the findings have each code; a code's count stands at its [`index`](Code::index).

@@ -3,8 +3,10 @@ use validate::Answer;
 use validate::InputCheck;
 ghost use mathlib.Core.Path.{_≡_};
 ghost use mathlib.Core.Bool.{false};
+ghost use mathlib.Core.Option.{none};
 ghost use Prim.Native.Nat.{_≤_};
 ghost use lib.ListN.{length};
+ghost use Rattle.text.specs.Utf8.{firstIllFormed};
 ghost use Rattle.tape.specs.Forest.{Accepted};
 ghost use Rattle.table.specs.Inner.{Indexed};
 ghost use Rattle.findings.specs.Written.{wholeRecords};
@@ -40,7 +42,7 @@ fn write_findings<'a>(
     list: &[u64],
     held: usize,
 )
-    requires { ⌜ (Indexed (now table) (now index) entries) × (Accepted (now source) (now tape)) × (length (now source) ≤ 65536) × (held ≤ wholeRecords (now list)) ⌝ }
+    requires { ⌜ (Indexed (now table) (now index) entries) × (Accepted (now source) (now tape)) × (length (now source) ≤ 65536) × (held ≤ wholeRecords (now list)) × (firstIllFormed (now source) ≡ none) ⌝ }
 {
     let mut lines = places();
     let mut columns = places();

@@ -29,9 +29,11 @@ use Rattle.messages.specs.Answer.{firstNine}
 use Rattle.messages.proofs.Nine.{nine-whole}
 use Rattle.validate.proofs.Lists.{written-words}
 use Rattle.listing.specs.Lines.{Place, afterByte, placeFrom, lineAndColumn, line, nameAt, severityNames, codeNames, findingLines}
+use Rattle.listing.specs.Columns.{columnAt}
 use Rattle.listing.specs.Listing.{isTooLarge, largestFile, mostHeld, messageRoom, messageShown, listedFinding, listedEach, checkedListing, listingBy, listing}
 use Rattle.listing.specs.Pieces.{headLines, heldCount, heldFindings, wholeIn, pieceOf, nextOf, piecesOf, nextAfter, heldTexts}
 use Rattle.listing.proofs.Lines.{line-length}
+use Rattle.listing.proofs.Columns.{after-line, column-few}
 use Rattle.listing.proofs.Shown.{smaller-le}
 use Rattle.listing.proofs.Pieces.{held-length, each-length}
 
@@ -84,22 +86,16 @@ code-short : (k : ℕ) → length (nameAt codeNames k) ≤ 26
 unfolding codeNames ascii allShort
 code-short k = name-short 26 codeNames refl k
 
--- a line is at most the source's length and one, a column the source's length and two
-abbrev Low : Place → ℕ → Place → Type 0
-Low p n q = (q .line ≤ p .line + n) × (q .column ≤ p .column + n + 1)
-
-low-after : (b : ℕ) (p : Place) (n : ℕ) (q : Place) → Low (afterByte b p) n q → Low p (suc n) q
-low-after b p n q = go (eqb b 10)
-  where
-    go : (d : Bool) → Low (pick d (record { line = p .line + 1; column = 1 }) (record { line = p .line; column = p .column + 1 })) n q → Low p (suc n) q
-    go true h = let a = h .0 in let b = h .1 in (omega arith, omega arith)
-    go false h = let a = h .0 in let b = h .1 in (omega arith, omega arith)
-
-place-low : (p : Place) (s : List ℕ) (n : ℕ) → Low p (length s) (placeFrom p s n)
+-- a line is at most the source's length and one
+line-few : (p : Place) (s : List ℕ) (n : ℕ) → placeFrom p s n .line ≤ p .line + length s
 unfolding placeFrom
-place-low p s zero = (omega arith, omega arith)
-place-low p [] (suc n) = (omega arith, omega arith)
-place-low p (b ∷ s) (suc n) = low-after b p (length s) (placeFrom (afterByte b p) s n) (place-low (afterByte b p) s n)
+line-few p s zero = omega arith
+line-few p [] (suc n) = omega arith
+line-few p (b ∷ s) (suc n) = go (eqb b 10) (after-line b p) (line-few (afterByte b p) s n)
+  where
+    go : (d : Bool) → afterByte b p .line ≡ pick d (p .line + 1) (p .line) → placeFrom (afterByte b p) s n .line ≤ afterByte b p .line + length s → placeFrom (afterByte b p) s n .line ≤ p .line + suc (length s)
+    go true e h = omega arith
+    go false e h = omega arith
 
 shown-short : (room : ℕ) (o : Option (List ℕ)) → length (messageShown room o) ≤ room
 shown-short room none = omega arith
@@ -114,22 +110,20 @@ module _ (room : ℕ) (table s t : List ℕ) (short : length s ≤ 1048576) wher
   pub listed-short : (f : Finding) → length (listedFinding room table s t f) ≤ room + 512
   unfolding listedFinding findingLines ascii
   listed-short f =
-      let p = lineAndColumn s (f .start) in
-      let low = place-low (record { line = 1; column = 1 }) s (f .start) in
+      let at = lineAndColumn s (f .start) .line in
+      let column = columnAt s (f .start) in
       let a = line-length "severity" (nameAt severityNames (f .severity)) in
       let b = line-length "code" (nameAt codeNames (f .code)) in
-      let c = line-length "line" (decimal (p .line)) in
-      let d = line-length "column" (decimal (p .column)) in
+      let c = line-length "line" (decimal at) in
+      let d = line-length "column" (decimal column) in
       let shown = messageShown room (messageText table s t (requestOf f)) in
       let e = line-length "message" shown in
-      let i = low .0 in
-      let j = low .1 in
-      let digits = decimal-length (p .line) (omega arith) in
-      let digits′ = decimal-length (p .column) (omega arith) in
-      let one = length-append (line "column" (decimal (p .column))) (line "message" shown) in
-      let two = length-append (line "line" (decimal (p .line))) (line "column" (decimal (p .column)) ++ line "message" shown) in
-      let three = length-append (line "code" (nameAt codeNames (f .code))) (line "line" (decimal (p .line)) ++ (line "column" (decimal (p .column)) ++ line "message" shown)) in
-      let four = length-append (line "severity" (nameAt severityNames (f .severity))) (line "code" (nameAt codeNames (f .code)) ++ (line "line" (decimal (p .line)) ++ (line "column" (decimal (p .column)) ++ line "message" shown))) in
+      let digits = decimal-length at (omega (arith, line-few (record { line = 1; column = 1 }) s (f .start))) in
+      let digits′ = decimal-length column (omega (arith, column-few s (f .start))) in
+      let one = length-append (line "column" (decimal column)) (line "message" shown) in
+      let two = length-append (line "line" (decimal at)) (line "column" (decimal column) ++ line "message" shown) in
+      let three = length-append (line "code" (nameAt codeNames (f .code))) (line "line" (decimal at) ++ (line "column" (decimal column) ++ line "message" shown)) in
+      let four = length-append (line "severity" (nameAt severityNames (f .severity))) (line "code" (nameAt codeNames (f .code)) ++ (line "line" (decimal at) ++ (line "column" (decimal column) ++ line "message" shown))) in
       omega (arith, severity-short (f .severity), code-short (f .code), shown-short room (messageText table s t (requestOf f)))
 
   each-goes-on : (k : ℕ) (fs : List Finding) (out : ℕ) → k < length fs → room + 512 ≤ out → 1 ≤ wholeIn out (drop k (listedEach room table s t fs))

@@ -1,5 +1,6 @@
 pub mod Words
 pub mod Lines
+pub mod Columns
 pub mod Places
 pub mod Shown
 pub mod Pieces

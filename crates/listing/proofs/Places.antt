@@ -6,22 +6,25 @@ use native.Mathlib.Nat.{add-zero, zero-add}
 use native.Mathlib.Numerals.{add-one}
 use mathlib.Core.Path.{_≡_, refl, sym, ap, _∙_}
 use mathlib.Core.List.{List, [], _∷_}
+use mathlib.Core.Option.{Option, some, none}
+use lib.Dec.{eqb}
 use lib.ListN.{length, set, getD, length-set}
 use borrow.Author.Tests.{eq-eqb, ne-eqb}
+use Rattle.text.specs.Pick.{pick}
+use Rattle.text.specs.Utf8.{firstIllFormed}
+use Rattle.refusals.specs.Refusal.{orElse, sourceNotUtf8}
+use Rattle.refusals.proofs.First.{refused, neither}
 use Rattle.buffer.specs.Over.{over}
 use Rattle.buffer.proofs.Over.{over-none, over-set, length-over}
-use Rattle.listing.specs.Lines.{Place, afterByte, placeFrom, lineAndColumn}
+use Rattle.definition.specs.Outcome.{atPlace, of1, of2, of3, ofTape, of9}
+use Rattle.messages.specs.Answer.{document, firstNine}
+use Rattle.listing.specs.Lines.{placeFrom, lineAndColumn}
+use Rattle.listing.specs.Columns.{lineStart, columnAt}
 use Rattle.listing.specs.LinesAndColumns.{eachFrom, linesFrom, columnsFrom, PlacesOf}
 use Rattle.listing.specs.Pieces.{Listable}
 use Rattle.table.specs.Inner.{Indexed}
 use Rattle.tape.specs.Forest.{Accepted}
-
--- one byte further
-place-on : (p : Place) (s : List ℕ) (i : ℕ) → i < length s → placeFrom p s (suc i) ≡ afterByte (getD s i 0) (placeFrom p s i)
-unfolding placeFrom
-place-on p [] i h = absurd (omega arith)
-place-on p (b ∷ s) zero h = refl
-place-on p (b ∷ s) (suc i) h = place-on (afterByte b p) s i (omega arith)
+use Rattle.listing.proofs.Columns.{after-line, place-on, count-nothing, column-break, column-further, column-low, column-high}
 
 -- what is left to write of the first n places gives what the whole gives
 pub record WritingEach (f : ℕ → ℕ) (n : ℕ) (l₀ l : List ℕ) (i : ℕ) : Type 0 where
@@ -52,42 +55,52 @@ module _ (f : ℕ → ℕ) (n : ℕ) (l₀ : List ℕ) where
 -- the places before one are written, and line and column are those of that place
 pub record PlacesSoFar (s l₀ m₀ l m : List ℕ) (line column i : ℕ) : Type 0 where
   pub left : i ≤ length s
-  pub is : lineAndColumn s i ≡ record { line = line; column = column }
+  pub line-is : lineAndColumn s i .line ≡ line
+  pub column-is : columnAt s i ≡ column
   pub low : line ≤ i + 1
   pub near : column ≤ i + 1
   pub lines : WritingEach (λ k. lineAndColumn s k .line) (length s + 1) l₀ l i
-  pub columns : WritingEach (λ k. lineAndColumn s k .column) (length s + 1) m₀ m i
+  pub columns : WritingEach (λ k. columnAt s k) (length s + 1) m₀ m i
 
 pub places-start : (s l m : List ℕ) → PlacesSoFar s l m l m 1 1 0
-unfolding placeFrom
-places-start s l m = record { left = omega arith; is = refl; low = omega arith; near = omega arith; lines = writing-start _ _ _; columns = writing-start _ _ _ }
+unfolding placeFrom columnAt lineStart
+places-start s l m = record { left = omega arith; line-is = refl; column-is = ap suc (count-nothing 0 _); low = omega arith; near = omega arith; lines = writing-start _ _ _; columns = writing-start _ _ _ }
 
 module _ (s l₀ m₀ l m : List ℕ) (line column i : ℕ) (y : PlacesSoFar s l₀ m₀ l m line column i) (h : length s < length l₀) (k : length s < length m₀) where
   writing-line : WritingEach (λ k. lineAndColumn s k .line) (length s + 1) l₀ (set l i line) (i + 1)
   writing-line =
       let v = y .left in
-      let e : lineAndColumn s i .line ≡ line = ap (λ (p : Place). p .line) (y .is) in
-      rw e at (writing-on _ _ _ l i (y .lines) (omega arith) (omega arith))
+      rw (y .line-is) at (writing-on _ _ _ l i (y .lines) (omega arith) (omega arith))
 
-  writing-column : WritingEach (λ k. lineAndColumn s k .column) (length s + 1) m₀ (set m i column) (i + 1)
+  writing-column : WritingEach (λ k. columnAt s k) (length s + 1) m₀ (set m i column) (i + 1)
   writing-column =
       let v = y .left in
-      let e : lineAndColumn s i .column ≡ column = ap (λ (p : Place). p .column) (y .is) in
-      rw e at (writing-on _ _ _ m i (y .columns) (omega arith) (omega arith))
+      rw (y .column-is) at (writing-on _ _ _ m i (y .columns) (omega arith) (omega arith))
 
-  next : i < length s → lineAndColumn s (i + 1) ≡ afterByte (getD s i 0) (record { line = line; column = column })
-  next g = rw (add-one i, place-on (record { line = 1; column = 1 }) s i g, y .is)
+  line-after : i < length s → lineAndColumn s (i + 1) .line ≡ pick (eqb (getD s i 0) 10) (line + 1) line
+  line-after g = rw (add-one i, place-on (record { line = 1; column = 1 }) s i g, after-line (getD s i 0) (lineAndColumn s i), y .line-is)
 
   pub places-break : i < length s → getD s i 0 ≡ 10 → PlacesSoFar s l₀ m₀ (set l i line) (set m i column) (line + 1) 1 (i + 1)
   places-break g e =
       let v = y .low in
-      record { left = omega arith; is = next g ∙ rw (eq-eqb (getD s i 0) 10 e); low = omega arith; near = omega arith; lines = writing-line; columns = writing-column }
+      record { left = omega arith; line-is = line-after g ∙ rw (eq-eqb (getD s i 0) 10 e); column-is = column-break s i e; low = omega arith; near = omega arith; lines = writing-line; columns = writing-column }
 
-  pub places-byte : i < length s → (getD s i 0 ≡ 10 → ⊥) → PlacesSoFar s l₀ m₀ (set l i line) (set m i column) line (column + 1) (i + 1)
-  places-byte g e =
-      let v = y .low in
-      let w = y .near in
-      record { left = omega arith; is = next g ∙ rw (ne-eqb (getD s i 0) 10 e); low = omega arith; near = omega arith; lines = writing-line; columns = writing-column }
+  -- behind another byte, by the column there
+  module _ (g : i < length s) (n : getD s i 0 ≡ 10 → ⊥) where
+    places-on : (next : ℕ) → columnAt s (i + 1) ≡ next → next ≤ i + 2 → PlacesSoFar s l₀ m₀ (set l i line) (set m i column) line next (i + 1)
+    places-on next e b =
+        let v = y .low in
+        record { left = omega arith; line-is = line-after g ∙ rw (ne-eqb (getD s i 0) 10 n); column-is = e; low = omega arith; near = omega arith; lines = writing-line; columns = writing-column }
+
+    module _ (f : firstIllFormed s ≡ none) where
+      pub places-further : 0x80 ≤ getD s i 0 → getD s i 0 ≤ 0xBF → PlacesSoFar s l₀ m₀ (set l i line) (set m i column) line column (i + 1)
+      places-further a b = let w = y .near in places-on column (column-further s f i g n a b ∙ y .column-is) (omega arith)
+
+      pub places-low : getD s i 0 < 0x80 → PlacesSoFar s l₀ m₀ (set l i line) (set m i column) line (column + 1) (i + 1)
+      places-low a = let w = y .near in places-on (column + 1) (column-low s f i g n a ∙ ap (_+ 1) (y .column-is)) (omega arith)
+
+      pub places-high : 0xBF < getD s i 0 → PlacesSoFar s l₀ m₀ (set l i line) (set m i column) line (column + 1) (i + 1)
+      places-high a = let w = y .near in places-on (column + 1) (column-high s f i g n a ∙ ap (_+ 1) (y .column-is)) (omega arith)
 
   module _ (g : length s ≤ i) where
     pub lines-written : set l i line ≡ over l₀ 0 (linesFrom s 0 (length s + 1))
@@ -124,8 +137,8 @@ module _ (s l : List ℕ) (i : ℕ) (h : i ≤ length s) (k : length s < length 
   pub line-at : getD (over l 0 (linesFrom s 0 (length s + 1))) i 0 ≡ lineAndColumn s i .line
   line-at = at-place (λ k. lineAndColumn s k .line) l (length s + 1) i (omega arith) (omega arith)
 
-  pub column-at : getD (over l 0 (columnsFrom s 0 (length s + 1))) i 0 ≡ lineAndColumn s i .column
-  column-at = at-place (λ k. lineAndColumn s k .column) l (length s + 1) i (omega arith) (omega arith)
+  pub column-at : getD (over l 0 (columnsFrom s 0 (length s + 1))) i 0 ≡ columnAt s i
+  column-at = at-place (λ k. columnAt s k) l (length s + 1) i (omega arith) (omega arith)
 
 pub places-of : (s l m : List ℕ) → length s < length l → length s < length m → PlacesOf s (over l 0 (linesFrom s 0 (length s + 1))) (over m 0 (columnsFrom s 0 (length s + 1)))
 places-of s l m h k =
@@ -140,3 +153,15 @@ places-of s l m h k =
 pub listable : {table index : List ℕ} {entries : ℕ} {s t : List ℕ} (l m lines columns : List ℕ) → Indexed table index entries → Accepted s t → length s ≤ 1048576 → length s < length l → length s < length m → lines ≡ over l 0 (linesFrom s 0 (length s + 1)) → columns ≡ over m 0 (columnsFrom s 0 (length s + 1)) → Listable table index entries s t lines columns
 listable {s = s} l m lines columns i a short h k e f =
     record { indexed = i; accepted = a; short = short; places = rw (e, f) (places-of s l m h k) }
+
+-- a source that numbers 1 to 9 pass is well-formed, which `lines_and_columns` requires
+pub source-well-formed : (table s t : List ℕ) → firstNine table s t ≡ none → firstIllFormed s ≡ none
+unfolding firstNine
+source-well-formed table s t e =
+    let d = document table s t in
+    let rest = orElse (ofTape d) (of9 d) in
+    go (firstIllFormed s) (neither (of3 d) rest (neither (of2 d) (orElse (of3 d) rest) (neither (of1 d) (orElse (of2 d) (orElse (of3 d) rest)) e .1) .1) .0)
+  where
+    go : (x : Option ℕ) → atPlace sourceNotUtf8 x ≡ none → x ≡ none
+    go none z = refl
+    go (some at) z = refused _ z

@@ -21,10 +21,12 @@ use Rattle.messages.specs.declared.MessageAnswer.{MessageAnswer}
 use Rattle.messages.specs.declared.MessageAnswer.the-variants as answer
 use Rattle.definition.specs.Outcome.{smaller}
 use Rattle.listing.specs.Lines.{Place, afterByte, placeFrom, lineAndColumn, findingLines}
+use Rattle.listing.specs.Columns.{columnAt}
 use Rattle.listing.specs.LinesAndColumns.{PlacesOf}
 use Rattle.listing.specs.Listing.{messageShown, listedFinding}
 use Rattle.listing.specs.Inner.{ShownIn, PutWhole, recordAt, listedOf}
 use Rattle.listing.specs.declared.Listed.{Listed}
+use Rattle.listing.proofs.Columns.{column-past}
 
 -- what `message_in` answers and writes
 module _ (o : Option (List ℕ)) (l l′ : List ℕ) (r : MessageAnswer) (e : messageAnswerOf r ≡ byRoom o (length l)) (f : l′ ≡ bytesBy none o l) where
@@ -59,7 +61,7 @@ module _ (o : Option (List ℕ)) (l l′ : List ℕ) (r : MessageAnswer) (e : me
 pub short-enough : (n m : ℕ) (text text′ : List ℕ) → n ≤ length text′ → length text′ ≡ length text → length text ≤ m → length (take n text′) ≤ m
 short-enough n m text text′ h e k = rw (length-take-le n text′ h) (omega arith)
 
--- past the end of a source, line and column are those of its end
+-- past the end of a source the line is that of its end
 place-past : (p : Place) (s : List ℕ) (i : ℕ) → length s ≤ i → placeFrom p s i ≡ placeFrom p s (length s)
 unfolding placeFrom
 place-past p [] zero h = refl
@@ -67,12 +69,13 @@ place-past p [] (suc i) h = refl
 place-past p (b ∷ s) zero h = absurd (omega arith)
 place-past p (b ∷ s) (suc i) h = place-past (afterByte b p) s i (omega arith)
 
-place-smaller : (s : List ℕ) (i : ℕ) → lineAndColumn s (smaller i (length s)) ≡ lineAndColumn s i
-place-smaller s i = go (ltb i (length s)) refl
+-- what is the same past the end as at it is the same at the smaller of a place and the end
+same-smaller : (f : ℕ → ℕ) (i n : ℕ) → (n ≤ i → f i ≡ f n) → f (smaller i n) ≡ f i
+same-smaller f i n past = go (ltb i n) refl
   where
-    go : (d : Bool) → ltb i (length s) ≡ d → lineAndColumn s (pick d i (length s)) ≡ lineAndColumn s i
+    go : (d : Bool) → ltb i n ≡ d → f (pick d i n) ≡ f i
     go true h = refl
-    go false h = sym (place-past (record { line = 1; column = 1 }) s i (ltb-false i (length s) h))
+    go false h = sym (past (ltb-false i n h))
 
 pub smaller-le : (a b : ℕ) → smaller a b ≤ b
 smaller-le a b = go (ltb a b) refl
@@ -93,10 +96,12 @@ module _ (s lines columns : List ℕ) (p : PlacesOf s lines columns) (start i : 
   place-inside = rw e (smaller-le start (length s))
 
   pub line-there : getD lines i 0 ≡ lineAndColumn s start .line
-  line-there = p .lines-are i place-inside ∙ ap (λ (q : Place). q .line) (ap (lineAndColumn s) e ∙ place-smaller s start)
+  line-there =
+      p .lines-are i place-inside
+      ∙ rw e (same-smaller (λ k. lineAndColumn s k .line) start (length s) (λ h. ap (λ (q : Place). q .line) (place-past (record { line = 1; column = 1 }) s start h)))
 
-  pub column-there : getD columns i 0 ≡ lineAndColumn s start .column
-  column-there = p .columns-are i place-inside ∙ ap (λ (q : Place). q .column) (ap (lineAndColumn s) e ∙ place-smaller s start)
+  pub column-there : getD columns i 0 ≡ columnAt s start
+  column-there = p .columns-are i place-inside ∙ rw e (same-smaller (columnAt s) start (length s) (column-past s start))
 
 pub listed-is : (s lines columns : List ℕ) → PlacesOf s lines columns → (list : List ℕ) (k i : ℕ) → i ≡ smaller (recordAt list k .start) (length s) → record { severity = recordAt list k .severity; code = recordAt list k .code; line = getD lines i 0; column = getD columns i 0 } ≡ listedOf s (recordAt list k)
 listed-is s lines columns p list k i e = rw (line-there s lines columns p (recordAt list k .start) i e, column-there s lines columns p (recordAt list k .start) i e)

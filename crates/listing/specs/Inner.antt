@@ -8,6 +8,7 @@ use Rattle.text.specs.Pick.{pick}
 use Rattle.buffer.specs.Over.{Put, over}
 use Rattle.findings.specs.Finding.{Finding}
 use Rattle.listing.specs.Lines.{lineAndColumn}
+use Rattle.listing.specs.Columns.{columnAt}
 use Rattle.listing.specs.declared.Listed.{Listed}
 
 -- the line of a key and a value, both as bytes
@@ -40,7 +41,7 @@ recordAt l k =
 
 -- what the lines of a finding show beside its message
 abbrev pub listedOf : List ℕ → Finding → Listed
-listedOf s f = record { severity = f .severity; code = f .code; line = lineAndColumn s (f .start) .line; column = lineAndColumn s (f .start) .column }
+listedOf s f = record { severity = f .severity; code = f .code; line = lineAndColumn s (f .start) .line; column = columnAt s (f .start) }
 
 -- bytes written from a place on if they have whole room there, and the place behind them
 pub record PutWhole (s l : List ℕ) (at : ℕ) (l′ : List ℕ) (r : ℕ) : Type 0 where

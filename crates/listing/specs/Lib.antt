@@ -1,4 +1,5 @@
 pub mod Lines
+pub mod Columns
 pub mod LinesAndColumns
 pub mod Listing
 pub mod Pieces

@@ -1,4 +1,4 @@
--- Document 01, "Listing": the lines of a listing. "Line and column count from 1; a line ends after byte 10; column counts bytes."
+-- Document 01, "Listing": the lines of a listing. "Line and column count from 1; a line ends after byte 10". A finding's column is that of document 02 (Columns.antt).
 use Prim.Native.Nat.{ℕ, zero, suc, _+_}
 use Prim.Native.String.{String}
 use mathlib.Core.List.{List, [], _∷_, _++_}
@@ -79,7 +79,7 @@ findingLines severity code at column message =
     line "severity" (nameAt severityNames severity)
     ++ (line "code" (nameAt codeNames code) ++ (line "line" (decimal at) ++ (line "column" (decimal column) ++ line "message" message)))
 
--- line and column of a byte's place
+-- the line of a byte's place, and its column as document 01 has it: "column counts bytes"
 pub record Place : Type 0 where
   pub line : ℕ
   pub column : ℕ

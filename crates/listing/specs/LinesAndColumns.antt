@@ -4,6 +4,7 @@ use mathlib.Core.Path.{_≡_}
 use mathlib.Core.List.{List, [], _∷_}
 use lib.ListN.{length, getD}
 use Rattle.listing.specs.Lines.{lineAndColumn}
+use Rattle.listing.specs.Columns.{columnAt}
 
 -- what the places from one on have, n of them
 unfoldable pub eachFrom : (ℕ → ℕ) → ℕ → ℕ → List ℕ
@@ -15,11 +16,11 @@ abbrev pub linesFrom : List ℕ → ℕ → ℕ → List ℕ
 linesFrom s i n = eachFrom (λ k. lineAndColumn s k .line) i n
 
 abbrev pub columnsFrom : List ℕ → ℕ → ℕ → List ℕ
-columnsFrom s i n = eachFrom (λ k. lineAndColumn s k .column) i n
+columnsFrom s i n = eachFrom (λ k. columnAt s k) i n
 
 -- the lists that `lines_and_columns` writes: line and column of every place of a source
 pub record PlacesOf (s lines columns : List ℕ) : Type 0 where
   pub lines-room : length s < length lines
   pub columns-room : length s < length columns
   pub lines-are : (i : ℕ) → i ≤ length s → getD lines i 0 ≡ lineAndColumn s i .line
-  pub columns-are : (i : ℕ) → i ≤ length s → getD columns i 0 ≡ lineAndColumn s i .column
+  pub columns-are : (i : ℕ) → i ≤ length s → getD columns i 0 ≡ columnAt s i

@@ -15,6 +15,7 @@ use Rattle.message_texts.specs.Filled.{joined}
 use Rattle.messages.specs.Message.{requestOf, messageText}
 use Rattle.messages.specs.Answer.{firstNine}
 use Rattle.listing.specs.Lines.{tooLargeLines, refusedLines, checkedLines, findingLines, lineAndColumn}
+use Rattle.listing.specs.Columns.{columnAt}
 
 -- "each at most 65,536 bytes, else it prints `verdict=toolarge`"
 abbrev pub largestFile : ℕ
@@ -35,10 +36,10 @@ abbrev pub messageShown : ℕ → Option (List ℕ) → List ℕ
 messageShown room none = []
 messageShown room (some text) = pick (ltb room (length text)) [] text
 
--- the lines of a finding, whose message has so much room; line and column are those of its start
+-- the lines of a finding, whose message has so much room; line and column are those of its start, the column in code points (document 02, K3)
 unfoldable pub listedFinding : ℕ → List ℕ → List ℕ → List ℕ → Finding → List ℕ
 listedFinding room table s t f =
-    findingLines (f .severity) (f .code) (lineAndColumn s (f .start) .line) (lineAndColumn s (f .start) .column) (messageShown room (messageText table s t (requestOf f)))
+    findingLines (f .severity) (f .code) (lineAndColumn s (f .start) .line) (columnAt s (f .start)) (messageShown room (messageText table s t (requestOf f)))
 
 -- "The last five lines repeat per finding."
 unfoldable pub listedEach : ℕ → List ℕ → List ℕ → List ℕ → List Finding → List (List ℕ)

@@ -7,7 +7,9 @@ use messages::MessageRequest;
 use validate::Answer;
 ghost use Prim.Native.Nat.{_+_, _*_, _≤_, _<_};
 ghost use mathlib.Core.Path.{_≡_};
+ghost use mathlib.Core.Option.{none};
 ghost use lib.ListN.{length, drop};
+ghost use Rattle.text.specs.Utf8.{firstIllFormed};
 ghost use Rattle.buffer.specs.Over.{Put, over};
 ghost use Rattle.buffer.specs.Decimal.{decimal};
 ghost use Rattle.table.specs.Inner.{linesOf};
@@ -150,9 +152,10 @@ pub fn put_finding(
     put_line(out, fifth, b"message", message)
 }
 
-// Line and column of every place of a source, its end among them, one pass for all of them.
+// Line and column of every place of a source, its end among them, one pass for all of them. In a well-formed source a character
+// begins at each byte outside 80 to BF, and at no other.
 pub fn lines_and_columns(source: &[u8], lines: &mut [u32], columns: &mut [u32])
-    requires { ⌜ (length (now source) ≤ 1048576) × (length (now source) < length (now lines)) × (length (now source) < length (now columns)) ⌝ }
+    requires { ⌜ (length (now source) ≤ 1048576) × (length (now source) < length (now lines)) × (length (now source) < length (now columns)) × (firstIllFormed (now source) ≡ none) ⌝ }
     ensures lines { λ _. ⌜ now (lines .exit) ≡ over (now (lines .entry)) 0 (linesFrom (now (source .entry)) 0 (length (now (source .entry)) + 1)) ⌝ }
     ensures columns { λ _. ⌜ now (columns .exit) ≡ over (now (columns .entry)) 0 (columnsFrom (now (source .entry)) 0 (length (now (source .entry)) + 1)) ⌝ }
 {
@@ -162,11 +165,13 @@ pub fn lines_and_columns(source: &[u8], lines: &mut [u32], columns: &mut [u32])
     while i < source.len() {
         lines[i] = line;
         columns[i] = column;
-        if source[i] == 10 {
-            line += 1;
-            column = 1;
-        } else {
-            column += 1;
+        match source[i] {
+            10 => {
+                line += 1;
+                column = 1;
+            }
+            0x80..=0xBF => {}
+            _ => column += 1,
         }
         i += 1;
     }

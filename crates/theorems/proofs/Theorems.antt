@@ -1,6 +1,6 @@
--- The main theorems. Each group has the sentence of document 01 that it answers; each theorem has its full type, and a proof that cites the crate which proves it. Numbers 11 to 13 are given by `tally` and `message`, whose contracts say when (docs/PROMISES.md).
+-- The main theorems. Each group has the sentence of document 01 or 02 that it answers; each theorem has its full type, and a proof that cites the crate which proves it. Numbers 11 to 13 are given by `tally` and `message`, whose contracts say when (docs/PROMISES.md).
 -- Assumes nothing.
-use Prim.Native.Nat.{ℕ, _+_, _*_, _<_, _≤_}
+use Prim.Native.Nat.{ℕ, suc, _+_, _*_, _<_, _≤_}
 use mathlib.Core.Path.{_≡_, refl, _∙_}
 use mathlib.Core.Bool.{true, false, not, _&&_, _||_}
 use mathlib.Core.List.{List, [], _∷_, _++_}
@@ -61,8 +61,11 @@ use Rattle.validate.proofs.Lists as lists
 use Rattle.messages.specs.Message.{requestOf, messageText}
 use Rattle.text.specs.Pick.{AllOf}
 use Rattle.messages.proofs.HasMessage as message
+use Rattle.listing.specs.Lines.{lineAndColumn}
+use Rattle.listing.specs.Columns.{columnAt, lineBefore, outside80BF, howMany}
 use Rattle.listing.specs.Listing.{isTooLarge, mostHeld, messageRoom, listedEach, listing}
 use Rattle.listing.specs.Pieces.{headLines, heldFindings, pieceOf, nextOf, piecesOf, nextAfter, heldTexts}
+use Rattle.listing.proofs.Columns as columns
 use Rattle.listing.proofs.Joined as pieces
 use Rattle.mark.specs.Mark.{markOf, fullMark, markRefusal, LossAndMark, marked, markAnswer}
 use Rattle.mark.specs.Conditions.{GivenMark}
@@ -74,7 +77,7 @@ use Rattle.tally.proofs.Total as totals
 use Rattle.trial_items.specs.Items as items
 use Rattle.trial_items.proofs.Settled as settled
 use Rattle.theorems.specs.Conditions.{Condition}
-use Rattle.theorems.specs.ListingExample.{tableFile, output}
+use Rattle.theorems.specs.ListingExample.{tableFile, output, greekSource, greekNodes, greekOutput}
 use Rattle.theorems.proofs.Composed as composed
 use Rattle.theorems.proofs.Printed as printed
 use Rattle.refusals.specs.Refusal.{refuse}
@@ -296,6 +299,27 @@ piece-fits texts k room = pieces.piece-fits texts k room
 -- "Whole output"
 pub listing-example : listing tableFile (examples.example1 .source) (examples.tapeOf (examples.example1 .nodes)) ≡ output
 listing-example = printed.listing-example
+
+-- ---- The column (document 02, K3)
+
+-- "Column becomes one plus the number of code points that begin at or after the line's start and before the finding's."
+-- In well-formed text it is one plus the number of bytes outside 80 to BF from the line's start to the place.
+pub column-first-bytes : (s : List ℕ) → firstIllFormed s ≡ none → (at : ℕ) → columnAt s at ≡ suc (howMany outside80BF (lineBefore s at))
+column-first-bytes s well-formed at = columns.column-first-bytes s well-formed at
+
+-- It is at most document 01's column, which counts bytes, and equal where the bytes from the line's start to the place are ASCII.
+pub column-at-most-bytes : (s : List ℕ) → firstIllFormed s ≡ none → (at : ℕ) → at ≤ length s → columnAt s at ≤ lineAndColumn s at .column
+column-at-most-bytes s well-formed at inside = columns.column-at-most-bytes s well-formed at inside
+
+pub column-ascii : (s : List ℕ) → firstIllFormed s ≡ none → (at : ℕ) → at ≤ length s → AllOf (λ (b : ℕ). b < 0x80) (lineBefore s at) → columnAt s at ≡ lineAndColumn s at .column
+column-ascii s well-formed at inside low = columns.column-ascii s well-formed at inside low
+
+-- The whole output for a document with Greek: its finding stands at column 12, which in bytes is 17.
+pub listing-greek : listing tableFile greekSource (examples.tapeOf greekNodes) ≡ greekOutput
+listing-greek = printed.listing-greek
+
+pub greek-places : (lineAndColumn greekSource 32 ≡ record { line = 4; column = 17 }) × (columnAt greekSource 32 ≡ 12) × (columnAt greekSource 16 ≡ 1) × (columnAt greekSource 23 ≡ 7) × (columnAt greekSource 44 ≡ 20)
+greek-places = printed.greek-places
 
 -- ---- The mark (document 02, K1)
 

@@ -85,6 +85,7 @@ use Rattle.messages.specs.declared.MessagesAnswer.the-variants as messages-answ
 use Rattle.tally.specs.Tally.{tallyRefusal, withCode, countsFrom, countsAfter, tallyAnswerOf}
 use Rattle.tally.specs.declared.Tallied.the-variants as tallied
 use Rattle.listing.specs.Lines.{tooLargeLines, refusedLines, checkedLines, findingLines, severityNames, codeNames, nameAt, placeFrom}
+use Rattle.listing.specs.Columns.{lineStart, beginnings, countBetween, columnAt}
 use Rattle.listing.specs.LinesAndColumns.{eachFrom, linesFrom, columnsFrom}
 use Rattle.listing.specs.Listing.{listing}
 use Rattle.listing.specs.Pieces.{headLines, heldCount, wholeIn, pieceOf, nextOf}
@@ -881,10 +882,33 @@ lines-unwritten : repeated 0 2 ≡ over (repeated 0 2) 0 (linesFrom (10 ∷ []) 
 unfolding repeated over eachFrom placeFrom
 lines-unwritten e = eqb-false 0 1 refl (ap (wordIn 0) e)
 
--- a column that goes on counting on the next line
+-- a column that is counted from the text's start, on the next line too
 column-kept : 1 ∷ 2 ∷ [] ≡ over (repeated 0 2) 0 (columnsFrom (10 ∷ []) 0 2) → ⊥
-unfolding repeated over eachFrom placeFrom
+unfolding repeated over eachFrom columnAt lineStart beginnings countBetween charsPast utf8.table3-7 utf8.begins utf8.widthBy utf8.widthOf utf8.decoded utf8.decode
 column-kept e = eqb-false 2 1 refl (ap (wordIn 1) e)
+
+-- the right columns behind `λ`, behind a character of four bytes and behind `e` with a combining accent
+columns-right : (columnsFrom (0xCE ∷ 0xBB ∷ []) 0 3 ≡ 1 ∷ 2 ∷ 2 ∷ []) × (columnsFrom (0xF0 ∷ 0x9F ∷ 0x98 ∷ 0x80 ∷ []) 4 1 ≡ 2 ∷ []) × (columnsFrom (0x65 ∷ 0xCC ∷ 0x81 ∷ []) 3 1 ≡ 3 ∷ [])
+unfolding eachFrom columnAt lineStart beginnings countBetween charsPast utf8.table3-7 utf8.begins utf8.widthBy utf8.widthOf utf8.decoded utf8.decode
+columns-right = (refl, refl, refl)
+
+-- a column that counts bytes
+column-bytes : 1 ∷ 2 ∷ 3 ∷ [] ≡ over (repeated 0 3) 0 (columnsFrom (0xCE ∷ 0xBB ∷ []) 0 3) → ⊥
+unfolding repeated over
+column-bytes e = eqb-false 3 2 refl (ap (wordIn 2) (e ∙ ap (over (repeated 0 3) 0) (columns-right .0)))
+
+-- a column that counts ASCII alone
+column-ascii-alone : 1 ∷ 1 ∷ 1 ∷ [] ≡ over (repeated 0 3) 0 (columnsFrom (0xCE ∷ 0xBB ∷ []) 0 3) → ⊥
+unfolding repeated over
+column-ascii-alone e = eqb-false 1 2 refl (ap (wordIn 2) (e ∙ ap (over (repeated 0 3) 0) (columns-right .0)))
+
+-- a column that counts two for a character of four bytes, as UTF-16 has it
+column-pairs : 3 ∷ [] ≡ columnsFrom (0xF0 ∷ 0x9F ∷ 0x98 ∷ 0x80 ∷ []) 4 1 → ⊥
+column-pairs e = eqb-false 3 2 refl (ap (wordIn 0) (e ∙ columns-right .1))
+
+-- a column that counts a letter and its combining accent as one
+column-joined : 2 ∷ [] ≡ columnsFrom (0x65 ∷ 0xCC ∷ 0x81 ∷ []) 3 1 → ⊥
+column-joined e = eqb-false 2 3 refl (ap (wordIn 0) (e ∙ columns-right .2))
 
 -- ---- mark::mark
 

@@ -8,7 +8,7 @@ use std::{env, fs};
 use oracle::arguments::numbers;
 use oracle::document::Document;
 use oracle::examples::million_errors;
-use oracle::generate::generate;
+use oracle::generate::partly_framed;
 use oracle::listing::listing;
 use oracle::marks;
 use oracle::published::{Validated, overflow_is_noticed, try_validate};
@@ -73,7 +73,7 @@ fn run() -> Result<(), String> {
     let mut lines = compare(&folder, &million_errors("\\v 1 "))?;
     let mut compared = 1u64;
     for seed in seed..seed + documents {
-        let document = generate(seed);
+        let document = partly_framed(seed);
         if is_past_32_bits(&document)? {
             continue;
         }

@@ -1,11 +1,12 @@
 //! A report's findings beside the published ones.
 
-use harkoxin::{Finding, Report};
+use harkoxin::{Finding, Position, Report};
 
 use super::{FINDING_WORDS, FIRST, NODE};
 use crate::coverage::code_name;
 use crate::differ::agree;
 use crate::document::{Document, kind};
+use crate::listing::place;
 use crate::published::{Found, form_and_numbers};
 use crate::tallies::tally;
 
@@ -105,6 +106,25 @@ pub fn same_findings(report: &Report, list: &[u64], theirs: &[Found]) -> Result<
         agree("a finding", *words, expected)?;
         agree("a text", ours.message(), found.message.as_str())?;
         agree("a code", ours.code().as_str(), code_name(found.code))?;
+    }
+    Ok(())
+}
+
+/// Lines and columns, of up to 40 findings: the plain ones read the source anew for each.
+pub fn same_positions(report: &Report, source: &[u8]) -> Result<(), String> {
+    let source = str::from_utf8(source).expect("an accepted source is UTF-8");
+    let findings = report.findings().zip(report.positions(source));
+    for (finding, position) in findings.take(40) {
+        let start = finding.span().start;
+        let (line, column) = place(source, start);
+        let line_start = source[..start].rfind('\n').map_or(0, |end| end + 1);
+        let expected = Position {
+            line,
+            column,
+            byte_column: 1 + start - line_start,
+        };
+        agree("a position among all", position, expected)?;
+        agree("a position", finding.position(source), expected)?;
     }
     Ok(())
 }

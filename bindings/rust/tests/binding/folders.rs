@@ -2,7 +2,7 @@
 
 use std::fmt::Write;
 
-use harkoxin::{Finding, Mark, Refusal, Report};
+use harkoxin::{Finding, Mark, Position, Refusal, Report};
 
 use crate::common::{Document, example_listing, example_mark, example_names};
 
@@ -10,11 +10,8 @@ const LARGEST_FILE: usize = 65_536;
 const MOST_FINDINGS: usize = 1_024;
 const LONGEST_MESSAGE: usize = 65_536;
 
-fn finding_lines(out: &mut String, source: &[u8], finding: Finding<'_>) {
-    let before = &source[..finding.span().start];
-    let line = 1 + before.iter().filter(|&&byte| byte == b'\n').count();
-    let newline = before.iter().rposition(|&byte| byte == b'\n');
-    let column = before.len() - newline.map_or(0, |at| at + 1) + 1;
+fn finding_lines(out: &mut String, finding: Finding<'_>, position: Position) {
+    let Position { line, column, .. } = position;
     let message = match finding.message() {
         text if text.len() <= LONGEST_MESSAGE => text,
         _ => "",
@@ -35,8 +32,9 @@ fn report_lines(source: &[u8], report: &Report) -> String {
         report.infos(),
         report.total()
     );
-    for finding in report.findings().take(MOST_FINDINGS) {
-        finding_lines(&mut out, source, finding);
+    let findings = report.findings().zip(report.positions(source));
+    for (finding, position) in findings.take(MOST_FINDINGS) {
+        finding_lines(&mut out, finding, position);
     }
     out
 }

@@ -7,5 +7,6 @@ mod garbage;
 mod limits;
 mod marks;
 mod nodes;
+mod positions;
 mod raw;
 mod refusals;

@@ -7,6 +7,7 @@ use Rattle.listing.specs.Listing.{largestFile}
 use Rattle.definition.specs.Outcome.{repeated, noStart}
 use Rattle.validate.specs.Entry.{answerOf, lent}
 use Rattle.messages.proofs.Nine.{passed, is-accepted}
+use Rattle.listing.proofs.Places.{source-well-formed}
 use Rattle.check_exercise.proofs.Progress.{held-few}
 use borrow.Author.Needs.{needs}
 use Rattle.check_exercise.proofs.run.Statement.{statement}
@@ -62,7 +63,7 @@ write-findings-requires c κs =
     let m = c .before .before .before .before .entries .given in
     let z = passed (now (a .table)) (now (a .source)) (now (a .tape)) (g .result) (g .ensures .0) (m .0 .0) (m .1) in
     let w = c .before .before .before .before .before .before .before .before .before .before .before .before .checked in
-    (rw (m .1) at (g .ensures .1), is-accepted (now (a .table)) (now (a .source)) (now (a .tape)) z, any-parts largestFile (length (now (a .table))) (length (now (a .source))) (length (now (a .tape))) (s .pre) .1 .0, held-few (lent (now (a .table)) (now (a .source)) (now (a .tape)) (c .before .before .before .before .before .before .before .before .before .before .before .before .before .before .before .before .chapters-seen .result) (repeated noStart 4096) (c .before .before .before .before .before .before .before .before .before .before .before .before .before .before .before .findings-list .result)) (answerOf (w .result)) (w .last .1 .1 .1 .1 .0) _ (w .ensures .0) (w .kept .1 .1 .1 .1 .0) (c .held .ensures))
+    (rw (m .1) at (g .ensures .1), is-accepted (now (a .table)) (now (a .source)) (now (a .tape)) z, any-parts largestFile (length (now (a .table))) (length (now (a .source))) (length (now (a .tape))) (s .pre) .1 .0, held-few (lent (now (a .table)) (now (a .source)) (now (a .tape)) (c .before .before .before .before .before .before .before .before .before .before .before .before .before .before .before .before .chapters-seen .result) (repeated noStart 4096) (c .before .before .before .before .before .before .before .before .before .before .before .before .before .before .before .findings-list .result)) (answerOf (w .result)) (w .last .1 .1 .1 .1 .0) _ (w .ensures .0) (w .kept .1 .1 .1 .1 .0) (c .held .ensures), source-well-formed (now (a .table)) (now (a .source)) (now (a .tape)) z)
 
 returns-2 : tie.Need-returns-2
 returns-2 c = search needs

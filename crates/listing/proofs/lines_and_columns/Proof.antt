@@ -2,9 +2,10 @@
 -- Assumes nothing.
 use borrow.Author.Needs.{needs}
 use Prim.Native.Nat.{_-_}
+use native.Mathlib.Omega.{arith}
 use mathlib.Core.Logic.{⊎-elim}
 use lib.ListN.{length, length-set}
-use Rattle.listing.proofs.Places.{PlacesSoFar, places-start, places-break, places-byte, lines-written, columns-written}
+use Rattle.listing.proofs.Places.{PlacesSoFar, places-start, places-break, places-further, places-low, places-high, lines-written, columns-written}
 use Rattle.listing.proofs.lines_and_columns.Statement.{statement}
 use Rattle.listing.proofs.lines_and_columns.Tie as tie
 
@@ -29,8 +30,8 @@ mul-columns c = search needs
 slice-write-columns : tie.Need-slice-write-columns Inv-loop μ-loop
 slice-write-columns c = search needs
 
-shared-slice-read-if1 : tie.Need-shared-slice-read-if1 Inv-loop μ-loop
-shared-slice-read-if1 c = search needs
+shared-slice-read-match : tie.Need-shared-slice-read-match Inv-loop μ-loop
+shared-slice-read-match c = search needs
 
 add-line : tie.Need-add-line Inv-loop μ-loop
 add-line c = search needs
@@ -50,9 +51,15 @@ loop-again c =
     let p = c .before .before .before .before .pre in
     let h = c .before .before .loop-test .taken in
     ⊎-elim
-    (λ w. rw (w .1, w .2) (places-break _ _ _ _ _ _ _ _ (l .inv) (p .1) (p .2) h (w .0 .taken)))
-    (λ w. rw (w .1, w .2) (places-byte _ _ _ _ _ _ _ _ (l .inv) (p .1) (p .2) h (w .0 .left)))
-    (c .if1 .came)
+    (λ w. rw (w .1, w .2) (places-break _ _ _ _ _ _ _ _ (l .inv) (p .1) (p .2) h (w .0 .keys1)))
+    (⊎-elim
+    (λ w. rw (w .3, w .4) (places-further _ _ _ _ _ _ _ _ (l .inv) (p .1) (p .2) h (w .0 .rest .1) (p .3) (omega (arith, w .1 .left)) (omega (arith, w .2 .taken))))
+    (λ w. rw (w .2, w .3)
+    (⊎-elim
+    (λ x. places-low _ _ _ _ _ _ _ _ (l .inv) (p .1) (p .2) h (w .0 .rest .1) (p .3) (omega (arith, x .taken)))
+    (λ x. places-high _ _ _ _ _ _ _ _ (l .inv) (p .1) (p .2) h (w .0 .rest .1) (p .3) (omega (arith, x .1 .left)))
+    (w .1 .came))))
+    (c .match .came)
 
 mul-lines-2 : tie.Need-mul-lines-2 Inv-loop μ-loop
 mul-lines-2 c = search needs
@@ -90,7 +97,7 @@ lines-and-columns-spec =
     slice-write-lines
     mul-columns
     slice-write-columns
-    shared-slice-read-if1
+    shared-slice-read-match
     add-line
     add-column
     add-i
