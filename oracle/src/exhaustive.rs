@@ -2,7 +2,9 @@
 
 mod pairs;
 
-pub use pairs::{every_pair_of_bases, every_pair_of_labels, every_pair_of_spans};
+pub use pairs::{
+    every_pair_of_bases, every_pair_of_labels, every_pair_of_spans, every_row_of_milestones,
+};
 
 use crate::document::{Document, Node, kind, table_text};
 use crate::samples::{Builder, entry, node};

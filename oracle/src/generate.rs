@@ -8,6 +8,7 @@ mod items;
 mod labels;
 mod layout;
 mod names;
+mod quoted;
 mod tables;
 mod words;
 
@@ -15,6 +16,7 @@ use crate::document::{Document, Node, kind};
 use crate::rng::Rng;
 
 pub use framed::partly_framed;
+pub use quoted::quoted;
 pub use tables::STANDARD;
 
 /// The document of this seed, the same on every machine.

@@ -9,6 +9,7 @@ mod stubs;
 #[doc(hidden)]
 pub use stubs::{Document, Version};
 
+pub mod account;
 pub mod arguments;
 pub mod books;
 pub mod coverage;

@@ -1,6 +1,7 @@
 //! The whole check, its texts, its tally and its mark beside what the documents and the published code give: answers, findings,
-//! texts, and every element of every lent list with the bytes around it.
+//! texts, the quotation account, and every element of every lent list with the bytes around it.
 
+mod accounts;
 mod counts;
 mod findings;
 mod limits;
@@ -22,6 +23,7 @@ use crate::refusals::{refusal, verses_visited, working_list_refusal};
 use crate::rng::Rng;
 use crate::texts::{Reader, requests};
 
+use accounts::same_account;
 pub use counts::Counts;
 use findings::{same_counts, same_findings, same_nodes, same_positions, severities, words_of};
 use marks::same_mark;
@@ -168,6 +170,7 @@ impl Comparison {
         let verses = verses_visited(document);
         same_counts(&report, &list, verses)?;
         same_mark(&report, &list, verses)?;
+        self.counts.paired.add(&same_account(document, &list)?);
         self.counts.accepted(document.node_count(), &list);
         Ok(Expected {
             document,

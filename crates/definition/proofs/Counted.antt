@@ -24,8 +24,8 @@ use Rattle.attributes.specs.Attributes.{go}
 use Rattle.definition.proofs.EachFinding.{EachFinding, codesOf, isGiven, among-all, each-finding}
 use Rattle.definition.specs.State.{WalkState, initial, outside, WalkContext, Anchor, past}
 use Rattle.definition.specs.Checks.{entryOf, afterChapter, afterVerse, leafChecked, afterId}
-use Rattle.definition.specs.Milestones.{afterMilestone}
-use Rattle.definition.specs.Walk.{leafAnchor, openChecked, inside, afterNode, thenWalk, byEntry, walk}
+use Rattle.definition.specs.Milestones.{afterMilestoneBy}
+use Rattle.definition.specs.Walk.{leafAnchor, openCheckedBy, openChecked, inside, afterNode, thenWalk, byEntry, walkBy, walk}
 use Rattle.definition.specs.Document.{findings}
 use Rattle.definition.specs.Outcome.{Lent, refusal, addIf, ofSeverity, smaller, listOf, checkedOf, writtenOf}
 use Rattle.definition.proofs.Demand3.{checked-accepted}
@@ -79,11 +79,11 @@ leaf-verses table o st x = go (eqb (x .kind) chapterKind) (eqb (x .kind) verseKi
     go false false = omega arith
 
 open-verses : (table : List ℕ) (o : WalkContext) (a : Option Anchor) (st : WalkState) (e : Entry) (x : Node) (c f : Forest) → openChecked table o a st e x c f .state .verses ≡ st .verses
-unfolding openChecked afterMilestone afterId
+unfolding openCheckedBy afterMilestoneBy afterId
 open-verses table o a st e x c f = refl
 
 walk-verses : (table : List ℕ) (o : WalkContext) (a : Option Anchor) (f : Forest) (st : WalkState) → walk table o a f st .state .verses ≤ st .verses + nodesIn f
-unfolding walk nodesIn
+unfolding walkBy nodesIn
 walk-verses table o a end st = omega arith
 walk-verses table o a (leaf x r) st =
     let h = leaf-verses table o st x in

@@ -18,6 +18,7 @@ use Rattle.refusals.proofs.First.{neither}
 use Rattle.tape.proofs.OneNumber.{accepted}
 use Rattle.tape.proofs.Begins.{top-longer, rest-nested}
 use Rattle.table.specs.Entries.{Entry}
+use Rattle.definition.specs.State.{Milestone, milestoneOf, nodeOf}
 use Rattle.definition.specs.Checks.{entryOf}
 use Rattle.definition.specs.Milestones.{isMilestone, visitOf, visits, marks, takenFrom}
 use Rattle.definition.specs.Document.{running, unclosedOf, those, Beginning}
@@ -25,11 +26,11 @@ use Rattle.definition.specs.Outcome.{Lent, of1, of2, of3, ofTape, of9, o
 use Rattle.definition.proofs.Longer.{running-longer, Rising, none-left, rises, rising-le, unclosed-longer}
 use Rattle.text.specs.Pick.{pick}
 
-rising-from : {a b : ℕ} {xs : List Node} (c : ℕ) → c ≤ a → Rising a b xs → Rising c b xs
+rising-from : {a b : ℕ} {xs : List Milestone} (c : ℕ) → c ≤ a → Rising a b xs → Rising c b xs
 rising-from {a} {b} c l (none-left h) = let k : c ≤ b = omega arith in none-left k
-rising-from c l (rises x h r) = let k : c ≤ x .number = omega arith in rises x k r
+rising-from c l (rises x h r) = let k : c ≤ nodeOf x .number = omega arith in rises x k r
 
-rising-join : {a m b : ℕ} {xs ys : List Node} → Rising a m xs → Rising m b ys → Rising a b (xs ++ ys)
+rising-join : {a m b : ℕ} {xs ys : List Milestone} → Rising a m xs → Rising m b ys → Rising a b (xs ++ ys)
 rising-join {a} (none-left h) q = rising-from a h q
 rising-join (rises x h r) q = rises x h (rising-join r q)
 
@@ -45,11 +46,14 @@ visits-rise table s t {a} {b} (inner {d} h z c r) =
     x : Node
     x = nodeAt s t a
 
-    own : (v : Bool) → Rising a (a + 1) (pick v (x ∷ []) [])
-    own true = rises x (le-refl a) (let k : suc a ≤ a + 1 = omega arith in none-left k)
+    m : Milestone
+    m = milestoneOf x (forest s t (a + 1) (linkAt t a))
+
+    own : (v : Bool) → Rising a (a + 1) (pick v (m ∷ []) [])
+    own true = rises m (le-refl a) (let k : suc a ≤ a + 1 = omega arith in none-left k)
     own false = let k : a ≤ a + 1 = omega arith in none-left k
 
-    go : (q : Option Entry) → a ≤ linkAt t a + 1 → Rising (a + 1) (linkAt t a) (visits table (forest s t (a + 1) (linkAt t a))) → Rising (linkAt t a + 1) b (visits table (forest s t (linkAt t a + 1) b)) → Rising a b (visitOf q x (visits table (forest s t (a + 1) (linkAt t a))) (visits table (forest s t (linkAt t a + 1) b)))
+    go : (q : Option Entry) → a ≤ linkAt t a + 1 → Rising (a + 1) (linkAt t a) (visits table (forest s t (a + 1) (linkAt t a))) → Rising (linkAt t a + 1) b (visits table (forest s t (linkAt t a + 1) b)) → Rising a b (visitOf q m (visits table (forest s t (a + 1) (linkAt t a))) (visits table (forest s t (linkAt t a + 1) b)))
     go none l p q = rising-from a l q
     go (some e) l p q = rising-join (rising-join (own (isMilestone e x)) p) (rising-from (linkAt t a) (omega arith) q)
 

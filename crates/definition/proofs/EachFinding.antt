@@ -24,10 +24,10 @@ use Rattle.attachment.specs.Attached.{among}
 use Rattle.attributes.specs.Attributes.{attributeKinds, findingsAt, attributeFindings, attributesFindings}
 use Rattle.rows.specs.Cells.{ColumnRange}
 use Rattle.rows.specs.Row.{cellIn, outOfOrder, byColumns, rowFrom, rowFindings}
-use Rattle.definition.specs.State.{WalkState, WalkContext, Anchor, past, initial, outside}
+use Rattle.definition.specs.State.{Milestone, milestoneOf, nodeOf, WalkState, WalkContext, Anchor, past, initial, outside}
 use Rattle.definition.specs.Checks.{error, warning, Check, when, given, entryOf, chapterChecks, verseChecks, leafChecked, bookCode, idName, trName, idChecks, afterId, placeChecks, contentChecks}
 use Rattle.definition.specs.Milestones.{milestoneChecks}
-use Rattle.definition.specs.Walk.{leafAnchor, openChecked, inside, afterNode, thenWalk, byEntry, walk}
+use Rattle.definition.specs.Walk.{leafAnchor, openCheckedBy, openChecked, inside, afterNode, thenWalk, byEntry, walkBy, walk}
 use Rattle.definition.specs.Document.{textBefore, ofDocument, unclosed, closing, walked, running, findings}
 
 -- the codes of the errors, the warnings and the infos, but for MilestoneMismatch
@@ -77,6 +77,24 @@ among-all p n (x ∷ xs) h k = test (eqb x n) refl k (λ l. among-all p n xs (an
     test true e l later = rw (eqb-true x n e) at (and-left (p x) (all p xs) h)
     test false e l later = later l
 
+-- MilestoneMismatch is none of them
+pub given-other : (severity code form : ℕ) → isGiven severity code ≡ true → eqb code codes.milestoneMismatch ≡ false
+unfolding codesOf all
+given-other severity code form h = test (eqb code codes.milestoneMismatch) (other severity h)
+  where
+    isOther : ℕ → Bool
+    isOther c = not (eqb c codes.milestoneMismatch)
+
+    other : (n : ℕ) → isGiven n code ≡ true → isOther code ≡ true
+    other zero k = among-all isOther code (codesOf 0) refl k
+    other (suc zero) k = among-all isOther code (codesOf 1) refl k
+    other (suc (suc zero)) k = among-all isOther code (codesOf 2) refl k
+    other (suc (suc (suc n))) k = among-all isOther code [] refl k
+
+    test : (b : Bool) → not b ≡ true → b ≡ false
+    test true e = absurd (false≢true e)
+    test false e = refl
+
 -- P holds of the severity, the code and the form of every finding; likewise of every kind, and of the finding of every check
 abbrev pub EachFinding : (ℕ → ℕ → ℕ → Type 0) → List Finding → Type 0
 EachFinding P fs = AllOf (λ (f : Finding). P (f .severity) (f .code) (f .form)) fs
@@ -86,6 +104,13 @@ EachKind P ks = AllOf (λ (k : Kind). P (k .severity) (k .code) (k .form)) ks
 
 abbrev EachCheck : (ℕ → ℕ → ℕ → Type 0) → List Check → Type 0
 EachCheck P cs = AllOf (λ (c : Check). P (c .finding .severity) (c .finding .code) (c .finding .form)) cs
+
+-- the findings of a marker before its milestone's
+abbrev pub ownFindings : List ℕ → Entry → WalkContext → Option Anchor → WalkState → WalkState → Node → Forest → Forest → List Finding
+ownFindings name e o a st st₁ x c f =
+    given (idChecks (equal name idName) st (bookCode c) x ++ placeChecks name e o a st₁ x c f ++ contentChecks name x c)
+    ++ pick (equal name trName) (rowFindings c) []
+    ++ attributesFindings (x .number) (nameOf (x .text)) c
 
 module _ (P : ℕ → ℕ → ℕ → Type 0) where
   each-append : (fs gs : List Finding) → EachFinding P fs → EachFinding P gs → EachFinding P (fs ++ gs)
@@ -145,7 +170,7 @@ module _ (P : ℕ → ℕ → ℕ → Type 0) where
         (each-attributes owner marker r)
     each-attributes owner marker (node x c r) = each-attributes owner marker r
 
-    each-leaf : (table : List ℕ) (o : WalkContext) (st : WalkState) (x : Node) → EachFinding P (leafChecked table o st x .findings)
+    pub each-leaf : (table : List ℕ) (o : WalkContext) (st : WalkState) (x : Node) → EachFinding P (leafChecked table o st x .findings)
     unfolding leafChecked codesOf among
     each-leaf table o st x = each-given _ (test (eqb (x .kind) chapterKind) (eqb (x .kind) verseKind))
       where
@@ -160,29 +185,35 @@ module _ (P : ℕ → ℕ → ℕ → Type 0) where
     each-check named name code e o a st st₁ x c f =
         (h 0 _ _ refl, (h 1 _ _ refl, (h 0 _ _ refl, (h 0 _ _ refl, (h 0 _ _ refl, (h 1 _ _ refl, (h 0 _ _ refl, (h 0 _ _ refl, (h 0 _ _ refl, tt)))))))))
 
-    each-text : (f : Forest) → EachFinding P (textBefore f)
+    pub each-text : (f : Forest) → EachFinding P (textBefore f)
     unfolding textBefore codesOf among
     each-text end = tt
     each-text (leaf x r) = each-only (eqb (x .kind) textKind && not (blankText (x .text))) (warning x codes.textBeforeId 0) (h 1 _ _ refl)
     each-text (node x c r) = tt
 
+    -- MissingIdMarker, MissingChapterMarker
+    pub each-missing : (b v : Bool) → EachFinding P (given (when b (ofDocument codes.missingIdMarker) ∷ when v (ofDocument codes.missingChapterMarker) ∷ []))
+    unfolding codesOf among
+    each-missing b v = each-given (when b (ofDocument codes.missingIdMarker) ∷ when v (ofDocument codes.missingChapterMarker) ∷ []) (h 0 _ _ refl, (h 0 _ _ refl, tt))
+
+    pub each-own : (name : List ℕ) (e : Entry) (o : WalkContext) (a : Option Anchor) (st st₁ : WalkState) (x : Node) (c f : Forest) → EachFinding P (ownFindings name e o a st st₁ x c f)
+    each-own name e o a st st₁ x c f =
+        let checks = idChecks (equal name idName) st (bookCode c) x ++ placeChecks name e o a st₁ x c f ++ contentChecks name x c in
+        let row = pick (equal name trName) (rowFindings c) [] in
+        each-append (given checks ++ row) (attributesFindings (x .number) (nameOf (x .text)) c)
+        (each-append (given checks) row (each-given checks (each-check (equal name idName) name (bookCode c) e o a st st₁ x c f)) (each-pick (equal name trName) (rowFindings c) (each-row 1 c)))
+        (each-attributes (x .number) (nameOf (x .text)) c)
+
     module _ (alone : P errorSeverity codes.milestoneMismatch codes.endAlone) where
       each-open : (table : List ℕ) (o : WalkContext) (a : Option Anchor) (st : WalkState) (e : Entry) (x : Node) (c f : Forest) → EachFinding P (openChecked table o a st e x c f .findings)
-      unfolding openChecked
+      unfolding openCheckedBy
       each-open table o a st e x c f =
           let name = cut (e .name) table in
           let st₁ = afterId (equal name idName) st c in
-          let checks = idChecks (equal name idName) st (bookCode c) x ++ placeChecks name e o a st₁ x c f ++ contentChecks name x c in
-          let row = pick (equal name trName) (rowFindings c) [] in
-          let attributes = attributesFindings (x .number) (nameOf (x .text)) c in
-          each-append (given checks ++ row ++ attributes) (given (milestoneChecks e st₁ x))
-          (each-append (given checks ++ row) attributes
-          (each-append (given checks) row (each-given checks (each-check (equal name idName) name (bookCode c) e o a st st₁ x c f)) (each-pick (equal name trName) (rowFindings c) (each-row 1 c)))
-          (each-attributes (x .number) (nameOf (x .text)) c))
-          (each-given (milestoneChecks e st₁ x) (alone, tt))
+          each-append (ownFindings name e o a st st₁ x c f) (given (milestoneChecks e st₁ (milestoneOf x c))) (each-own name e o a st st₁ x c f) (each-given (milestoneChecks e st₁ (milestoneOf x c)) (alone, tt))
 
       pub each-walk : (table : List ℕ) (o : WalkContext) (a : Option Anchor) (f : Forest) (st : WalkState) → EachFinding P (walk table o a f st .findings)
-      unfolding walk
+      unfolding walkBy
       each-walk table o a end st = tt
       each-walk table o a (leaf x r) st =
           each-append (leafChecked table o st x .findings) (walk table o (leafAnchor a x) r (leafChecked table o st x .state) .findings) (each-leaf table o st x) (each-walk table o (leafAnchor a x) r (leafChecked table o st x .state))
@@ -199,16 +230,11 @@ module _ (P : ℕ → ℕ → ℕ → Type 0) where
       pub each-running : (table : List ℕ) (f : Forest) → EachFinding P (running table f)
       each-running table f = each-append (textBefore f) (walked table f .findings) (each-text f) (each-walk table outside none f initial)
 
-      -- MissingIdMarker, MissingChapterMarker
-      pub each-missing : (b v : Bool) → EachFinding P (given (when b (ofDocument codes.missingIdMarker) ∷ when v (ofDocument codes.missingChapterMarker) ∷ []))
-      unfolding codesOf among
-      each-missing b v = each-given (when b (ofDocument codes.missingIdMarker) ∷ when v (ofDocument codes.missingChapterMarker) ∷ []) (h 0 _ _ refl, (h 0 _ _ refl, tt))
-
       module _ (start : P errorSeverity codes.milestoneMismatch codes.unclosedStart) where
-        each-unclosed : (xs : List Node) → EachFinding P (unclosed xs)
+        each-unclosed : (xs : List Milestone) → EachFinding P (unclosed xs)
         unfolding unclosed
         each-unclosed [] = tt
-        each-unclosed (x ∷ xs) = each-append (unclosed xs) (error x codes.milestoneMismatch codes.unclosedStart ∷ []) (each-unclosed xs) (start, tt)
+        each-unclosed (x ∷ xs) = each-append (unclosed xs) (error (nodeOf x) codes.milestoneMismatch codes.unclosedStart ∷ []) (each-unclosed xs) (start, tt)
 
         each-closing : (st : WalkState) → EachFinding P (closing st)
         unfolding closing

@@ -22,10 +22,10 @@ use Rattle.attributes.specs.Attributes.{attributesFindings}
 use Rattle.attributes.proofs.Few.{attributes-few}
 use Rattle.rows.specs.Row.{rowFindings}
 use Rattle.rows.proofs.Few.{only-few, row-few}
-use Rattle.definition.specs.State.{WalkState, initial, outside, WalkContext, Anchor, past, NodeChecked}
+use Rattle.definition.specs.State.{milestoneOf, WalkState, initial, outside, WalkContext, Anchor, past, NodeChecked}
 use Rattle.definition.specs.Checks.{warning, Check, when, given, entryOf, chapterChecks, verseChecks, leafChecked, bookCode, idName, trName, idChecks, afterId, placeChecks, contentChecks}
 use Rattle.definition.specs.Milestones.{milestoneChecks}
-use Rattle.definition.specs.Walk.{Walked, leafAnchor, openChecked, inside, afterNode, thenWalk, byEntry, walk}
+use Rattle.definition.specs.Walk.{Walked, leafAnchor, openCheckedBy, openChecked, inside, afterNode, thenWalk, byEntry, walkBy, walk}
 use Rattle.definition.specs.Document.{textBefore, ofDocument, unclosed, closing, walked, running, findings}
 use Rattle.findings.specs.Codes.{textBeforeId, missingIdMarker, missingChapterMarker}
 use Rattle.text.specs.Bytes.{equal}
@@ -53,22 +53,22 @@ pick-few true fs n h = h
 pick-few false fs n h = omega arith
 
 open-few : (table : List ℕ) (o : WalkContext) (a : Option Anchor) (st : WalkState) (e : Entry) (x : Node) (c f : Forest) → length (openChecked table o a st e x c f .findings) ≤ 10 + 2 * breadth c
-unfolding openChecked
+unfolding openCheckedBy
 open-few table o a st e x c f =
     let name = cut (e .name) table in
     let st₁ = afterId (equal name idName) st c in
     let checks = given (idChecks (equal name idName) st (bookCode c) x ++ placeChecks name e o a st₁ x c f ++ contentChecks name x c) in
     let row = pick (equal name trName) (rowFindings c) [] in
     let attributes = attributesFindings (x .number) (nameOf (x .text)) c in
-    let last = given (milestoneChecks e st₁ x) in
+    let last = given (milestoneChecks e st₁ (milestoneOf x c)) in
     let p = given-few (idChecks (equal name idName) st (bookCode c) x ++ placeChecks name e o a st₁ x c f ++ contentChecks name x c) in
     let q = pick-few (equal name trName) (rowFindings c) (breadth c) (row-few 1 c) in
     let r = attributes-few (x .number) (nameOf (x .text)) c in
-    let m = given-few (milestoneChecks e st₁ x) in
+    let m = given-few (milestoneChecks e st₁ (milestoneOf x c)) in
     omega (arith, length-append (checks ++ row ++ attributes) last, length-append (checks ++ row) attributes, length-append checks row)
 
 pub walk-few : (table : List ℕ) (o : WalkContext) (a : Option Anchor) (f : Forest) (st : WalkState) → length (walk table o a f st .findings) + 2 * breadth f ≤ 16 * weight f
-unfolding walk breadth weight
+unfolding walkBy breadth weight
 walk-few table o a end st = le-refl 0
 walk-few table o a (leaf x r) st =
     let t = leafChecked table o st x in

@@ -1,4 +1,5 @@
 pub mod EachFinding
+pub mod Those
 pub mod Then
 pub mod Untaken
 pub mod Longer
@@ -7,7 +8,9 @@ pub mod Counted
 pub mod Worked
 pub mod Few
 pub mod Givens
+pub mod Mismatches
 pub mod Unclosed
+pub mod Paired
 pub mod Pair
 pub mod WellFormed
 pub mod Filled

@@ -15,7 +15,7 @@ use Rattle.findings.specs.Finding.{Finding}
 use Rattle.attachment.specs.Attached.{isAlternate, isPublished, claims, isBlank, plain, nodesIf, runOf, startOffsets, among, isAttached}
 use Rattle.definition.specs.State.{WalkState, WalkContext, Anchor, past, NodeChecked}
 use Rattle.definition.specs.Checks.{entryOf, leafChecked, attachedTo}
-use Rattle.definition.specs.Walk.{Walked, leafAnchor, openChecked, inside, withFindings, afterNode, thenWalk, byEntry, walk}
+use Rattle.definition.specs.Walk.{Walked, leafAnchor, openCheckedBy, openChecked, inside, withFindings, afterNode, thenWalk, byEntry, walkBy, walk}
 
 -- the run of attached numbers passes a number itself before it comes to anything that stands after it
 settled-run : (kind at : ℕ) (alt pubn : Bool) (p : Forest) (x : Node) (c r : Forest) → x .start ≡ at → among at (startOffsets (runOf kind alt pubn (followed p (node x c r)))) ≡ among at (startOffsets (runOf kind alt pubn (followed p (node x c end))))
@@ -44,7 +44,7 @@ settled (some a) x c r = settled-run (a .kind) (x .start) false false (a .passed
 
 -- what is said of a marker does not depend on what stands after it
 pub open-settled : (table : List ℕ) (o : WalkContext) (a : Option Anchor) (st : WalkState) (e : Entry) (x : Node) (c r g : Forest) → openChecked table o a st e x c (node x c (followed r g)) ≡ openChecked table o a st e x c (node x c r)
-unfolding openChecked
+unfolding openCheckedBy
 open-settled table o a st e x c r g = rw (settled a x c (followed r g), settled a x c r)
 
 -- the walk of a run, and then what the anchor and the record after it lead to
@@ -55,7 +55,7 @@ before-before : (fs gs : List Finding) (w : Walked) → withFindings fs (withFin
 before-before fs gs w = ap (λ (l : List Finding). record { findings = l; anchor = w .anchor; state = w .state }) (sym (append-assoc fs gs (w .findings)))
 
 pub walk-then : (table : List ℕ) (o : WalkContext) (a : Option Anchor) (f g : Forest) (st : WalkState) → walk table o a (followed f g) st ≡ thenRun (walk table o a f st) (λ b s. walk table o b g s)
-unfolding walk followed
+unfolding walkBy followed
 walk-then table o a end g st = refl
 walk-then table o a (leaf x r) g st =
     let t = leafChecked table o st x in

@@ -35,7 +35,7 @@ span-is s t i e =
     ap (λ (v : Bool). (ltb (length s) (startAt t i + lenAt t i) || (not v || not (isBoundary s (startAt t i + lenAt t i))))) (boundary m (startAt t i))
     ∙ ap (λ (v : Bool). (ltb (length s) (startAt t i + lenAt t i) || (not (between (chars s) (startAt t i)) || not v))) (boundary m (startAt t i + lenAt t i))
 
-no-place : (number : ℕ) (x : Option ℕ) → atPlace number x ≡ none → x ≡ none
+pub no-place : (number : ℕ) (x : Option ℕ) → atPlace number x ≡ none → x ≡ none
 no-place number none e = refl
 no-place number (some place) e = refused _ e
 

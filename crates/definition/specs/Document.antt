@@ -6,14 +6,15 @@ use mathlib.Core.Option.{Option, some, none}
 use lib.Dec.{eqb}
 use Rattle.text.specs.Pick.{pick}
 use Rattle.text.specs.Words.{blankText}
-use Rattle.tape.specs.Nodes.{Node, textKind}
+use Rattle.tape.specs.Nodes.{textKind}
 use Rattle.tape.specs.Forest.{Forest, end, leaf, node}
 use Rattle.findings.specs.Finding.{Finding, errorSeverity}
 use Rattle.findings.specs.Written.{only}
 use mathlib.Core.Path.{_≡_}
-use Rattle.definition.specs.State.{WalkState, initial, outside}
+use Rattle.definition.specs.State.{Milestone, nodeOf, WalkState, initial, outside}
 use Rattle.definition.specs.Checks.{error, warning, when, given}
-use Rattle.definition.specs.Walk.{Walked, walk}
+use Rattle.definition.specs.Milestones.{Fits, pairing}
+use Rattle.definition.specs.Walk.{Walked, walkBy}
 use Rattle.findings.specs.Codes.{textBeforeId, milestoneMismatch, unclosedStart, missingIdMarker, missingChapterMarker}
 
 -- TextBeforeId: the first child of the root is a Text that isn't blank
@@ -23,9 +24,9 @@ textBefore (leaf x r) = only (eqb (x .kind) textKind && not (blankText (x .text)
 textBefore (node x c r) = []
 
 -- "its finding is a MilestoneMismatch of form 0 with its node"; the open starts are held the latest first, and given "in opening order"
-unfoldable pub unclosed : List Node → List Finding
+unfoldable pub unclosed : List Milestone → List Finding
 unclosed [] = []
-unclosed (x ∷ xs) = unclosed xs ++ error x milestoneMismatch unclosedStart ∷ []
+unclosed (x ∷ xs) = unclosed xs ++ error (nodeOf x) milestoneMismatch unclosedStart ∷ []
 
 -- of no node: "0 for the document"
 abbrev pub ofDocument : ℕ → Finding
@@ -40,16 +41,25 @@ closing st =
     ∷ when ((st .hasId || st .hasVerse) && (not (st .hasChapter) && not (st .frontMatter))) (ofDocument missingChapterMarker)
     ∷ [])
 
--- the walk of the root's children
+-- the walk of the root's children, by a taking rule and by module 9's
+abbrev pub walkedBy : Fits → List ℕ → Forest → Walked
+walkedBy fits table f = walkBy fits table outside none f initial
+
 abbrev pub walked : List ℕ → Forest → Walked
-walked table f = walk table outside none f initial
+walked = walkedBy pairing
 
 -- the findings before the closing ones
+abbrev pub runningBy : Fits → List ℕ → Forest → List Finding
+runningBy fits table f = textBefore f ++ walkedBy fits table f .findings
+
 abbrev pub running : List ℕ → Forest → List Finding
-running table f = textBefore f ++ walked table f .findings
+running = runningBy pairing
+
+abbrev pub findingsBy : Fits → List ℕ → Forest → List Finding
+findingsBy fits table f = runningBy fits table f ++ closing (walkedBy fits table f .state)
 
 abbrev pub findings : List ℕ → Forest → List Finding
-findings table f = running table f ++ closing (walked table f .state)
+findings = findingsBy pairing
 
 abbrev pub versesVisited : List ℕ → Forest → ℕ
 versesVisited table f = walked table f .state .verses
@@ -58,14 +68,17 @@ versesVisited table f = walked table f .state .verses
 abbrev pub unclosedOf : List ℕ → Forest → List Finding
 unclosedOf table f = unclosed (walked table f .state .openStarts)
 
+abbrev pub isMismatch : Finding → Bool
+isMismatch f = eqb (f .code) milestoneMismatch
+
 -- "a MilestoneMismatch of form 0": the finding of an unclosed start
 abbrev pub isUnclosed : Finding → Bool
-isUnclosed f = eqb (f .code) milestoneMismatch && eqb (f .form) unclosedStart
+isUnclosed f = isMismatch f && eqb (f .form) unclosedStart
 
--- the findings of a list that pass a test, in order
-unfoldable pub those : (Finding → Bool) → List Finding → List Finding
+-- the elements of a list that pass a test, in order
+unfoldable pub those : {A : Type 0} → (A → Bool) → List A → List A
 those p [] = []
-those p (f ∷ fs) = pick (p f) (f ∷ those p fs) (those p fs)
+those p (x ∷ xs) = pick (p x) (x ∷ those p xs) (those p xs)
 
 -- one list of findings is a beginning of another
 pub record Beginning (fs gs : List Finding) : Type 0 where

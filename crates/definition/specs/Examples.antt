@@ -5,11 +5,13 @@ use mathlib.Core.Option.{Option, none}
 use lib.ListN.{length}
 use Rattle.text.specs.Literal.{ascii}
 use Rattle.tape.specs.Forest.{top}
-use Rattle.tape.specs.Nodes.{rootKind, markerOpenKind, markerCloseKind, chapterKind, verseKind, textKind, attributeKind, blockEndKind}
+use Rattle.tape.specs.Nodes.{nodeAt, rootKind, markerOpenKind, markerCloseKind, chapterKind, verseKind, textKind, attributeKind, blockEndKind}
 use Rattle.refusals.specs.Refusal.{Refusal}
 use Rattle.findings.specs.Finding.{Finding, errorSeverity, warningSeverity, infoSeverity}
 use Rattle.findings.specs.Codes.{bodyParagraphBeforeChapter, duplicateId, invalidAttributes, invalidBookCode, invalidTableColumnSequence, invalidVerseSequence, leadingZeros, milestoneMismatch, misplacedNumberMarker, missingChapterMarker, missingIdMarker, missingSpaceBeforeNumber, textBeforeId, unquotedAttributeValue, verseOutsideParagraph}
+use Rattle.definition.specs.Milestones.{visits, marks}
 use Rattle.definition.specs.Document.{findings}
+use Rattle.definition.specs.Account.{visitedStarts, visitedEnds, pairsOf, mismatchesOf}
 use Rattle.definition.specs.Outcome.{Lent, refusal, repeated, noStart}
 
 -- a node by its fields: "kind, marker, start, len, link; flags 0"
@@ -365,6 +367,41 @@ longerDocument =
     ∷ [])
     ([])
 
+-- quotations of two bases, `qt` and `qt1`: nested, crossing and unclosed, and an end that finds no start
+unfoldable pub quotations : Example
+quotations =
+    example (ascii "\\id GEN\n\\c 1\n\\p\\qt-s\\*\\qt1-s\\*\\qt-s\\*\\qt-e\\*\\qt-e\\*\\qt1-e\\*\\qt-e\\*\\qt1-s\\*\\qt1-s\\*")
+    (row rootKind 0 0 82 25
+    ∷ row markerOpenKind 0 0 3 3
+    ∷ row textKind 0 3 5 0
+    ∷ row blockEndKind 0 8 0 0
+    ∷ row chapterKind 1 8 5 1
+    ∷ row markerOpenKind 3 13 2 24
+    ∷ row markerOpenKind 13 15 5 7
+    ∷ row markerCloseKind 13 20 2 0
+    ∷ row markerOpenKind 13 22 6 9
+    ∷ row markerCloseKind 13 28 2 0
+    ∷ row markerOpenKind 13 30 5 11
+    ∷ row markerCloseKind 13 35 2 0
+    ∷ row markerOpenKind 14 37 5 13
+    ∷ row markerCloseKind 14 42 2 0
+    ∷ row markerOpenKind 14 44 5 15
+    ∷ row markerCloseKind 14 49 2 0
+    ∷ row markerOpenKind 14 51 6 17
+    ∷ row markerCloseKind 14 57 2 0
+    ∷ row markerOpenKind 14 59 5 19
+    ∷ row markerCloseKind 14 64 2 0
+    ∷ row markerOpenKind 13 66 6 21
+    ∷ row markerCloseKind 13 72 2 0
+    ∷ row markerOpenKind 13 74 6 23
+    ∷ row markerCloseKind 13 80 2 0
+    ∷ row blockEndKind 3 82 0 0
+    ∷ [])
+    (found errorSeverity milestoneMismatch 59 5 18 1 0 0
+    ∷ found errorSeverity milestoneMismatch 66 6 20 0 0 0
+    ∷ found errorSeverity milestoneMismatch 74 6 22 0 0 0
+    ∷ [])
+
 unfoldable pub examples : List Example
 examples =
     example1
@@ -384,6 +421,7 @@ examples =
     ∷ example15
     ∷ shorterDocument
     ∷ longerDocument
+    ∷ quotations
     ∷ []
 
 unfoldable pub findingsOf : List Example → List (List Finding)
@@ -414,3 +452,12 @@ refusalsOf (e ∷ es) = refusal (lentOf e) ∷ refusalsOf es
 unfoldable pub noneOf : List Example → List (Option Refusal)
 noneOf [] = []
 noneOf (e ∷ es) = none ∷ noneOf es
+
+-- the account of a base in an example: its visited starts and ends, its pairs, its mismatches
+abbrev pub accountOf : List ℕ → Example → List ℕ
+accountOf base e =
+    visitedStarts base (visits exampleTable (top (e .source) (tapeOf (e .nodes))))
+    ∷ visitedEnds base (visits exampleTable (top (e .source) (tapeOf (e .nodes))))
+    ∷ pairsOf base (marks (visits exampleTable (top (e .source) (tapeOf (e .nodes)))))
+    ∷ mismatchesOf base (nodeAt (e .source) (tapeOf (e .nodes))) (findings exampleTable (top (e .source) (tapeOf (e .nodes))))
+    ∷ []

@@ -4,5 +4,6 @@ pub mod Checks
 pub mod Walk
 pub mod Milestones
 pub mod Document
+pub mod Account
 pub mod Outcome
 pub mod Examples

@@ -2,12 +2,11 @@
 use Prim.Native.Nat.{ℕ}
 use mathlib.Core.Bool.{Bool}
 use mathlib.Core.List.{List}
-use Rattle.tape.specs.Nodes.{Node}
 use Rattle.numbers.specs.Verse.{Position}
-use Rattle.definition.specs.State.{WalkState}
+use Rattle.definition.specs.State.{Milestone, WalkState}
 
 -- the record by its fields, in their order
-abbrev pub walkState : Bool → Bool → Bool → Bool → Bool → ℕ → Position → List ℕ → List Node → ℕ → WalkState
+abbrev pub walkState : Bool → Bool → Bool → Bool → Bool → ℕ → Position → List ℕ → List Milestone → ℕ → WalkState
 walkState hasId hasChapter hasVerse frontMatter verseOutsideWarned expectedChapter expectedVerse seen openStarts verses =
     record {
       hasId = hasId;
@@ -46,7 +45,7 @@ setExpectedVerse value st = walkState (st .hasId) (st .hasChapter) (st .hasVerse
 abbrev pub setSeen : List ℕ → WalkState → WalkState
 setSeen value st = walkState (st .hasId) (st .hasChapter) (st .hasVerse) (st .frontMatter) (st .verseOutsideWarned) (st .expectedChapter) (st .expectedVerse) value (st .openStarts) (st .verses)
 
-abbrev pub setOpenStarts : List Node → WalkState → WalkState
+abbrev pub setOpenStarts : List Milestone → WalkState → WalkState
 setOpenStarts value st = walkState (st .hasId) (st .hasChapter) (st .hasVerse) (st .frontMatter) (st .verseOutsideWarned) (st .expectedChapter) (st .expectedVerse) (st .seen) value (st .verses)
 
 abbrev pub setVerses : ℕ → WalkState → WalkState

@@ -8,6 +8,16 @@ use Rattle.tape.specs.Forest.{Forest, end, leaf, node, followed}
 use Rattle.findings.specs.Finding.{Finding}
 use Rattle.numbers.specs.Verse.{Position}
 
+-- what a taking rule sees of a milestone, made of its node and of what stands inside it; module 9's rule needs the node alone
+abbrev pub Milestone : Type 0
+Milestone = Node
+
+abbrev pub milestoneOf : Node → Forest → Milestone
+milestoneOf x inside = x
+
+abbrev pub nodeOf : Milestone → Node
+nodeOf m = m
+
 -- the running record. The open starts are the milestone starts that wait for their end, the latest first
 pub record WalkState : Type 0 where
   pub hasId : Bool
@@ -18,7 +28,7 @@ pub record WalkState : Type 0 where
   pub expectedChapter : ℕ
   pub expectedVerse : Position
   pub seen : List ℕ
-  pub openStarts : List Node
+  pub openStarts : List Milestone
   pub verses : ℕ
 
 abbrev pub firstVerse : Position

@@ -13,9 +13,9 @@ use Rattle.findings.specs.Finding.{Finding}
 use Rattle.attributes.specs.Attributes.{attributesFindings}
 use Rattle.rows.specs.Row.{rowFindings}
 use Rattle.numbers.specs.Label.{numbered}
-use Rattle.definition.specs.State.{WalkState, WalkContext, Anchor, past, NodeChecked}
+use Rattle.definition.specs.State.{milestoneOf, WalkState, WalkContext, Anchor, past, NodeChecked}
 use Rattle.definition.specs.Checks.{given, entryOf, leafChecked, idName, trName, bookCode, idChecks, afterId, isBody, placeChecks, contentChecks}
-use Rattle.definition.specs.Milestones.{milestoneChecks, afterMilestone}
+use Rattle.definition.specs.Milestones.{Fits, pairing, milestoneChecksBy, afterMilestoneBy}
 use Rattle.text.specs.Bytes.{equal}
 
 -- the findings of a run, its last anchor, and the record after it
@@ -29,20 +29,23 @@ abbrev pub leafAnchor : Option Anchor → Node → Option Anchor
 leafAnchor a x = pick (numbered (x .kind)) (some (record { kind = x .kind; passed = end })) (past a (leaf x end))
 
 -- by its table name, and the record after `id`; the row of a `tr` and the attributes come before the milestone
-abbrev pub openBy : List ℕ → WalkState → WalkContext → Option Anchor → WalkState → Entry → Node → Forest → Forest → NodeChecked
-openBy name st₁ o a st e x c f =
+abbrev pub openBy : Fits → List ℕ → WalkState → WalkContext → Option Anchor → WalkState → Entry → Node → Forest → Forest → NodeChecked
+openBy fits name st₁ o a st e x c f =
     record {
       findings =
           given (idChecks (equal name idName) st (bookCode c) x ++ placeChecks name e o a st₁ x c f ++ contentChecks name x c)
           ++ pick (equal name trName) (rowFindings c) []
           ++ attributesFindings (x .number) (nameOf (x .text)) c
-          ++ given (milestoneChecks e st₁ x);
-      state = afterMilestone e st₁ x;
+          ++ given (milestoneChecksBy fits e st₁ (milestoneOf x c));
+      state = afterMilestoneBy fits e st₁ (milestoneOf x c);
     }
 
 -- a marker's own findings, which come before those of its children: `f` are the siblings from it on
-unfoldable pub openChecked : List ℕ → WalkContext → Option Anchor → WalkState → Entry → Node → Forest → Forest → NodeChecked
-openChecked table o a st e x c f = openBy (cut (e .name) table) (afterId (equal (cut (e .name) table) idName) st c) o a st e x c f
+unfoldable pub openCheckedBy : Fits → List ℕ → WalkContext → Option Anchor → WalkState → Entry → Node → Forest → Forest → NodeChecked
+openCheckedBy fits table o a st e x c f = openBy fits (cut (e .name) table) (afterId (equal (cut (e .name) table) idName) st c) o a st e x c f
+
+abbrev pub openChecked : List ℕ → WalkContext → Option Anchor → WalkState → Entry → Node → Forest → Forest → NodeChecked
+openChecked = openCheckedBy pairing
 
 -- the context of a marker's children
 abbrev pub inside : WalkContext → Entry → WalkContext
@@ -67,9 +70,14 @@ abbrev pub byEntry : Option Entry → Walked → (Entry → Walked) → Walked
 byEntry none passedOver visited = passedOver
 byEntry (some e) passedOver visited = visited e
 
-unfoldable pub walk : List ℕ → WalkContext → Option Anchor → Forest → WalkState → Walked
-walk table o a end st = record { findings = []; anchor = a; state = st }
-walk table o a (leaf x r) st = afterNode (leafChecked table o st x) (walk table o (leafAnchor a x) r)
-walk table o a (node x c r) st =
-    byEntry (entryOf table x) (walk table o (past a (node x c end)) r st)
-    (λ e. afterNode (openChecked table o a st e x c (node x c r)) (λ st₁. thenWalk (walk table (inside o e) none c st₁) (walk table o (past a (node x c end)) r)))
+-- the walk of a run of siblings, by any taking rule
+unfoldable pub walkBy : Fits → List ℕ → WalkContext → Option Anchor → Forest → WalkState → Walked
+walkBy fits table o a end st = record { findings = []; anchor = a; state = st }
+walkBy fits table o a (leaf x r) st = afterNode (leafChecked table o st x) (walkBy fits table o (leafAnchor a x) r)
+walkBy fits table o a (node x c r) st =
+    byEntry (entryOf table x) (walkBy fits table o (past a (node x c end)) r st)
+    (λ e. afterNode (openCheckedBy fits table o a st e x c (node x c r)) (λ st₁. thenWalk (walkBy fits table (inside o e) none c st₁) (walkBy fits table o (past a (node x c end)) r)))
+
+-- the walk by module 9's rule
+abbrev pub walk : List ℕ → WalkContext → Option Anchor → Forest → WalkState → Walked
+walk = walkBy pairing

@@ -3,23 +3,11 @@
 use mathlib.Core.Path.{_≡_, refl}
 use mathlib.Core.Bool.{Bool, true, false}
 use mathlib.Core.List.{List, [], _∷_}
-use Rattle.tape.specs.Nodes.{Node}
 use Rattle.findings.specs.Finding.{Finding}
 use Rattle.findings.specs.Written.{only}
 use Rattle.definition.specs.Checks.{Check, given}
-use Rattle.definition.specs.Milestones.{sameBase, without}
 use Rattle.text.specs.Pick.{pick, AllOf}
 use Rattle.text.proofs.Every.{all-append}
-
--- of what is left when one is taken out
-pub all-without : (P : Node → Type 0) (x : Node) (xs : List Node) → AllOf P xs → AllOf P (without x xs)
-unfolding without
-all-without P x [] h = tt
-all-without P x (y ∷ ys) h = go (sameBase y x) (all-without P x ys (h .1))
-  where
-    go : (b : Bool) → AllOf P (without x ys) → AllOf P (pick b ys (y ∷ without x ys))
-    go true k = h .1
-    go false k = (h .0, k)
 
 -- of the finding of a check, if the check holds
 abbrev pub WhenHeld : (Finding → Type 0) → Check → Type 0

@@ -26,15 +26,16 @@ use Rattle.rows.specs.Cells.{ColumnRange}
 use Rattle.rows.specs.Row.{cellIn, outOfOrder, byColumns, rowFrom, rowFindings}
 use Rattle.definition.specs.State.{WalkState, initial, outside, WalkContext, Anchor, past}
 use Rattle.definition.specs.Checks.{about, error, warning, given, entryOf, letterByte, afterChapter, afterVerse, numberForm, chapterChecks, verseChecks, leafChecked, bookCode, isBook, numberMarkers, idName, trName, idChecks, afterId, attachedTo, placeChecks, contentChecks}
-use Rattle.definition.specs.Milestones.{isStart, isEnd, isMilestone, waits, startsAfter, milestoneChecks, afterMilestone}
-use Rattle.definition.specs.Walk.{Walked, leafAnchor, openChecked, inside, withFindings, afterNode, thenWalk, byEntry, walk}
+use Rattle.definition.specs.Milestones.{pairing, isStart, isEnd, isMilestone, waits, startsAfter, milestoneChecks, afterMilestoneBy}
+use Rattle.definition.specs.Walk.{Walked, leafAnchor, openCheckedBy, openChecked, inside, withFindings, afterNode, thenWalk, byEntry, walkBy, walk}
 use Rattle.definition.specs.Document.{textBefore, unclosed, closing, walked, running}
 use Rattle.definition.specs.Outcome.{Lent, refusal, listOf}
 use Rattle.definition.proofs.Demand3.{checked-accepted}
+use Rattle.definition.proofs.Untaken.{all-without}
 use Rattle.message_texts.specs.Texts.{documentTexts, numberTexts, markerTexts, attributeTexts}
 use Rattle.message_texts.specs.Filled.{allTexts, codeOf, formOf}
 use Rattle.messages.specs.Message.{requestOf, shownOf, textBy, messageText}
-use Rattle.messages.proofs.Every.{all-without, WhenHeld, all-only, all-pick, all-given}
+use Rattle.messages.proofs.Every.{WhenHeld, all-only, all-pick, all-given}
 use Rattle.text.proofs.Every.{all-append}
 use Rattle.messages.proofs.LowLetters.{next-low, breaks-some}
 use Rattle.attributes.proofs.EachKind.{OfAttributes, all-kinds}
@@ -237,7 +238,7 @@ module _ (table s t : List ℕ) where
         (λ h. milestone-said i low (some e) known from (and-right (eqb (e .category) milestoneCategory) (isStart y || isEnd y) (and-left (isMilestone e y) (not (isStart y) && not (waits y (st .openStarts))) h)) .1, tt)
 
     open-all : {d : ℕ} → Nested t d (i + 1) (linkAt t i) → linkAt t i ≤ count t → (o : WalkContext) (a : Option Anchor) (st : WalkState) (f : Forest) → AllOf Has (openChecked table o a st e y below f .findings)
-    unfolding openChecked
+    unfolding openCheckedBy
     open-all n l o a st f =
         let name = cut (e .name) table in
         let st₁ = afterId (equal name idName) st below in
@@ -249,7 +250,7 @@ module _ (table s t : List ℕ) where
         (all-given Has (milestoneChecks e st₁ y) (milestone-checks st₁))
 
     open-fit : (o : WalkContext) (a : Option Anchor) (st : WalkState) (c f : Forest) → Fit table s t st → Fit table s t (openChecked table o a st e y c f .state)
-    unfolding openChecked afterMilestone afterId
+    unfolding openCheckedBy afterMilestoneBy afterId
     open-fit o a st c f fit = record { letter = fit .letter; starts = go (isMilestone e y) (isStart y) refl }
       where
         Unclosed : Node → Type 0
@@ -257,14 +258,14 @@ module _ (table s t : List ℕ) where
 
         go : (m b : Bool) → isStart y ≡ b → AllOf Unclosed (pick m (startsAfter b y (st .openStarts)) (st .openStarts))
         go true true p = (milestone-said i low (some e) known from (rw p) .0, fit .starts)
-        go true false p = all-without Unclosed y (st .openStarts) (fit .starts)
+        go true false p = all-without pairing Unclosed y (st .openStarts) (fit .starts)
         go false b p = fit .starts
 
   good-before : (fs : List Finding) (w : Walked) → AllOf Has fs → Good table s t w → Good table s t (withFindings fs w)
   good-before fs w h g = record { findings = all-append Has fs (w .findings) h (g .findings); state = g .state }
 
   walk-all : {d a b : ℕ} → Nested t d a b → 1 ≤ a → b ≤ count t → (o : WalkContext) (p : Option Anchor) (st : WalkState) → Fit table s t st → Good table s t (walk table o p (forest s t a b) st)
-  unfolding walk
+  unfolding walkBy
   walk-all {d} {a} {b} (done e) from l o p st fit = rw (forest-done s t a b (omega arith)) (record { findings = tt; state = fit })
   walk-all {d} {a} {b} (one h z r) from l o p st fit =
       let x = nodeAt s t a in

@@ -9,7 +9,7 @@ use mathlib.Core.Option.{Option, some, none}
 use lib.ListN.{getD}
 use Rattle.text.specs.Pick.{pick}
 use Rattle.tape.specs.Nodes.{Node, nodeAt}
-use Rattle.definition.specs.Milestones.{baseOf, sameBase, waits, without}
+use Rattle.definition.specs.Milestones.{baseOf, sameBase, waitsBy, waits, withoutBy, without}
 use Rattle.state.specs.Inner.{openNodes, Opens}
 use Rattle.definition.specs.Outcome.{noStart}
 use Rattle.definition.specs.declared.OpenStart.{OpenStart}
@@ -56,7 +56,7 @@ module _ (s t : List ℕ) (opens : List OpenStart) (base : List ℕ) where
 
 module _ (s t : List ℕ) (opens : List OpenStart) (x : Node) where
   pub waits-found : (k : ℕ) → waits x (openNodes s t opens k) ≡ isFound (nearestIn s t opens k (baseOf x))
-  unfolding waits openNodes nearestIn
+  unfolding waitsBy openNodes nearestIn
   waits-found zero = refl
   waits-found (suc k) = go (sameBase (nodeAt s t (getD opens k noStart .node)) x) (waits-found k)
     where
@@ -66,7 +66,7 @@ module _ (s t : List ℕ) (opens : List OpenStart) (x : Node) where
 
   -- without an open start of the base none is taken
   pub none-taken : (k : ℕ) → nearestIn s t opens k (baseOf x) ≡ none → without x (openNodes s t opens k) ≡ openNodes s t opens k
-  unfolding without openNodes nearestIn
+  unfolding withoutBy openNodes nearestIn
   none-taken zero e = refl
   none-taken (suc k) e = go (sameBase (nodeAt s t (getD opens k noStart .node)) x) e (none-taken k)
     where
@@ -90,7 +90,7 @@ module _ (s t : List ℕ) (opens opens′ : List OpenStart) (at : ℕ) where
 
   -- the latest of the base is taken
   pub one-taken : (x : Node) (n : ℕ) → Gone opens opens′ n at → nearestIn s t opens (suc n) (baseOf x) ≡ some at → without x (openNodes s t opens (suc n)) ≡ openNodes s t opens′ n
-  unfolding without openNodes nearestIn
+  unfolding withoutBy openNodes nearestIn
   one-taken x zero g e = go (sameBase (nodeAt s t (getD opens 0 noStart .node)) x) e
     where
       go : (b : Bool) → pick b (some 0) none ≡ some at → pick b [] (nodeAt s t (getD opens 0 noStart .node) ∷ []) ≡ []

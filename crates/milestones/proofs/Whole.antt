@@ -15,7 +15,7 @@ use Rattle.findings.specs.Finding.{Finding}
 use Rattle.findings.specs.declared.Counts.{Counts}
 use Rattle.findings.specs.Written.{overlay, only}
 use Rattle.definition.specs.Checks.{given, when, error}
-use Rattle.definition.specs.Milestones.{isStart, isMilestone, baseOf, waits, milestoneChecks, startsAfter, without, afterMilestone}
+use Rattle.definition.specs.Milestones.{isStart, isMilestone, baseOf, waits, milestoneChecks, startsAfter, without, afterMilestoneBy}
 use Rattle.definition.specs.Setters.{setOpenStarts}
 use Rattle.definition.specs.declared.OpenStart.{OpenStart}
 use Rattle.state.specs.Inner.{openNodes, stateOf, countsOf, withCounts, Opens}
@@ -80,7 +80,7 @@ module _ (e : Entry) (s t : List ℕ) (i : ℕ) (opens : List OpenStart) (l : Li
       }
 
   stepped : (opens′ : List OpenStart) (n : ℕ) → openNodes s t opens′ n ≡ pick (isMilestone e x) (startsAfter (isStart x) x (openNodes s t opens (r .«open_len»))) (openNodes s t opens (r .«open_len»)) → Opens s t opens′ n → n ≤ r .«open_len» + 1 → MilestoneStep e s t i opens r opens′ (withOpens r n)
-  unfolding afterMilestone
+  unfolding afterMilestoneBy
   stepped opens′ n p o′ h =
       record {
         state = λ seen. ap (λ (xs : List Node). setOpenStarts xs (stateOf s t seen opens r)) p;

@@ -26,8 +26,8 @@ use Rattle.rows.specs.Row.{rowFrom}
 use Rattle.attributes.specs.Attributes as attributes
 use Rattle.attachment.specs.Attached.{isAlternate, isPublished, plain, runOf, startOffsets, among}
 use Rattle.definition.specs.Checks as checks
-use Rattle.definition.specs.Milestones.{waits, without, afterMilestone}
-use Rattle.definition.specs.Walk.{openChecked, walk}
+use Rattle.definition.specs.Milestones.{waitsBy, withoutBy, afterMilestoneBy}
+use Rattle.definition.specs.Walk.{openCheckedBy, walkBy}
 use Rattle.definition.specs.Outcome.{refusal, repeated}
 use Rattle.definition.specs.Document.{textBefore, unclosed, closing}
 use Rattle.definition.specs.Examples as worked
@@ -44,11 +44,11 @@ use Rattle.listing.specs.Listing.{listedFinding, listedEach, checkedListing, li
 use Rattle.theorems.specs.ListingExample.{tableFile, output, logos, phos, greekSource, greekNodes, greekOutput}
 
 pub listing-example : listing tableFile (worked.example1 .source) (worked.tapeOf (worked.example1 .nodes)) ≡ output
-unfolding ascii worked.tapeOf worked.example1 utf8.table3-7 utf8.begins utf8.widthBy utf8.widthOf utf8.decoded utf8.decode inAny blankRanges blank charsPast bytesBefore findByte trimStart kept trim blankText wordFrom allDigits valueFrom digitsFrom digits parsed half word nodes followed runs equal all oneOf lines.lines lines.categories lines.roles entries.position entries.entriesOf entries.entries entries.nth names.lemmaNames names.defaultName names.frontMatter names.noteOnly books.bookCodes books.codeFrom books.bookOf attributes.scanStep attributes.attributeScan attributes.attributeKinds attributes.findingsAt attributes.attributesFindings namePart partOf versePart verseEnd next inSequence labelOf columnsIn cellColumns rowFrom isAlternate isPublished plain runOf startOffsets among checks.given checks.afterChapter checks.afterVerse checks.leafChecked checks.bookCode upper checks.afterId checks.inlineContent checks.hasLeaf checks.hasMarkers checks.numberMarkers waits without afterMilestone openChecked walk textBefore unclosed closing refusal repeated utf8.scan utf8.afterWidth utf8.firstIllFormed lines.badFrom lines.badTable reading.step reading.read reading.tapeRefusal firstBad label.splits label.labelRefusal infoAt decimal decimalFuel firstNine messageText allTexts documentTexts numberTexts markerTexts attributeTexts codeOf formOf joined filled shownOf nameAt severityNames codeNames refusedLines checkedLines findingLines placeFrom lineStart beginnings countBetween columnAt listedFinding listedEach checkedListing listing ofSeverity tableFile output
+unfolding ascii worked.tapeOf worked.example1 utf8.table3-7 utf8.begins utf8.widthBy utf8.widthOf utf8.decoded utf8.decode inAny blankRanges blank charsPast bytesBefore findByte trimStart kept trim blankText wordFrom allDigits valueFrom digitsFrom digits parsed half word nodes followed runs equal all oneOf lines.lines lines.categories lines.roles entries.position entries.entriesOf entries.entries entries.nth names.lemmaNames names.defaultName names.frontMatter names.noteOnly books.bookCodes books.codeFrom books.bookOf attributes.scanStep attributes.attributeScan attributes.attributeKinds attributes.findingsAt attributes.attributesFindings namePart partOf versePart verseEnd next inSequence labelOf columnsIn cellColumns rowFrom isAlternate isPublished plain runOf startOffsets among checks.given checks.afterChapter checks.afterVerse checks.leafChecked checks.bookCode upper checks.afterId checks.inlineContent checks.hasLeaf checks.hasMarkers checks.numberMarkers waitsBy withoutBy afterMilestoneBy openCheckedBy walkBy textBefore unclosed closing refusal repeated utf8.scan utf8.afterWidth utf8.firstIllFormed lines.badFrom lines.badTable reading.step reading.read reading.tapeRefusal firstBad label.splits label.labelRefusal infoAt decimal decimalFuel firstNine messageText allTexts documentTexts numberTexts markerTexts attributeTexts codeOf formOf joined filled shownOf nameAt severityNames codeNames refusedLines checkedLines findingLines placeFrom lineStart beginnings countBetween columnAt listedFinding listedEach checkedListing listing ofSeverity tableFile output
 listing-example = refl
 
 pub listing-greek : listing tableFile greekSource (worked.tapeOf greekNodes) ≡ greekOutput
-unfolding ascii worked.tapeOf utf8.table3-7 utf8.begins utf8.widthBy utf8.widthOf utf8.decoded utf8.decode inAny blankRanges blank charsPast bytesBefore findByte trimStart kept trim blankText wordFrom allDigits valueFrom digitsFrom digits parsed half word nodes followed runs equal all oneOf lines.lines lines.categories lines.roles entries.position entries.entriesOf entries.entries entries.nth names.lemmaNames names.defaultName names.frontMatter names.noteOnly books.bookCodes books.codeFrom books.bookOf attributes.scanStep attributes.attributeScan attributes.attributeKinds attributes.findingsAt attributes.attributesFindings namePart partOf versePart verseEnd next inSequence labelOf columnsIn cellColumns rowFrom isAlternate isPublished plain runOf startOffsets among checks.given checks.afterChapter checks.afterVerse checks.leafChecked checks.bookCode upper checks.afterId checks.inlineContent checks.hasLeaf checks.hasMarkers checks.numberMarkers waits without afterMilestone openChecked walk textBefore unclosed closing refusal repeated utf8.scan utf8.afterWidth utf8.firstIllFormed lines.badFrom lines.badTable reading.step reading.read reading.tapeRefusal firstBad label.splits label.labelRefusal infoAt decimal decimalFuel firstNine messageText allTexts documentTexts numberTexts markerTexts attributeTexts codeOf formOf joined filled shownOf nameAt severityNames codeNames refusedLines checkedLines findingLines placeFrom lineStart beginnings countBetween columnAt listedFinding listedEach checkedListing listing ofSeverity tableFile logos phos greekSource greekNodes greekOutput
+unfolding ascii worked.tapeOf utf8.table3-7 utf8.begins utf8.widthBy utf8.widthOf utf8.decoded utf8.decode inAny blankRanges blank charsPast bytesBefore findByte trimStart kept trim blankText wordFrom allDigits valueFrom digitsFrom digits parsed half word nodes followed runs equal all oneOf lines.lines lines.categories lines.roles entries.position entries.entriesOf entries.entries entries.nth names.lemmaNames names.defaultName names.frontMatter names.noteOnly books.bookCodes books.codeFrom books.bookOf attributes.scanStep attributes.attributeScan attributes.attributeKinds attributes.findingsAt attributes.attributesFindings namePart partOf versePart verseEnd next inSequence labelOf columnsIn cellColumns rowFrom isAlternate isPublished plain runOf startOffsets among checks.given checks.afterChapter checks.afterVerse checks.leafChecked checks.bookCode upper checks.afterId checks.inlineContent checks.hasLeaf checks.hasMarkers checks.numberMarkers waitsBy withoutBy afterMilestoneBy openCheckedBy walkBy textBefore unclosed closing refusal repeated utf8.scan utf8.afterWidth utf8.firstIllFormed lines.badFrom lines.badTable reading.step reading.read reading.tapeRefusal firstBad label.splits label.labelRefusal infoAt decimal decimalFuel firstNine messageText allTexts documentTexts numberTexts markerTexts attributeTexts codeOf formOf joined filled shownOf nameAt severityNames codeNames refusedLines checkedLines findingLines placeFrom lineStart beginnings countBetween columnAt listedFinding listedEach checkedListing listing ofSeverity tableFile logos phos greekSource greekNodes greekOutput
 listing-greek = refl
 
 -- line and column in bytes of the finding, its column, and the columns of the line's start, of the byte behind the first `λ` and of the source's end

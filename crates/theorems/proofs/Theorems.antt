@@ -20,6 +20,7 @@ use denote.Signature.{Signature, plain}
 use denote.Triple.End.{all}
 use denote.Triple.Spec.{Spec, Meets, exits}
 use Rattle.reference_laws.proofs.Call.{clauses}
+use Rattle.text.specs.Literal.{ascii}
 use Rattle.text.specs.Utf8.{firstIllFormed, widthOf, Made, FirstIllFormed}
 use Rattle.text.specs.Characters.{chars, between, isBoundary}
 use Rattle.text.proofs.Exact as exact
@@ -28,7 +29,7 @@ use Rattle.text.proofs.WellFormed as decoding
 use Rattle.text.specs.Number.{parsed}
 use Rattle.buffer.specs.Decimal.{decimal}
 use Rattle.message_texts.proofs.Decimals as decimals
-use Rattle.tape.specs.Nodes.{count, nodeAt, kindAt, startAt, lenAt, linkAt}
+use Rattle.tape.specs.Nodes.{Node, count, nodeAt, kindAt, startAt, lenAt, linkAt}
 use Rattle.tape.specs.Reading.{badSpan, tapeRefusal}
 use Rattle.tape.specs.Forest.{Forest, Accepted, top}
 use Rattle.tape.specs.Alike.{BeginAlike}
@@ -40,8 +41,10 @@ use Rattle.numbers.specs.Label.{baseLen, isGlued, labelOf, splits, numbered}
 use Rattle.numbers.proofs.WellFormed as labels
 use Rattle.findings.specs.Finding.{Finding}
 use Rattle.findings.specs.Written.{wholeRecords, room, encode, findingsIn}
-use Rattle.definition.specs.Milestones.{visits, marks, freeStarts, takenFrom}
-use Rattle.definition.specs.Document.{walked, running, findings, unclosedOf, isUnclosed, those, Beginning}
+use Rattle.definition.specs.State.{Milestone, nodeOf}
+use Rattle.definition.specs.Milestones.{Fits, baseOf, visits, marksBy, marks, freeStarts, takenFrom}
+use Rattle.definition.specs.Document.{walked, running, findingsBy, findings, unclosedOf, isUnclosed, those, Beginning}
+use Rattle.definition.specs.Account.{visitedStarts, visitedEnds, pairsOf, mismatchesOf}
 use Rattle.definition.specs.Outcome.{Lent, refusal, listOf, checkedOf, answer, listAfter, seenAfter, openAfter, cleared, noStart, repeated}
 use Rattle.definition.specs.declared.OpenStart.{OpenStart}
 use Rattle.definition.specs.Examples as examples
@@ -51,6 +54,7 @@ use Rattle.definition.proofs.Demand3 as demand3
 use Rattle.definition.proofs.Unclosed as unclosed
 use Rattle.definition.proofs.Pair as pair
 use Rattle.definition.proofs.Untaken as untaken
+use Rattle.definition.proofs.Paired as paired
 use Rattle.definition.proofs.Counted as counted
 use Rattle.definition.proofs.Worked as worked
 use Rattle.validate.specs.Entry.{answerOf}
@@ -235,6 +239,35 @@ begin-alike = pair.begin-alike
 pub open-starts-are-untaken : (table : List ℕ) (f : Forest) → walked table f .state .openStarts ≡ freeStarts (marks (visits table f))
 open-starts-are-untaken table f = untaken.open-starts-are-untaken table f
 
+-- ---- The quotation account (document 02, K4)
+
+-- "State for every accepted document and every milestone base: visited starts plus visited ends equal twice the pairs plus the MilestoneMismatch findings of that base in the whole list. Pairs are counted by module 9's taking rule over the order of visits, never from the open starts."
+-- Every list of bytes is taken as a base; where no milestone has it, all four are 0. `visits` are the visited milestones in their order, and `marks` say of each which end took it. That the document is accepted isn't needed (`account`).
+pub quotation-account : (l : Lent) → refusal l ≡ none → (base : List ℕ)
+    → visitedStarts base (visits (l .table) (top (l .source) (l .tape))) + visitedEnds base (visits (l .table) (top (l .source) (l .tape)))
+    ≡ 2 * pairsOf base (marks (visits (l .table) (top (l .source) (l .tape)))) + mismatchesOf base (nodeAt (l .source) (l .tape)) (listOf l)
+quotation-account l none-given base = paired.quotation-account l none-given base
+
+-- The account holds of any source and tape, accepted or not, under any table.
+pub account : (table s t base : List ℕ)
+    → visitedStarts base (visits table (top s t)) + visitedEnds base (visits table (top s t)) ≡ 2 * pairsOf base (marks (visits table (top s t))) + mismatchesOf base (nodeAt s t) (findings table (top s t))
+account table s t base = paired.account table s t base
+
+-- For the words that the check writes, where the list isn't cut.
+pub account-of-words : (l : Lent) → refusal l ≡ none → checkedOf l .cut ≡ false → (base : List ℕ)
+    → visitedStarts base (visits (l .table) (top (l .source) (l .tape))) + visitedEnds base (visits (l .table) (top (l .source) (l .tape)))
+    ≡ 2 * pairsOf base (marks (visits (l .table) (top (l .source) (l .tape)))) + mismatchesOf base (nodeAt (l .source) (l .tape)) (findingsIn (take (8 * checkedOf l .total) (listAfter l)))
+account-of-words l none-given uncut base = lists.account-of-words l none-given uncut base
+
+-- The account holds for every taking rule under which an end takes only starts of its own base: `fits y x` says that the end x may take the start y. `at` gives the node of each visited milestone by its number.
+pub account-by : (fits : Fits) → ((y x : Milestone) → fits y x ≡ true → baseOf (nodeOf y) ≡ baseOf (nodeOf x)) → (table : List ℕ) (f : Forest) (at : ℕ → Node) → AllOf (λ (x : Milestone). at (nodeOf x .number) ≡ nodeOf x) (visits table f) → (base : List ℕ)
+    → visitedStarts base (visits table f) + visitedEnds base (visits table f) ≡ 2 * pairsOf base (marksBy fits (visits table f)) + mismatchesOf base at (findingsBy fits table f)
+account-by fits by-base table f at found base = paired.account-by fits by-base table f at found base
+
+-- Nested, crossing and unclosed quotations of two bases. Of `qt` there are 2 starts, 3 ends, 2 pairs and 1 mismatch, of `qt1` 3 starts, 1 end, 1 pair and 2 mismatches; the document is accepted.
+pub quotation-example : (examples.accountOf (ascii "qt") examples.quotations ≡ 2 ∷ 3 ∷ 2 ∷ 1 ∷ []) × (examples.accountOf (ascii "qt1") examples.quotations ≡ 3 ∷ 1 ∷ 1 ∷ 2 ∷ []) × (refusal (examples.lentOf examples.quotations) ≡ none)
+quotation-example = worked.quotation-example
+
 -- ---- A checked document's numbers, words, texts and tally
 
 -- "Errors, warnings and infos count the whole defined list, cut or not."
@@ -353,7 +386,7 @@ pub trial-items : items.outcomesOf items.items ≡ items.wantedOutcomes items.it
 trial-items = settled.trial-items
 
 -- "An empty list for every passage, one stock finding, or lists never written: each breaks demand 2."
--- Each of seventeen documents has the findings that are written beside it: the listing's document, one for each of the four slips that document 01 lists after 'Also:', and others. None of them is turned back.
+-- Each of eighteen documents has the findings that are written beside it: the listing's document, one for each of the four slips that document 01 lists after 'Also:', and others. None of them is turned back.
 pub worked-examples : examples.findingsOf examples.examples ≡ examples.wantedFindings examples.examples
 worked-examples = worked.worked-examples
 

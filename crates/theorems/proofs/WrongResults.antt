@@ -47,8 +47,8 @@ use Rattle.findings.specs.Written.{put, overlay}
 use Rattle.findings.specs.declared.Counts.{Counts}
 use Rattle.definition.specs.State.{WalkState, WalkContext, Anchor, NodeChecked, outside}
 use Rattle.definition.specs.Checks as checks
-use Rattle.definition.specs.Milestones.{baseOf, milestoneChecks, waits, afterMilestone}
-use Rattle.definition.specs.Walk.{Walked, walk, openChecked}
+use Rattle.definition.specs.Milestones.{baseOf, milestoneChecks, waitsBy, afterMilestoneBy, afterMilestone}
+use Rattle.definition.specs.Walk.{Walked, walkBy, walk, openCheckedBy}
 use Rattle.definition.specs.Document.{textBefore, unclosed, closing, findings, versesVisited}
 use Rattle.definition.specs.Outcome.{Lent, repeated, cleared, noStart, refusal, answer, listAfter, seenAfter, openAfter, checkedOf, ofSeverity}
 use Rattle.definition.specs.Outcome as outcome
@@ -314,7 +314,7 @@ openHere i = afterMilestone (entries.entryOfInfo milestoneInfo) stateHere (nodeA
 
 -- nodes 5 and 9 meet what it requires
 milestone-allowed : Steppable (entries.entryOfInfo milestoneInfo) (here .source) (here .tape) 5 (here .openStarts) fresh × Steppable (entries.entryOfInfo milestoneInfo) (here .source) (here .tape) 9 (here .openStarts) fresh
-unfolding checks.given waits openNodes half repeated ascii worked.example9 worked.tapeOf equal namePart bytesBefore charsPast word blank inAny blankRanges utf8.decode utf8.decoded utf8.widthOf utf8.widthBy utf8.table3-7 utf8.begins
+unfolding checks.given waitsBy openNodes half repeated ascii worked.example9 worked.tapeOf equal namePart bytesBefore charsPast word blank inAny blankRanges utf8.decode utf8.decoded utf8.widthOf utf8.widthBy utf8.table3-7 utf8.begins
 milestone-allowed = (
   record { spanned = record { inside = ltb-true 5 19 refl; fits = leb-true 18 57 refl }; low = ltb-true 5 4294967296 refl; known = none-open; more = ltb-true 0 19 refl; room = leb-true 0 countLimit refl },
   record { spanned = record { inside = ltb-true 9 19 refl; fits = leb-true 32 57 refl }; low = ltb-true 9 4294967296 refl; known = none-open; more = ltb-true 0 19 refl; room = leb-true 1 countLimit refl },
@@ -325,7 +325,7 @@ milestone-allowed = (
 
 -- the right results: an end has one finding, a start none, and it is open after it
 milestone-right : (countsHere 9 ≡ errors 1) × (countsHere 5 ≡ errors 0) × (openHere 5 ≡ nodeAt (here .source) (here .tape) 5 ∷ [])
-unfolding counted checks.given waits afterMilestone openNodes half latest ascii worked.example9 worked.tapeOf equal namePart bytesBefore charsPast word blank inAny blankRanges utf8.decode utf8.decoded utf8.widthOf utf8.widthBy utf8.table3-7 utf8.begins
+unfolding counted checks.given waitsBy afterMilestoneBy openNodes half latest ascii worked.example9 worked.tapeOf equal namePart bytesBefore charsPast word blank inAny blankRanges utf8.decode utf8.decoded utf8.widthOf utf8.widthBy utf8.table3-7 utf8.begins
 milestone-right = (refl, refl, refl)
 
 -- an end without an open start that has no finding
@@ -497,12 +497,12 @@ empty = lent worked.exampleTable [] [] (4 ∷ []) (start 5 ∷ []) (0 ∷ [])
 
 -- the right answers of the four, as words
 answers-right : (answerWords (answer roomy) ≡ 0 ∷ 0 ∷ 0 ∷ 1 ∷ 1 ∷ 0 ∷ 1 ∷ 0 ∷ 0 ∷ []) × (answerWords (answer cramped) ≡ 1 ∷ 0 ∷ 0 ∷ 1 ∷ 0 ∷ 0 ∷ 1 ∷ 0 ∷ 0 ∷ []) × (answerWords (answer empty) ≡ 2 ∷ 4 ∷ 0 ∷ 0 ∷ 0 ∷ 0 ∷ 0 ∷ 0 ∷ 0 ∷ []) × (answerWords (answer tooShort) ≡ 2 ∷ 10 ∷ 7 ∷ 0 ∷ 0 ∷ 0 ∷ 0 ∷ 0 ∷ 0 ∷ [])
-unfolding checkedOf ofSeverity ascii worked.shorterDocument worked.exampleTable worked.tapeOf utf8.table3-7 utf8.begins utf8.widthBy utf8.widthOf utf8.decoded utf8.decode inAny blankRanges blank charsPast bytesBefore blankText wordFrom half word equal all oneOf lines.lines lines.categories lines.roles entries.position entries.entriesOf entries.entries entries.nth namePart refusal repeated utf8.scan utf8.afterWidth utf8.firstIllFormed lines.badFrom lines.badTable reading.step reading.read reading.tapeRefusal firstBad label.splits label.labelRefusal infoAt nodes runs names.frontMatter names.noteOnly books.bookCodes books.codeFrom books.bookOf attributes.attributesFindings label.labelOf among checks.given checks.afterChapter checks.leafChecked checks.bookCode checks.afterId checks.numberMarkers afterMilestone openChecked walk textBefore unclosed closing
+unfolding checkedOf ofSeverity ascii worked.shorterDocument worked.exampleTable worked.tapeOf utf8.table3-7 utf8.begins utf8.widthBy utf8.widthOf utf8.decoded utf8.decode inAny blankRanges blank charsPast bytesBefore blankText wordFrom half word equal all oneOf lines.lines lines.categories lines.roles entries.position entries.entriesOf entries.entries entries.nth namePart refusal repeated utf8.scan utf8.afterWidth utf8.firstIllFormed lines.badFrom lines.badTable reading.step reading.read reading.tapeRefusal firstBad label.splits label.labelRefusal infoAt nodes runs names.frontMatter names.noteOnly books.bookCodes books.codeFrom books.bookOf attributes.attributesFindings label.labelOf among checks.given checks.afterChapter checks.leafChecked checks.bookCode checks.afterId checks.numberMarkers afterMilestoneBy openCheckedBy walkBy textBefore unclosed closing
 answers-right = (refl, refl, refl, refl)
 
 -- the right lists after a document that is checked, and after one that is turned back
 checked-right : (listAfter roomy ≡ words5) × (seenAfter roomy ≡ repeated 0 7) × (openAfter roomy ≡ repeated noStart 7)
-unfolding put overlay ascii worked.shorterDocument worked.exampleTable worked.tapeOf utf8.table3-7 utf8.begins utf8.widthBy utf8.widthOf utf8.decoded utf8.decode inAny blankRanges blank charsPast bytesBefore blankText wordFrom half word equal all oneOf lines.lines lines.categories lines.roles entries.position entries.entriesOf entries.entries entries.nth namePart refusal repeated utf8.scan utf8.afterWidth utf8.firstIllFormed lines.badFrom lines.badTable reading.step reading.read reading.tapeRefusal firstBad label.splits label.labelRefusal infoAt nodes runs names.frontMatter names.noteOnly books.bookCodes books.codeFrom books.bookOf attributes.attributesFindings label.labelOf among checks.given checks.afterChapter checks.leafChecked checks.bookCode checks.afterId checks.numberMarkers afterMilestone openChecked walk textBefore unclosed closing
+unfolding put overlay ascii worked.shorterDocument worked.exampleTable worked.tapeOf utf8.table3-7 utf8.begins utf8.widthBy utf8.widthOf utf8.decoded utf8.decode inAny blankRanges blank charsPast bytesBefore blankText wordFrom half word equal all oneOf lines.lines lines.categories lines.roles entries.position entries.entriesOf entries.entries entries.nth namePart refusal repeated utf8.scan utf8.afterWidth utf8.firstIllFormed lines.badFrom lines.badTable reading.step reading.read reading.tapeRefusal firstBad label.splits label.labelRefusal infoAt nodes runs names.frontMatter names.noteOnly books.bookCodes books.codeFrom books.bookOf attributes.attributesFindings label.labelOf among checks.given checks.afterChapter checks.leafChecked checks.bookCode checks.afterId checks.numberMarkers afterMilestoneBy openCheckedBy walkBy textBefore unclosed closing
 checked-right = (refl, refl, refl)
 
 refused-right : (listAfter tooShort ≡ repeated 0 8) × (seenAfter tooShort ≡ repeated 4 7) × (openAfter tooShort ≡ start 5 ∷ [])
@@ -607,11 +607,11 @@ mismatch = ascii "milestone \\qt-s has no matching \\qt-e"
 
 -- the right results
 report-right : (reportHere roomy ≡ 0 ∷ 0 ∷ 0 ∷ 1 ∷ 1 ∷ 0 ∷ 1 ∷ 0 ∷ 0 ∷ 0 ∷ 0 ∷ 0 ∷ 1 ∷ 37 ∷ []) × (reportHere cramped ≡ 1 ∷ 0 ∷ 0 ∷ 1 ∷ 0 ∷ 0 ∷ 1 ∷ 0 ∷ 0 ∷ 0 ∷ 0 ∷ 0 ∷ 0 ∷ 0 ∷ []) × (reportHere empty ≡ 2 ∷ 4 ∷ 0 ∷ 0 ∷ 0 ∷ 0 ∷ 0 ∷ 0 ∷ 0 ∷ 2 ∷ 4 ∷ 0 ∷ 0 ∷ 0 ∷ [])
-unfolding checkedOf ofSeverity ascii worked.shorterDocument worked.exampleTable worked.tapeOf utf8.table3-7 utf8.begins utf8.widthBy utf8.widthOf utf8.decoded utf8.decode inAny blankRanges blank charsPast bytesBefore blankText wordFrom half word equal all oneOf lines.lines lines.categories lines.roles entries.position entries.entriesOf entries.entries entries.nth namePart refusal repeated utf8.scan utf8.afterWidth utf8.firstIllFormed lines.badFrom lines.badTable reading.step reading.read reading.tapeRefusal firstBad label.splits label.labelRefusal infoAt nodes runs names.frontMatter names.noteOnly books.bookCodes books.codeFrom books.bookOf attributes.attributesFindings label.labelOf among checks.given checks.afterChapter checks.leafChecked checks.bookCode checks.afterId checks.numberMarkers afterMilestone openChecked walk textBefore unclosed closing firstNine messageText allTexts documentTexts numberTexts markerTexts attributeTexts codeOf formOf joined filled shownOf textsFrom endsFrom over put overlay
+unfolding checkedOf ofSeverity ascii worked.shorterDocument worked.exampleTable worked.tapeOf utf8.table3-7 utf8.begins utf8.widthBy utf8.widthOf utf8.decoded utf8.decode inAny blankRanges blank charsPast bytesBefore blankText wordFrom half word equal all oneOf lines.lines lines.categories lines.roles entries.position entries.entriesOf entries.entries entries.nth namePart refusal repeated utf8.scan utf8.afterWidth utf8.firstIllFormed lines.badFrom lines.badTable reading.step reading.read reading.tapeRefusal firstBad label.splits label.labelRefusal infoAt nodes runs names.frontMatter names.noteOnly books.bookCodes books.codeFrom books.bookOf attributes.attributesFindings label.labelOf among checks.given checks.afterChapter checks.leafChecked checks.bookCode checks.afterId checks.numberMarkers afterMilestoneBy openCheckedBy walkBy textBefore unclosed closing firstNine messageText allTexts documentTexts numberTexts markerTexts attributeTexts codeOf formOf joined filled shownOf textsFrom endsFrom over put overlay
 report-right = (refl, refl, refl)
 
 report-text : reportText roomy (repeated 0 40) ≡ mismatch ++ repeated 0 3
-unfolding checkedOf ofSeverity ascii worked.shorterDocument worked.exampleTable worked.tapeOf utf8.table3-7 utf8.begins utf8.widthBy utf8.widthOf utf8.decoded utf8.decode inAny blankRanges blank charsPast bytesBefore blankText wordFrom half word equal all oneOf lines.lines lines.categories lines.roles entries.position entries.entriesOf entries.entries entries.nth namePart refusal repeated utf8.scan utf8.afterWidth utf8.firstIllFormed lines.badFrom lines.badTable reading.step reading.read reading.tapeRefusal firstBad label.splits label.labelRefusal infoAt nodes runs names.frontMatter names.noteOnly books.bookCodes books.codeFrom books.bookOf attributes.attributesFindings label.labelOf among checks.given checks.afterChapter checks.leafChecked checks.bookCode checks.afterId checks.numberMarkers afterMilestone openChecked walk textBefore unclosed closing firstNine messageText allTexts documentTexts numberTexts markerTexts attributeTexts codeOf formOf joined filled shownOf textsFrom endsFrom over put overlay
+unfolding checkedOf ofSeverity ascii worked.shorterDocument worked.exampleTable worked.tapeOf utf8.table3-7 utf8.begins utf8.widthBy utf8.widthOf utf8.decoded utf8.decode inAny blankRanges blank charsPast bytesBefore blankText wordFrom half word equal all oneOf lines.lines lines.categories lines.roles entries.position entries.entriesOf entries.entries entries.nth namePart refusal repeated utf8.scan utf8.afterWidth utf8.firstIllFormed lines.badFrom lines.badTable reading.step reading.read reading.tapeRefusal firstBad label.splits label.labelRefusal infoAt nodes runs names.frontMatter names.noteOnly books.bookCodes books.codeFrom books.bookOf attributes.attributesFindings label.labelOf among checks.given checks.afterChapter checks.leafChecked checks.bookCode checks.afterId checks.numberMarkers afterMilestoneBy openCheckedBy walkBy textBefore unclosed closing firstNine messageText allTexts documentTexts numberTexts markerTexts attributeTexts codeOf formOf joined filled shownOf textsFrom endsFrom over put overlay
 report-text = refl
 
 -- a document whose list is cut, written as checked
@@ -1013,7 +1013,7 @@ anchorKind (some a) = a .kind
 
 -- the right results: the children of `\p` have one warning in example 1; the anchor after its nodes is the chapter; the `\ca` of example 5 have no finding, from the start on or after the chapter
 walk-right : (counted (warnings 0) (walkFrom worked.example1 1 9 fresh .findings) ≡ warnings 1) × (anchorKind (walkFrom worked.example1 1 9 fresh .anchor) ≡ 3) × (counted (warnings 0) (walkFrom worked.example5 1 13 fresh .findings) ≡ warnings 0) × (counted (warnings 0) (walkFrom worked.example5 5 13 afterChapter .findings) ≡ warnings 0)
-unfolding ascii worked.exampleTable worked.tapeOf utf8.table3-7 utf8.begins utf8.widthBy utf8.widthOf utf8.decoded utf8.decode inAny blankRanges blank charsPast bytesBefore findByte trimStart kept trim blankText wordFrom allDigits valueFrom digitsFrom digits parsed half word nodes followed runs equal all oneOf lines.lines lines.categories lines.roles entries.position entries.entriesOf entries.entries entries.nth names.frontMatter names.noteOnly books.bookCodes books.codeFrom books.bookOf attributes.attributesFindings namePart partOf versePart verseEnd next inSequence label.labelOf isAlternate isPublished plain runOf startOffsets among checks.given checks.afterChapter checks.afterVerse checks.leafChecked checks.bookCode checks.afterId checks.numberMarkers afterMilestone openChecked walk counted worked.example1 worked.example5 latest openNodes
+unfolding ascii worked.exampleTable worked.tapeOf utf8.table3-7 utf8.begins utf8.widthBy utf8.widthOf utf8.decoded utf8.decode inAny blankRanges blank charsPast bytesBefore findByte trimStart kept trim blankText wordFrom allDigits valueFrom digitsFrom digits parsed half word nodes followed runs equal all oneOf lines.lines lines.categories lines.roles entries.position entries.entriesOf entries.entries entries.nth names.frontMatter names.noteOnly books.bookCodes books.codeFrom books.bookOf attributes.attributesFindings namePart partOf versePart verseEnd next inSequence label.labelOf isAlternate isPublished plain runOf startOffsets among checks.given checks.afterChapter checks.afterVerse checks.leafChecked checks.bookCode checks.afterId checks.numberMarkers afterMilestoneBy openCheckedBy walkBy counted worked.example1 worked.example5 latest openNodes
 walk-right = (refl, refl, refl, refl)
 
 -- a walk that passes over the children of a marker
@@ -1147,7 +1147,7 @@ VisitedAt x to r l seen opens l′ q = Visited worked.exampleTable (x .source) (
 
 -- in example 1 its verse is out of sequence, and in example 13 it stands before any chapter; both meet what the visit requires
 visit-allowed : VisitAllowed worked.example1 9 afterChapter × VisitAllowed worked.example13 7 afterIdentification
-unfolding ascii worked.exampleTable worked.tapeOf utf8.table3-7 utf8.begins utf8.widthBy utf8.widthOf utf8.decoded utf8.decode inAny blankRanges blank charsPast bytesBefore findByte trimStart kept trim blankText wordFrom allDigits valueFrom digitsFrom digits parsed half word nodes followed runs equal all oneOf lines.lines lines.categories lines.roles entries.position entries.entriesOf entries.entries entries.nth names.frontMatter names.noteOnly books.bookCodes books.codeFrom books.bookOf attributes.attributesFindings namePart partOf versePart verseEnd next inSequence label.labelOf isAlternate isPublished plain runOf startOffsets among checks.given checks.afterVerse checks.leafChecked checks.bookCode checks.afterId checks.numberMarkers afterMilestone openChecked walk latest openNodes repeated worked.example1 worked.example13
+unfolding ascii worked.exampleTable worked.tapeOf utf8.table3-7 utf8.begins utf8.widthBy utf8.widthOf utf8.decoded utf8.decode inAny blankRanges blank charsPast bytesBefore findByte trimStart kept trim blankText wordFrom allDigits valueFrom digitsFrom digits parsed half word nodes followed runs equal all oneOf lines.lines lines.categories lines.roles entries.position entries.entriesOf entries.entries entries.nth names.frontMatter names.noteOnly books.bookCodes books.codeFrom books.bookOf attributes.attributesFindings namePart partOf versePart verseEnd next inSequence label.labelOf isAlternate isPublished plain runOf startOffsets among checks.given checks.afterVerse checks.leafChecked checks.bookCode checks.afterId checks.numberMarkers afterMilestoneBy openCheckedBy walkBy latest openNodes repeated worked.example1 worked.example13
 visit-allowed = (
   (
     record {
@@ -1193,7 +1193,7 @@ paragraphVerses = visitState worked.exampleTable (worked.example1 .source) (tape
 
 -- the right results: one warning and one verse in example 1; in example 13 one error, BodyParagraphBeforeChapter
 visit-right : (counted (warnings 0) (paragraphFindings worked.example1 9 afterChapter) ≡ warnings 1) × (paragraphVerses ≡ 1) × (counted (errors 0) (paragraphFindings worked.example13 7 afterIdentification) ≡ errors 1) × (overlay (repeated 0 8) 0 (paragraphFindings worked.example13 7 afterIdentification) ≡ 0 ∷ 24 ∷ 9 ∷ 2 ∷ 5 ∷ 0 ∷ 0 ∷ 0 ∷ [])
-unfolding ascii worked.exampleTable worked.tapeOf utf8.table3-7 utf8.begins utf8.widthBy utf8.widthOf utf8.decoded utf8.decode inAny blankRanges blank charsPast bytesBefore findByte trimStart kept trim blankText wordFrom allDigits valueFrom digitsFrom digits parsed half word nodes followed runs equal all oneOf lines.lines lines.categories lines.roles entries.position entries.entriesOf entries.entries entries.nth names.frontMatter names.noteOnly books.bookCodes books.codeFrom books.bookOf attributes.attributesFindings namePart partOf versePart verseEnd next inSequence label.labelOf isAlternate isPublished plain runOf startOffsets among checks.given checks.afterVerse checks.leafChecked checks.bookCode checks.afterId checks.numberMarkers afterMilestone openChecked walk counted repeated put overlay worked.example1 worked.example13
+unfolding ascii worked.exampleTable worked.tapeOf utf8.table3-7 utf8.begins utf8.widthBy utf8.widthOf utf8.decoded utf8.decode inAny blankRanges blank charsPast bytesBefore findByte trimStart kept trim blankText wordFrom allDigits valueFrom digitsFrom digits parsed half word nodes followed runs equal all oneOf lines.lines lines.categories lines.roles entries.position entries.entriesOf entries.entries entries.nth names.frontMatter names.noteOnly books.bookCodes books.codeFrom books.bookOf attributes.attributesFindings namePart partOf versePart verseEnd next inSequence label.labelOf isAlternate isPublished plain runOf startOffsets among checks.given checks.afterVerse checks.leafChecked checks.bookCode checks.afterId checks.numberMarkers afterMilestoneBy openCheckedBy walkBy counted repeated put overlay worked.example1 worked.example13
 visit-right = (refl, refl, refl, refl)
 
 -- a visit that passes over the children
@@ -1336,7 +1336,7 @@ findings9 = ap (λ (fs : List (List Finding)). getD fs 8 []) worked-examples
 
 -- the right results: the errors and the words of example 9, and the verses of example 1
 run-right : (counted (errors 0) (worked.example9 .wanted) ≡ errors 2) × (overlay (repeated 0 16) 0 (worked.example9 .wanted) ≡ words14 ++ words16) × (versesVisited worked.exampleTable (forests.top (worked.example1 .source) (tapeIn worked.example1)) ≡ 1)
-unfolding ascii worked.exampleTable worked.tapeOf utf8.table3-7 utf8.begins utf8.widthBy utf8.widthOf utf8.decoded utf8.decode inAny blankRanges blank charsPast bytesBefore findByte trimStart kept trim blankText wordFrom allDigits valueFrom digitsFrom digits parsed half word nodes followed runs equal all oneOf lines.lines lines.categories lines.roles entries.position entries.entriesOf entries.entries entries.nth names.frontMatter names.noteOnly books.bookCodes books.codeFrom books.bookOf attributes.attributesFindings namePart partOf versePart verseEnd next inSequence label.labelOf isAlternate isPublished plain runOf startOffsets among checks.given checks.afterChapter checks.afterVerse checks.leafChecked checks.bookCode checks.afterId checks.numberMarkers afterMilestone openChecked walk counted repeated put overlay worked.example1 worked.example9
+unfolding ascii worked.exampleTable worked.tapeOf utf8.table3-7 utf8.begins utf8.widthBy utf8.widthOf utf8.decoded utf8.decode inAny blankRanges blank charsPast bytesBefore findByte trimStart kept trim blankText wordFrom allDigits valueFrom digitsFrom digits parsed half word nodes followed runs equal all oneOf lines.lines lines.categories lines.roles entries.position entries.entriesOf entries.entries entries.nth names.frontMatter names.noteOnly books.bookCodes books.codeFrom books.bookOf attributes.attributesFindings namePart partOf versePart verseEnd next inSequence label.labelOf isAlternate isPublished plain runOf startOffsets among checks.given checks.afterChapter checks.afterVerse checks.leafChecked checks.bookCode checks.afterId checks.numberMarkers afterMilestoneBy openCheckedBy walkBy counted repeated put overlay worked.example1 worked.example9
 run-right = (refl, refl, refl)
 
 -- a run whose counts miss the closing findings
@@ -1369,7 +1369,7 @@ checked-allowed = record { indexed = indexed; accepted = examples-accepted .4; s
 
 -- the right results
 finished-right : (answerWords (outcome.checked (checkedOf roomy)) ≡ 0 ∷ 0 ∷ 0 ∷ 1 ∷ 1 ∷ 0 ∷ 1 ∷ 0 ∷ 0 ∷ []) × (overlay (roomy .list) 0 (findings (roomy .table) (forests.top (roomy .source) (roomy .tape))) ≡ words5)
-unfolding put overlay checkedOf ofSeverity ascii worked.shorterDocument worked.exampleTable worked.tapeOf utf8.table3-7 utf8.begins utf8.widthBy utf8.widthOf utf8.decoded utf8.decode inAny blankRanges blank charsPast bytesBefore blankText wordFrom half word equal all oneOf lines.lines lines.categories lines.roles entries.position entries.entriesOf entries.entries entries.nth namePart repeated nodes runs names.frontMatter names.noteOnly books.bookCodes books.codeFrom books.bookOf attributes.attributesFindings label.labelOf among checks.given checks.afterChapter checks.leafChecked checks.bookCode checks.afterId checks.numberMarkers afterMilestone openChecked walk textBefore unclosed closing
+unfolding put overlay checkedOf ofSeverity ascii worked.shorterDocument worked.exampleTable worked.tapeOf utf8.table3-7 utf8.begins utf8.widthBy utf8.widthOf utf8.decoded utf8.decode inAny blankRanges blank charsPast bytesBefore blankText wordFrom half word equal all oneOf lines.lines lines.categories lines.roles entries.position entries.entriesOf entries.entries entries.nth namePart repeated nodes runs names.frontMatter names.noteOnly books.bookCodes books.codeFrom books.bookOf attributes.attributesFindings label.labelOf among checks.given checks.afterChapter checks.leafChecked checks.bookCode checks.afterId checks.numberMarkers afterMilestoneBy openCheckedBy walkBy textBefore unclosed closing
 finished-right = (refl, refl)
 
 -- an answer that calls the full list cut
@@ -1408,7 +1408,7 @@ passed-allowed = (indexed, refl)
 
 -- the right results
 passed-right : (answerWords (answer ample) ≡ 0 ∷ 0 ∷ 0 ∷ 1 ∷ 1 ∷ 0 ∷ 1 ∷ 0 ∷ 0 ∷ []) × (listAfter ample ≡ words5) × (seenAfter ample ≡ repeated 0 7 ++ 4 ∷ 4 ∷ []) × (openAfter ample ≡ repeated noStart 7 ++ start 5 ∷ start 5 ∷ [])
-unfolding put overlay checkedOf ofSeverity ascii worked.shorterDocument worked.exampleTable worked.tapeOf utf8.table3-7 utf8.begins utf8.widthBy utf8.widthOf utf8.decoded utf8.decode inAny blankRanges blank charsPast bytesBefore blankText wordFrom half word equal all oneOf lines.lines lines.categories lines.roles entries.position entries.entriesOf entries.entries entries.nth namePart refusal repeated utf8.scan utf8.afterWidth utf8.firstIllFormed lines.badFrom lines.badTable reading.step reading.read reading.tapeRefusal firstBad label.splits label.labelRefusal infoAt nodes runs names.frontMatter names.noteOnly books.bookCodes books.codeFrom books.bookOf attributes.attributesFindings label.labelOf among checks.given checks.afterChapter checks.leafChecked checks.bookCode checks.afterId checks.numberMarkers afterMilestone openChecked walk textBefore unclosed closing
+unfolding put overlay checkedOf ofSeverity ascii worked.shorterDocument worked.exampleTable worked.tapeOf utf8.table3-7 utf8.begins utf8.widthBy utf8.widthOf utf8.decoded utf8.decode inAny blankRanges blank charsPast bytesBefore blankText wordFrom half word equal all oneOf lines.lines lines.categories lines.roles entries.position entries.entriesOf entries.entries entries.nth namePart refusal repeated utf8.scan utf8.afterWidth utf8.firstIllFormed lines.badFrom lines.badTable reading.step reading.read reading.tapeRefusal firstBad label.splits label.labelRefusal infoAt nodes runs names.frontMatter names.noteOnly books.bookCodes books.codeFrom books.bookOf attributes.attributesFindings label.labelOf among checks.given checks.afterChapter checks.leafChecked checks.bookCode checks.afterId checks.numberMarkers afterMilestoneBy openCheckedBy walkBy textBefore unclosed closing
 passed-right = (refl, refl, refl, refl)
 
 -- a document turned back for working lists longer than its tape

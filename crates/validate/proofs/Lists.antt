@@ -1,4 +1,4 @@
--- Demand 3 for the lists that the check writes; and which number is given.
+-- Demand 3 and the quotation account for the lists that the check writes; and which number is given.
 -- Assumes nothing.
 use Prim.Native.Nat.{ℕ, zero, suc, _+_, _-_, _*_, _<_, _≤_}
 use native.Mathlib.Omega.{arith}
@@ -18,13 +18,15 @@ use Rattle.refusals.proofs.First.{which}
 use Rattle.findings.specs.Finding.{Finding}
 use Rattle.findings.specs.Written.{room, overlay, encode, findingsIn}
 use Rattle.findings.proofs.Overlay.{overlay-is, overlay-cut, encode-append, encode-length, findings-in-words}
-use Rattle.tape.specs.Nodes.{linkAt}
+use Rattle.tape.specs.Nodes.{nodeAt, linkAt}
 use Rattle.definition.specs.Milestones.{visits, marks, takenFrom}
 use Rattle.definition.specs.Document.{running, closing, walked, those, isUnclosed}
+use Rattle.definition.specs.Account.{visitedStarts, visitedEnds, pairsOf, mismatchesOf}
 use Rattle.definition.specs.Outcome.{Lent, of1, of2, of3, ofTape, of9, of10, refusal, listOf, checkedOf, listAfter}
 use Rattle.definition.proofs.Demand3.{longer-keeps-findings}
 use Rattle.definition.proofs.Counted.{uncut-fits}
 use Rattle.definition.proofs.Unclosed.{longer-unclosed}
+use Rattle.definition.proofs.Paired.{quotation-account}
 
 few : (n : ℕ) (fs : List Finding) → length (take n fs) ≤ n
 few zero fs = omega arith
@@ -78,6 +80,10 @@ uncut-words l e uncut =
 module _ (l l′ : Lent) (same-table : l .table ≡ l′ .table) (short : refusal l ≡ none) (long : refusal l′ ≡ none) (alike : BeginAlike (l .source) (l .tape) (l′ .source) (l′ .tape)) (all : checkedOf l .cut ≡ false) (all′ : checkedOf l′ .cut ≡ false) where
   pub longer-unclosed-words : those (λ e. isUnclosed e && ltb (e .node) (linkAt (l .tape) 0)) (writtenFindings l′) ≡ those (λ e. isUnclosed e && not (takenFrom (linkAt (l .tape) 0) (e .node) (marks (visits (l′ .table) (top (l′ .source) (l′ .tape)))))) (writtenFindings l)
   longer-unclosed-words = rw (uncut-words l short all, uncut-words l′ long all′) (longer-unclosed l l′ same-table short long alike)
+
+-- the quotation account for the words of a list that isn't cut
+pub account-of-words : (l : Lent) → refusal l ≡ none → checkedOf l .cut ≡ false → (base : List ℕ) → visitedStarts base (visits (l .table) (top (l .source) (l .tape))) + visitedEnds base (visits (l .table) (top (l .source) (l .tape))) ≡ 2 * pairsOf base (marks (visits (l .table) (top (l .source) (l .tape)))) + mismatchesOf base (nodeAt (l .source) (l .tape)) (writtenFindings l)
+account-of-words l e all base = rw (uncut-words l e all) (quotation-account l e base)
 
 -- which of the numbers is given: the first whose own part gives it, no earlier one being given
 pub data Given (l : Lent) (r : Refusal) : Type 0 where

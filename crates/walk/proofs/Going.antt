@@ -30,7 +30,7 @@ use Rattle.definition.specs.State.{WalkState, Anchor}
 use Rattle.definition.specs.State as state
 use Rattle.numbers.specs.Label.{numbered}
 use Rattle.definition.specs.Checks.{entryOf, leafChecked, given}
-use Rattle.definition.specs.Walk.{walk, withFindings}
+use Rattle.definition.specs.Walk.{walkBy, walk, withFindings}
 use Rattle.definition.specs.Walk as def
 use Rattle.definition.specs.declared.OpenStart.{OpenStart}
 use Rattle.state.specs.Inner.{stateOf, countsOf, anchorOf, startsFor, VerseBounded, Opens}
@@ -76,7 +76,7 @@ going-start table index entries s t depth o from to seen opens l r numbers ready
 module _ {table index : List ℕ} {entries : ℕ} {s t : List ℕ} {depth : ℕ} {o : state.WalkContext} {from to : ℕ} {w₀ : def.Walked} {l₀ : List ℕ} {r₀ : State} {seen : List ℕ} {opens : List OpenStart} {l : List ℕ} {r : State} {numbers : Attached} {i : ℕ} (g : Going table index entries s t depth o from to w₀ l₀ r₀ seen opens l r numbers i) where
   -- at the end of the run
   pub going-end : to ≤ i → RunWalked s t w₀ depth from to l₀ r₀ seen opens l r
-  unfolding walk
+  unfolding walkBy
   going-end h =
       let k = g .within in
       let z : i ≡ to = omega arith in

@@ -18,7 +18,7 @@ use Rattle.numbers.specs.Label.{numbered}
 use Rattle.definition.specs.State.{WalkState}
 use Rattle.definition.specs.State as state
 use Rattle.definition.specs.Checks.{given, leafChecked}
-use Rattle.definition.specs.Walk.{walk}
+use Rattle.definition.specs.Walk.{walkBy, walk}
 use Rattle.definition.specs.Walk as Walk
 use Rattle.definition.specs.declared.OpenStart.{OpenStart}
 use Rattle.state.specs.Inner.{stateOf, countsOf}
@@ -65,7 +65,7 @@ abbrev still : WalkState → Walk.Walked
 still st = record { findings = []; anchor = none; state = st }
 
 pub skipped-walk : (table : List ℕ) (o : state.WalkContext) (f : Forest) (st : WalkState) → canSkipChildren f ≡ true → walk table o none f st ≡ still st
-unfolding canSkipChildren walk leafChecked given
+unfolding canSkipChildren walkBy leafChecked given
 skipped-walk table o end st h = refl
 skipped-walk table o (leaf x r) st h = go (numbered (x .kind)) refl h (λ q. skipped-walk table o r st q)
   where

@@ -25,7 +25,7 @@ use Rattle.attachment.specs.declared.Attached.{Attached}
 use Rattle.definition.specs.State.{WalkState, Anchor, past, NodeChecked}
 use Rattle.definition.specs.State as state
 use Rattle.definition.specs.Checks.{entryOf, leafChecked}
-use Rattle.definition.specs.Walk.{leafAnchor, openChecked, inside, withFindings, afterNode, thenWalk, byEntry, walk}
+use Rattle.definition.specs.Walk.{leafAnchor, openChecked, inside, withFindings, afterNode, thenWalk, byEntry, walkBy, walk}
 use Rattle.definition.specs.Walk as def
 use Rattle.state.specs.Inner.{stateOf, countsOf, anchorOf, startsFor, withAnchor, VerseBounded}
 use Rattle.state.specs.declared.State.{State}
@@ -36,7 +36,7 @@ use Rattle.findings.specs.Inner.{Room}
 
 -- a marker with its entry, its children and what follows it
 open-walk : (table : List ℕ) (o : state.WalkContext) (a : Option Anchor) (x : Node) (c r : Forest) (st : WalkState) (e : Entry) → entryOf table x ≡ some e → walk table o a (node x c r) st ≡ withFindings (openChecked table o a st e x c (node x c r) .findings ++ walk table (inside o e) none c (openChecked table o a st e x c (node x c r) .state) .findings) (walk table o (past a (node x c end)) r (walk table (inside o e) none c (openChecked table o a st e x c (node x c r) .state) .state))
-unfolding walk
+unfolding walkBy
 open-walk table o a x c r st e h =
     let t = openChecked table o a st e x c (node x c r) in
     let w = walk table (inside o e) none c (t .state) in
@@ -106,7 +106,7 @@ module _ (s t : List ℕ) (d i to : ℕ) (ok : Accepted s t) (nested : Nested t 
 
     -- the walk from a leaf on
     pub walk-leaf : (table : List ℕ) (o : state.WalkContext) (n : ℕ) (st : WalkState) → Anchored t d n i → walk table o (anchorOf s t n i) (forest s t i to) st ≡ withFindings (leafChecked table o st (nodeAt s t i) .findings) (walk table o (anchorOf s t (anchorAfter t i n) next) (forest s t next to) (leafChecked table o st (nodeAt s t i) .state))
-    unfolding walk
+    unfolding walkBy
     walk-leaf table o n st a = rw (forest-at-leaf s t i to run more leafy, leaf-anchor n a)
 
   -- an open node
@@ -122,11 +122,11 @@ module _ (s t : List ℕ) (d i to : ℕ) (ok : Accepted s t) (nested : Nested t 
 
     -- without a table entry it is passed over
     pub walk-skip : (table : List ℕ) (o : state.WalkContext) (n : ℕ) (st : WalkState) → Anchored t d n i → entryOf table x ≡ none → walk table o (anchorOf s t n i) (forest s t i to) st ≡ walk table o (anchorOf s t n next) (forest s t next to) st
-    unfolding walk
+    unfolding walkBy
     walk-skip table o n st a e = rw (forest-at-open s t i to run more opened, e, open-anchor n a)
 
     pub walk-open : (table : List ℕ) (o : state.WalkContext) (n : ℕ) (st : WalkState) (e : Entry) → Anchored t d n i → entryOf table x ≡ some e → walk table o (anchorOf s t n i) (forest s t i to) st ≡ withFindings (openChecked table o (anchorOf s t n i) st e x c (forest s t i to) .findings ++ walk table (inside o e) none c (openChecked table o (anchorOf s t n i) st e x c (forest s t i to) .state) .findings) (walk table o (anchorOf s t n next) (forest s t next to) (walk table (inside o e) none c (openChecked table o (anchorOf s t n i) st e x c (forest s t i to) .state) .state))
-    unfolding walk
+    unfolding walkBy
     walk-open table o n st e a h =
         rw (forest-at-open s t i to run more opened) (open-walk table o (anchorOf s t n i) x c (forest s t next to) st e h ∙ rw (open-anchor n a))
 

@@ -26,7 +26,7 @@ use Rattle.definition.specs.State.{WalkState, Anchor, NodeChecked}
 use Rattle.definition.specs.State as state
 use Rattle.definition.specs.Checks.{given, afterId}
 use Rattle.definition.specs.Milestones.{milestoneChecks, afterMilestone}
-use Rattle.definition.specs.Walk.{walk, openChecked, inside}
+use Rattle.definition.specs.Walk.{walk, openCheckedBy, inside}
 use Rattle.definition.specs.Walk as def
 use Rattle.definition.specs.declared.OpenStart.{OpenStart}
 use Rattle.state.specs.Inner.{stateOf, countsOf, anchorOf, withCounts, withAnchor, VerseBounded, Opens}
@@ -76,11 +76,11 @@ module _ {table index : List ℕ} {entries : ℕ} {s t : List ℕ} {depth : ℕ}
 
   -- the parts of what is said
   open-findings : openCheckedAt table s t o e i to seen opens r .findings ≡ own ++ milestone
-  unfolding openChecked afterId
+  unfolding openCheckedBy afterId
   open-findings = refl
 
   open-state : openCheckedAt table s t o e i to seen opens r .state ≡ afterMilestone e st₁ x
-  unfolding openChecked
+  unfolding openCheckedBy
   open-state = refl
 
   parts : visitFindings table s t o e i to seen opens r ≡ (own ++ milestone) ++ children

@@ -10,10 +10,11 @@ use std::time::Instant;
 use oracle::arguments::numbers;
 use oracle::document::{Document, kind};
 use oracle::exhaustive::{
-    every_nesting, every_pair_of_bases, every_pair_of_labels, every_pair_of_spans, every_tape,
+    every_nesting, every_pair_of_bases, every_pair_of_labels, every_pair_of_spans,
+    every_row_of_milestones, every_tape,
 };
 use oracle::faults;
-use oracle::generate::{generate, lengths};
+use oracle::generate::{generate, lengths, quoted};
 use oracle::published::overflow_is_noticed;
 use oracle::refusals::DEEPEST;
 use oracle::samples::{self, Builder, entry};
@@ -28,6 +29,10 @@ const NODES: usize = 3;
 /// Bases are compared by 8 bytes, labels by 64 nodes: the longest of which there are all pairs.
 const LONGEST_BASE: usize = 34;
 const LABELLED: usize = 130;
+/// The longest row of milestones of which there are all.
+const LONGEST_ROW: usize = 5;
+/// For so many generated documents there is one more of many milestones.
+const PER_QUOTED: u64 = 100;
 /// So many generated documents reach every form and every refusal.
 const REACHES_ALL: u64 = 200_000;
 
@@ -81,6 +86,11 @@ fn pairs() -> Result<Counts, String> {
     })
 }
 
+/// Every short row of milestones.
+fn milestones() -> Result<Counts, String> {
+    each(|visit| every_row_of_milestones(LONGEST_ROW, visit))
+}
+
 /// A verse inside as many markers as may nest, checked on a small stack.
 fn deepest() -> Result<Counts, String> {
     let check = || {
@@ -118,11 +128,14 @@ fn run() -> Result<(), String> {
     println!("deepest, on a stack of 256 KiB: {}", deepest()?.line());
     println!("every small document: {}", small(tokens as usize)?.line());
     println!("pairs of all lengths: {}", pairs()?.line());
-    let source = Source {
-        document: generate,
-        lengths,
+    println!("short rows of milestones: {}", milestones()?.line());
+    let compare_some = |document: fn(u64) -> Document, count: u64| {
+        let source = Source { document, lengths };
+        compare_seeds(source, seed, count, threads as usize)
     };
-    let sum = compare_seeds(source, seed, documents, threads as usize)?;
+    let many = compare_some(quoted, documents / PER_QUOTED)?;
+    println!("many milestones: {}", many.line());
+    let sum = compare_some(generate, documents)?;
     let end = seed + documents;
     println!("generated, seeds {seed} to {}: {}", end - 1, sum.line());
     print!("{}", sum.reached.report());

@@ -36,6 +36,31 @@ fn pair_of_bases(bases: [&str; 2], plus: [&str; 2], end: &str) -> Document {
     builder.under(&[entry("qt-s", 6, 0)])
 }
 
+/// Calls `visit` with every row of up to `longest` milestones: starts and ends of two bases, of which one begins the other, and
+/// a start that is passed over.
+pub fn every_row_of_milestones(longest: usize, mut visit: impl FnMut(&Document)) {
+    const KINDS: [(u16, &str); 5] = [
+        (0, "\\qt-s"),
+        (0, "\\qt-e"),
+        (0, "\\qt1-s"),
+        (0, "\\qt1-e"),
+        (1, "\\qt-s"),
+    ];
+    for len in 0..=longest {
+        for row in 0..KINDS.len().pow(len as u32) {
+            let mut builder = Builder::default();
+            let mut rest = row;
+            for _ in 0..len {
+                let (marker, name) = KINDS[rest % KINDS.len()];
+                builder.open(marker, name);
+                builder.close(kind::MARKER_CLOSE, "\\*");
+                rest /= KINDS.len();
+            }
+            visit(&builder.under(&[entry("qt-s", 6, 0)]));
+        }
+    }
+}
+
 /// Calls `visit` with `nodes` nodes below the root, all Texts but two: Chapters or Verses whose numbers begin inside a
 /// character, or only the second one's.
 pub fn every_pair_of_labels(nodes: usize, mut visit: impl FnMut(&Document)) {
@@ -105,6 +130,13 @@ mod tests {
             count += 1;
         });
         assert_eq!(count, 2 * 4 * (1 + 2 + 3 + 4));
+    }
+
+    #[test]
+    fn rows_are_of_each_length() {
+        let mut lengths = [0; 4];
+        every_row_of_milestones(3, |document| lengths[document.node_count() / 2] += 1);
+        assert_eq!(lengths, [1, 5, 25, 125]);
     }
 
     #[test]

@@ -3,6 +3,7 @@
 use std::fmt::Write;
 
 use super::FINDING_WORDS;
+use super::accounts::Paired;
 use crate::reached::Reached;
 
 #[derive(Clone, Debug, Default, PartialEq, Eq)]
@@ -24,6 +25,8 @@ pub struct Counts {
     pub limited_cut: u64,
     /// Bytes of all lists that were lent, without their margins.
     pub lent_bytes: u64,
+    /// Milestones of the accepted.
+    pub paired: Paired,
     pub reached: Reached,
 }
 
@@ -40,6 +43,7 @@ impl Counts {
         self.limited += other.limited;
         self.limited_cut += other.limited_cut;
         self.lent_bytes += other.lent_bytes;
+        self.paired.add(&other.paired);
         self.reached.add(&other.reached);
     }
 
@@ -82,6 +86,10 @@ impl Counts {
             ("with limits", self.limited),
             ("cut by them", self.limited_cut),
             ("bytes lent", self.lent_bytes),
+            ("pairs of milestones", self.paired.pairs),
+            ("bases with several", self.paired.several),
+            ("bases with some and mismatches", self.paired.partly),
+            ("with crossing pairs", self.paired.crossing),
         ] {
             write!(text, ", {count} {name}").expect("a string takes all");
         }
