@@ -1,16 +1,16 @@
 //! Documents from a seed: text and tape written together as a parser would, then, part of the
 //! time, filled with what the check never reads, and damaged.
 
-mod attributes;
-mod damage;
+pub(crate) mod attributes;
+pub(crate) mod damage;
 mod framed;
 mod items;
-mod labels;
+pub(crate) mod labels;
 mod layout;
-mod names;
+pub(crate) mod names;
 mod quoted;
-mod tables;
-mod words;
+pub(crate) mod tables;
+pub(crate) mod words;
 
 use crate::document::{Document, Node, kind};
 use crate::rng::Rng;

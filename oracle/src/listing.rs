@@ -8,7 +8,7 @@ use crate::document::Document;
 use crate::published::{Found, Validated, validate};
 use crate::refusals::refusal;
 
-const LARGEST_FILE: usize = 65_536;
+pub const LARGEST_FILE: usize = 65_536;
 const MOST_FINDINGS: usize = 1_024;
 const LONGEST_MESSAGE: usize = 65_536;
 

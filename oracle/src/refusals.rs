@@ -17,7 +17,7 @@ pub fn refusal(document: &Document, seen_len: usize, open_len: usize) -> Option<
 }
 
 /// Number 1.
-fn table_refusal(table: &[u8]) -> Option<(u32, u64)> {
+pub fn table_refusal(table: &[u8]) -> Option<(u32, u64)> {
     let mut at = 0;
     let mut lines = 0;
     while at < table.len() {
@@ -56,7 +56,7 @@ fn is_one_of(word: &str, words: &[&str]) -> bool {
 }
 
 /// Numbers 2 and 3.
-fn source_refusal(source: &[u8]) -> Option<(u32, u64)> {
+pub fn source_refusal(source: &[u8]) -> Option<(u32, u64)> {
     if source.len() > LARGEST_SOURCE {
         return Some((2, 0));
     }

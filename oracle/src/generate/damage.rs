@@ -55,8 +55,8 @@ const LINES: [&[u8]; 16] = [
 pub fn damage(rng: &mut Rng, document: &mut Document) {
     for _ in 0..rng.weighted(&[0, 75, 18, 7]) {
         match rng.weighted(&[14, 26, 60]) {
-            0 => damage_table(rng, document),
-            1 => damage_source(rng, document),
+            0 => damage_table(rng, &mut document.table),
+            1 => damage_source(rng, &mut document.source),
             _ => damage_tape(rng, document),
         }
     }
@@ -89,8 +89,7 @@ fn cut(rng: &mut Rng, list: &mut Vec<u8>) {
 
 // --- the table ---
 
-fn damage_table(rng: &mut Rng, document: &mut Document) {
-    let table = &mut document.table;
+pub fn damage_table(rng: &mut Rng, table: &mut Vec<u8>) {
     match rng.below(12) {
         0 => change_byte(rng, table),
         1 => remove_byte(rng, table),
@@ -149,8 +148,7 @@ fn shorten_table(rng: &mut Rng, table: &mut Vec<u8>) {
 
 // --- the source ---
 
-fn damage_source(rng: &mut Rng, document: &mut Document) {
-    let source = &mut document.source;
+pub fn damage_source(rng: &mut Rng, source: &mut Vec<u8>) {
     match rng.below(14) {
         0 => change_byte(rng, source),
         1..6 => change_ascii(rng, source),
