@@ -264,7 +264,9 @@ pub extern "C" fn compared_lookup(table: &[u8], name: &[u8]) -> u64 {
     let Layout::Good(n) = table::index(table, &mut index) else {
         return 4294967296;
     };
-    match MarkerId::lookup(table, &index, n, name) {
+    let mut chains = [0u16; 768];
+    table::link_names(table, &index, n, &mut chains);
+    match MarkerId::lookup(table, &index, n, &chains, name) {
         Lookup::Found(id) => id.0 as u64,
         Lookup::Unknown => 4294967296,
     }

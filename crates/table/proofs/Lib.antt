@@ -5,6 +5,8 @@ pub mod Positions
 pub mod Parts
 pub mod Finding
 pub mod Unpack
+pub mod Buckets
+pub mod Linking
 pub mod Values
 pub mod Heads
 pub mod Steps

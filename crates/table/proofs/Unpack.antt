@@ -1,23 +1,19 @@
 -- What the words of an index say of the entries of its table.
 -- Assumes nothing.
 use mathlib.Core.Path.{_≡_, refl, sym, ap, _∙_}
-use mathlib.Core.Bool.{true, false}
 use mathlib.Core.List.{List, [], _∷_}
 use mathlib.Core.Option.{some, none}
-use Prim.Native.Nat.{ℕ, zero, suc, _+_, _-_, _/_, _%_, _<_, _≤_}
+use Prim.Native.Nat.{ℕ, zero, suc, _+_, _/_, _%_, _<_, _≤_}
 use native.Mathlib.Nat.{not-suc-le-zero, le-of-suc-le-suc}
-use native.Mathlib.Numerals.{add-one}
 use native.Mathlib.Omega.{arith}
-use lib.ListN.{length, getD, take, drop, drop-of-length-le}
-use Rattle.text.specs.Pick.{cut}
+use lib.ListN.{length, getD, drop}
+use Rattle.text.specs.Pick.{cut, end}
 use Rattle.table.specs.declared.Category.{Category}
 use Rattle.table.specs.declared.TextRole.{TextRole}
 use Rattle.table.specs.declared.MarkerInfo.{MarkerInfo}
 use Rattle.table.specs.Entries.{Entry, entries, nth, entryOfInfo, categoryOf, roleOf}
-use Rattle.table.specs.Names.{namedFrom}
-use Rattle.table.specs.Inner.{categoryAt, roleAt, pack, Sound, Indexed}
+use Rattle.table.specs.Inner.{categoryAt, roleAt, pack, Sound, Indexed, nameIn}
 use Rattle.table.proofs.Positions.{category-back, role-back}
-use Rattle.text.specs.Bytes.{equal}
 
 -- past the last entry, and before its end
 pub info-past : (es : List Entry) (k : ℕ) → length es ≤ k → nth es k ≡ none
@@ -52,6 +48,10 @@ module _ (t ix : List ℕ) (n : ℕ) (h : Indexed t ix n) (k : ℕ) where
   pub name-inside : (m : MarkerInfo) → some (entryOfInfo m) ≡ nth (entries t) k → m .«name_start» + m .«name_len» ≤ length t
   name-inside m e = h .sound k (entryOfInfo m) (sym e) .inside
 
+  -- the word of an entry has its name
+  pub word-name : (e : Entry) → nth (entries t) k ≡ some e → cut (nameIn (getD ix k 0)) t ≡ cut (e .name) t
+  word-name e is = let u = unpacked t (getD ix k 0) e (h .each k e is) (h .sound k e is) in rw (u .start, u .len)
+
   pub past : n ≤ k → none ≡ nth (entries t) k
   past l = sym (info-past (entries t) k (omega arith))
 
@@ -68,7 +68,7 @@ module _ (t ix : List ℕ) (n : ℕ) (h : Indexed t ix n) (k : ℕ) where
     abbrev w : ℕ
     w = getD ix k 0
 
-    pub inside : w % 65536 + w / 65536 % 32 ≤ length t
+    pub inside : end (nameIn w) ≤ length t
     inside = rw (parts .start, parts .len) (sound .inside)
 
     pub info-known : (c : Category) (r : TextRole) → c ≡ categoryAt (w / 2097152 % 8) → r ≡ roleAt (w / 16777216) →
@@ -77,25 +77,3 @@ module _ (t ix : List ℕ) (n : ℕ) (h : Indexed t ix n) (k : ℕ) where
         let g : categoryOf c ≡ there .entry .category = ap categoryOf e ∙ category-back (w / 2097152 % 8) (rw (parts .category) (sound .category-low)) ∙ parts .category in
         let i : roleOf r ≡ there .entry .role = ap roleOf f ∙ role-back (w / 16777216) (rw (parts .role) (sound .role-low)) ∙ parts .role in
         sym (there .is ∙ rw (parts .start, parts .len, g, i))
-
-    module _ (s : List ℕ) where
-      -- the part of the text from the start of the name to its end
-      abbrev part : List ℕ
-      part = take (w % 65536 + w / 65536 % 32 - w % 65536) (drop (w % 65536) t)
-
-      part-is : part ≡ cut (there .entry .name) t
-      part-is =
-          let e : w % 65536 + w / 65536 % 32 - w % 65536 ≡ w / 65536 % 32 = omega arith in
-          rw (e, parts .start, parts .len)
-
-      pub name-hit : equal part s ≡ true → namedFrom t k (drop k (entries t)) s ≡ some k
-      unfolding namedFrom
-      name-hit e = rw (there .onward, ← part-is, e)
-
-      pub name-miss : equal part s ≡ false → namedFrom t k (drop k (entries t)) s ≡ namedFrom t (k + 1) (drop (k + 1) (entries t)) s
-      unfolding namedFrom
-      name-miss e = rw (there .onward, ← part-is, e, add-one)
-
-  pub name-none : (s : List ℕ) → n ≤ k → namedFrom t k (drop k (entries t)) s ≡ none
-  unfolding namedFrom
-  name-none s l = let g : length (entries t) ≤ k = omega arith in rw (drop-of-length-le (entries t) g)

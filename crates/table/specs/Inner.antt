@@ -1,12 +1,12 @@
 -- What the functions inside the crate promise.
-use Prim.Native.Nat.{ℕ, zero, suc, _+_, _*_, _<_, _≤_, _-_}
+use Prim.Native.Nat.{ℕ, zero, suc, _+_, _*_, _/_, _%_, _<_, _≤_, _-_}
 use mathlib.Core.Path.{_≡_}
 use mathlib.Core.Bool.{Bool, true, false, _&&_}
 use mathlib.Core.List.{List, [], _∷_}
 use mathlib.Core.Option.{Option, some, none}
 use lib.Dec.{eqb, ltb}
 use lib.ListN.{length, take, drop, getD}
-use Rattle.text.specs.Pick.{within, pick}
+use Rattle.text.specs.Pick.{Part, within, pick, cut}
 use Rattle.text.specs.Inner.{eightBytes}
 use Rattle.text.specs.Characters.{findByte}
 use Rattle.table.specs.Lines.{lines, nameKey, categoryKey, roleKey, categories, roles, nameByte, badFrom}
@@ -176,3 +176,35 @@ pub record Indexed (t ix : List ℕ) (n : ℕ) : Type 0 where
 abbrev pub leaves : List ℕ → List ℕ → Layout → Type 0
 leaves t ix (layout.Good n) = Indexed t ix n
 leaves t ix (layout.Bad at) = Unit {0}
+
+-- where the name stands that an entry's word holds
+abbrev pub nameIn : ℕ → Part
+nameIn w = record { start = w % 65536; len = w / 65536 % 32 }
+
+-- the bucket of a name, a number below 256: equal names have the same, and with these factors few other names do
+unfoldable pub bucketOf : List ℕ → ℕ
+bucketOf s = (5 * getD s 0 0 + getD s (length s / 2) 0 + 8 * getD s (length s - 1) 0) % 256
+
+-- the number of the first entry whose name has the bucket, counted from k
+unfoldable pub bucketFrom : List ℕ → ℕ → List Entry → ℕ → Option ℕ
+bucketFrom t k [] h = none
+bucketFrom t k (e ∷ es) h = pick (eqb (bucketOf (cut (e .name) t)) h) (some k) (bucketFrom t (suc k) es h)
+
+-- the first entry, from number j on, whose name has bucket h
+abbrev pub firstFrom : List ℕ → ℕ → ℕ → Option ℕ
+firstFrom t h j = bucketFrom t j (drop j (entries t)) h
+
+-- an entry or none as one number
+abbrev pub linkOf : Option ℕ → ℕ
+linkOf none = 0
+linkOf (some k) = k + 1
+
+-- the first n numbers are 0
+abbrev pub Cleared : ℕ → List ℕ → Type 0
+Cleared n l = (h : ℕ) → h < n → getD l h 0 ≡ 0
+
+-- the first entry of each bucket, then for each entry the next one of its bucket
+pub record Chained (t chains : List ℕ) : Type 0 where
+  pub room : 768 ≤ length chains
+  pub heads : (h : ℕ) → h < 256 → getD chains h 0 ≡ linkOf (firstFrom t h 0)
+  pub nexts : (k : ℕ) (e : Entry) → nth (entries t) k ≡ some e → getD chains (256 + k) 0 ≡ linkOf (firstFrom t (bucketOf (cut (e .name) t)) (k + 1))

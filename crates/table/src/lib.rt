@@ -4,6 +4,7 @@ ghost use Prim.Native.Nat.{_+_, _^_, _<_, _≤_};
 ghost use mathlib.Core.Bool.{not};
 ghost use mathlib.Core.Option.{some};
 ghost use lib.ListN.{length, drop, take};
+ghost use Rattle.text.specs.Pick;
 ghost use Rattle.text.specs.Pick.{cut, known};
 ghost use Rattle.text.specs.Characters.{findByte};
 ghost use Rattle.table.specs.Lines.{nameByte, categories, roles, badTable};
@@ -11,7 +12,7 @@ ghost use Rattle.table.specs.Entries;
 ghost use Rattle.table.specs.Entries.{nth, infoOf, entryOfInfo, layoutPlace, categoryOf, roleOf};
 ghost use Rattle.table.specs.Names.{undigited, strippedLength, tailOff, entryNamed, lookedUp, foundOf, defaultName, attributeName, frontMatter, noteOnly, gluedDigit};
 ghost use Rattle.table.specs.Books.{codeFrom, bookOf, idOf};
-ghost use Rattle.table.specs.Inner.{linesOf, triples, nameLength, valueOf, stepBy, stepWith, behindKey, stepOf, headOf, further, pastOf, LinesRead, attributeAt, categoryAt, roleAt, stripped, unglued, Indexed, leaves};
+ghost use Rattle.table.specs.Inner.{linesOf, triples, nameLength, valueOf, stepBy, stepWith, behindKey, stepOf, headOf, further, pastOf, LinesRead, attributeAt, categoryAt, roleAt, stripped, unglued, Indexed, leaves, nameIn, bucketOf, Cleared, Chained};
 ghost use Rattle.text.specs.Bytes.{oneOf, starting};
 
 // A place in the marker table.
@@ -565,30 +566,82 @@ pub fn name<'a>(table: &'a [u8], m: MarkerInfo) -> &'a [u8]
     &table[start..end]
 }
 
-fn find_name(table: &[u8], index: &[u64], entries: usize, name: &[u8]) -> Lookup
-    requires { ⌜ Indexed (now table) (now index) entries ⌝ }
+// The name in an entry's word.
+fn name_in<'a>(table: &'a [u8], word: u64) -> &'a [u8]
+    requires { ⌜ Pick.end (nameIn word) ≤ length (now table) ⌝ }
+    ensures { λ r. ⌜ now r ≡ cut (nameIn word) (now (table .entry)) ⌝ }
+{
+    let start = (word % 65536) as usize;
+    let end = start + (word / 65536 % 32) as usize;
+    &table[start..end]
+}
+
+// The bucket of a name, below 256. Of the markers of USFM 3.1 at most three share one.
+fn bucket_of(name: &[u8]) -> usize
+    ensures { λ r. ⌜ r ≡ bucketOf (now (name .entry)) ⌝ }
+{
+    let n = name.len();
+    if n == 0 {
+        return 0;
+    }
+    let first = name[0] as usize;
+    let middle = name[n / 2] as usize;
+    let last = name[n - 1] as usize;
+    (5 * first + middle + 8 * last) % 256
+}
+
+fn clear_heads(chains: &mut [u16])
+    requires { ⌜ 256 ≤ length (now chains) ⌝ }
+    ensures { λ r. ⌜ Cleared 256 (now (chains .exit)) ⌝ }
+{
+    let mut h: usize = 0;
+    while h < 256 {
+        chains[h] = 0;
+        h += 1;
+    }
+}
+
+// Links the entries whose names share a bucket, so that a name is compared with few others: 256 numbers for the first entry of
+// each bucket, then one for each entry, for the next of its bucket. A number is one more than the entry's, 0 for none.
+// From the last entry to the first, so that of equal names the first is met first.
+pub fn link_names(table: &[u8], index: &[u64], entries: usize, chains: &mut [u16])
+    requires { ⌜ Indexed (now table) (now index) entries × (768 ≤ length (now chains)) ⌝ }
+    ensures { λ r. ⌜ Chained (now (table .entry)) (now (chains .exit)) ⌝ }
+{
+    clear_heads(chains);
+    let mut k = entries;
+    while 0 < k {
+        let i = k - 1;
+        let h = bucket_of(name_in(table, index[i]));
+        chains[256 + i] = chains[h];
+        chains[h] = k as u16;
+        k = i;
+    }
+}
+
+// The first entry of that name, found among those of the name's bucket alone.
+fn find_name(table: &[u8], index: &[u64], entries: usize, chains: &[u16], name: &[u8]) -> Lookup
+    requires { ⌜ Indexed (now table) (now index) entries × Chained (now table) (now chains) ⌝ }
     ensures { λ r. ⌜ foundOf r ≡ entryNamed (now (table .entry)) (now (name .entry)) ⌝ }
 {
-    let mut k: usize = 0;
-    while k < entries {
-        let w = index[k];
-        let start = (w % 65536) as usize;
-        let end = start + (w / 65536 % 32) as usize;
-        if text::equal(&table[start..end], name) {
+    let mut link = chains[bucket_of(name)] as usize;
+    while 0 < link {
+        let k = link - 1;
+        if text::equal(name_in(table, index[k]), name) {
             return Lookup::Found(MarkerId(k as u16));
         }
-        k += 1;
+        link = chains[256 + k] as usize;
     }
     Lookup::Unknown
 }
 
-fn find_stripped(table: &[u8], index: &[u64], entries: usize, name: &[u8]) -> Lookup
-    requires { ⌜ Indexed (now table) (now index) entries ⌝ }
+fn find_stripped(table: &[u8], index: &[u64], entries: usize, chains: &[u16], name: &[u8]) -> Lookup
+    requires { ⌜ Indexed (now table) (now index) entries × Chained (now table) (now chains) ⌝ }
     ensures { λ r. ⌜ foundOf r ≡ stripped (now (table .entry)) (now (name .entry)) ⌝ }
 {
     let base = strip_level_suffix(name);
     if base.len() < name.len() {
-        find_name(table, index, entries, base)
+        find_name(table, index, entries, chains, base)
     } else {
         Lookup::Unknown
     }
@@ -611,12 +664,12 @@ fn is_glued(s: &[u8]) -> bool
     }
 }
 
-fn find_glued(table: &[u8], index: &[u64], entries: usize, name: &[u8]) -> Lookup
-    requires { ⌜ Indexed (now table) (now index) entries ⌝ }
+fn find_glued(table: &[u8], index: &[u64], entries: usize, chains: &[u16], name: &[u8]) -> Lookup
+    requires { ⌜ Indexed (now table) (now index) entries × Chained (now table) (now chains) ⌝ }
     ensures { λ r. ⌜ foundOf r ≡ unglued (now (table .entry)) (now (name .entry)) ⌝ }
 {
     if is_glued(name) {
-        find_name(table, index, entries, &name[..1])
+        find_name(table, index, entries, chains, &name[..1])
     } else {
         Lookup::Unknown
     }
@@ -645,15 +698,21 @@ impl MarkerId {
     }
 
     // The number of the marker that a name stands for.
-    pub fn lookup(table: &[u8], index: &[u64], entries: usize, name: &[u8]) -> Lookup
-        requires { ⌜ Indexed (now table) (now index) entries ⌝ }
+    pub fn lookup(
+        table: &[u8],
+        index: &[u64],
+        entries: usize,
+        chains: &[u16],
+        name: &[u8],
+    ) -> Lookup
+        requires { ⌜ Indexed (now table) (now index) entries × Chained (now table) (now chains) ⌝ }
         ensures { λ r. ⌜ foundOf r ≡ lookedUp (now (table .entry)) (now (name .entry)) ⌝ }
     {
-        match find_name(table, index, entries, name) {
+        match find_name(table, index, entries, chains, name) {
             Lookup::Found(id) => Lookup::Found(id),
-            Lookup::Unknown => match find_stripped(table, index, entries, name) {
+            Lookup::Unknown => match find_stripped(table, index, entries, chains, name) {
                 Lookup::Found(id) => Lookup::Found(id),
-                Lookup::Unknown => find_glued(table, index, entries, name),
+                Lookup::Unknown => find_glued(table, index, entries, chains, name),
             },
         }
     }

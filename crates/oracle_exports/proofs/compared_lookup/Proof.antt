@@ -1,8 +1,9 @@
--- `oracle_exports::compared_lookup` meets what it calls: the index is the one that the check left.
+-- `oracle_exports::compared_lookup` meets what it calls: the index is the one that the check left, and its names are linked.
 -- Assumes nothing.
 use borrow.Author.Needs.{needs}
 use denote.Ref.{now}
 use native.Mathlib.Omega.{arith}
+use Rattle.table.specs.Inner.{Indexed}
 use Rattle.oracle_exports.proofs.Indexing.{good-index}
 use Rattle.oracle_exports.proofs.compared_lookup.Statement.{statement}
 use Rattle.oracle_exports.proofs.compared_lookup.Tie as tie
@@ -22,14 +23,30 @@ enum-told c = search needs
 returns : tie.Need-returns
 returns c = search needs
 
+slice-aggregate-link-names : tie.Need-slice-aggregate-link-names
+slice-aggregate-link-names c = search needs
+
+slice-aggregate-link-names-2 : tie.Need-slice-aggregate-link-names-2
+slice-aggregate-link-names-2 c = search needs
+
+-- the index is the table's
+indexed : (c : tie.After-chains) → Indexed (now (c .before .before .before .before .before .before .before .before .before .before .args .table)) (c .before .before .before .before .before .before .index2 .last .1 .0) (c .before .before .before .n .given .0 .0)
+indexed c =
+    let i = c .before .before .before .before .before .before .index2 in
+    let n = c .before .before .before .n in
+    good-index (now (c .before .before .before .before .before .before .before .before .before .before .args .table)) _ (i .result) (n .given .0 .0) (n .given .1) (i .ensures .1)
+
+link-names-requires : tie.Need-link-names-requires
+link-names-requires c κs = (indexed c, omega arith)
+
 slice-aggregate-lookup : tie.Need-slice-aggregate-lookup
 slice-aggregate-lookup c = search needs
 
+slice-aggregate-lookup-2 : tie.Need-slice-aggregate-lookup-2
+slice-aggregate-lookup-2 c = search needs
+
 lookup-requires : tie.Need-lookup-requires
-lookup-requires c κs =
-    let i = c .before .before .before .before .before .index2 in
-    let n = c .before .before .n in
-    good-index (now (c .before .before .before .before .before .before .before .before .before .args .table)) _ (i .result) (n .given .0 .0) (n .given .1) (i .ensures .1)
+lookup-requires c κs = (indexed (c .before .before .before .before), c .before .before .before .link-names .ensures)
 
 enum-known-id : tie.Need-enum-known-id
 enum-known-id c = search needs
@@ -55,7 +72,11 @@ compared-lookup-spec =
     enum-known-n
     enum-told
     returns
+    slice-aggregate-link-names
+    slice-aggregate-link-names-2
+    link-names-requires
     slice-aggregate-lookup
+    slice-aggregate-lookup-2
     lookup-requires
     enum-known-id
     cast-result

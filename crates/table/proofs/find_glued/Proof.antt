@@ -12,7 +12,7 @@ is-glued-requires c κs = search needs
 
 slice-aggregate-find-name : tie.Need-slice-aggregate-find-name
 slice-aggregate-find-name c =
-    let s = now (c .before .before .before .before .before .before .args .name) in
+    let s = now (c .before .before .before .before .before .before .before .args .name) in
     sym (length-take-le 1 s (glued-long s _ (c .before .before .is-glued .ensures) (c .before .if1 .taken)))
 
 find-name-requires : tie.Need-find-name-requires
@@ -20,12 +20,12 @@ find-name-requires c κs = search needs
 
 returns : tie.Need-returns
 returns c =
-    let a = c .before .before .before .before .before .before .before .args in
+    let a = c .before .before .before .before .before .before .before .before .args in
     c .find-name .ensures ∙ glue-found (now (a .table)) (now (a .name)) _ (c .before .before .before .is-glued .ensures) (c .before .before .if1 .taken)
 
 returns-2 : tie.Need-returns-2
 returns-2 c =
-    let a = c .before .before .before .before .before .args in
+    let a = c .before .before .before .before .before .before .args in
     glue-none (now (a .table)) (now (a .name)) _ (c .before .is-glued .ensures) (c .if1 .left)
 
 pub find-glued-spec : {M : Type 1} → statement M
