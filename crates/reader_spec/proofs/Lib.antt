@@ -1,0 +1,17 @@
+pub mod Below
+pub mod Lookup
+pub mod Fields
+pub mod Links
+pub mod Sound
+pub mod Names
+pub mod Cuts
+pub mod Numbers
+pub mod Taped
+pub mod Whole
+pub mod Steps
+pub mod Window
+pub mod Stores
+pub mod Writing
+pub mod Faults
+pub mod OneNumber
+pub mod Settled

@@ -1,0 +1,10 @@
+pub mod Refusals
+pub mod Pieces
+pub mod Pass
+pub mod Rows
+pub mod Answer
+pub mod Promise
+pub mod Conditions
+pub mod Examples
+pub mod InnerSteps
+pub mod InnerWriting
