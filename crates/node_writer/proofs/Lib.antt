@@ -1,0 +1,4 @@
+pub mod Laws
+pub mod Leaves
+pub mod Milestone
+pub mod Steps
