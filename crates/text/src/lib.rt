@@ -40,8 +40,8 @@ pub fn holds(b: u8, lo: u8, hi: u8) -> bool
     if lo <= b { b <= hi } else { false }
 }
 
-// Table 3-7 of the Unicode Standard, "Well-Formed UTF-8 Byte Sequences": its nine rows stand here once each, in the table's order
-// and with the table's ranges. Third and fourth bytes are from 80 to BF in every row, and tested once for all rows of a length.
+// Table 3-7 of the Unicode Standard, "Well-Formed UTF-8 Byte Sequences": its nine rows stand here once each, in the table's order,
+// each with the ranges of all its bytes.
 //
 // Row 1, then the rows of two, three and four bytes: how long the well-formed sequence is that begins at a place, or 0.
 fn width_at(s: &[u8], at: usize) -> usize
@@ -73,27 +73,29 @@ fn two_at(s: &[u8], at: usize) -> bool
     0 < left && holds(s[at + 1], 0x80, 0xBF)
 }
 
-// Rows 3 to 6: whether the bytes are the first and the second of a sequence of three.
-fn rows_of_three(first: u8, second: u8) -> bool
-    ensures { λ r. ⌜ r ≡ eqb (widthOf (first ∷ second ∷ 0x80 ∷ [])) 3 ⌝ }
+// Rows 3 to 6: whether the bytes are a sequence of three.
+fn rows_of_three(first: u8, second: u8, third: u8) -> bool
+    ensures { λ r. ⌜ r ≡ eqb (widthOf (first ∷ second ∷ third ∷ [])) 3 ⌝ }
 {
     match first {
-        0xE0 => holds(second, 0xA0, 0xBF),
-        0xE1..=0xEC => holds(second, 0x80, 0xBF),
-        0xED => holds(second, 0x80, 0x9F),
-        0xEE..=0xEF => holds(second, 0x80, 0xBF),
+        0xE0 => holds(second, 0xA0, 0xBF) && holds(third, 0x80, 0xBF),
+        0xE1..=0xEC => holds(second, 0x80, 0xBF) && holds(third, 0x80, 0xBF),
+        0xED => holds(second, 0x80, 0x9F) && holds(third, 0x80, 0xBF),
+        0xEE..=0xEF => holds(second, 0x80, 0xBF) && holds(third, 0x80, 0xBF),
         _ => false,
     }
 }
 
-// Rows 7 to 9: whether the bytes are the first and the second of a sequence of four.
-fn rows_of_four(first: u8, second: u8) -> bool
-    ensures { λ r. ⌜ r ≡ eqb (widthOf (first ∷ second ∷ 0x80 ∷ 0x80 ∷ [])) 4 ⌝ }
+// Rows 7 to 9: whether the bytes are a sequence of four.
+fn rows_of_four(first: u8, second: u8, third: u8, fourth: u8) -> bool
+    ensures { λ r. ⌜ r ≡ eqb (widthOf (first ∷ second ∷ third ∷ fourth ∷ [])) 4 ⌝ }
 {
     match first {
-        0xF0 => holds(second, 0x90, 0xBF),
-        0xF1..=0xF3 => holds(second, 0x80, 0xBF),
-        0xF4 => holds(second, 0x80, 0x8F),
+        0xF0 => holds(second, 0x90, 0xBF) && holds(third, 0x80, 0xBF) && holds(fourth, 0x80, 0xBF),
+        0xF1..=0xF3 => holds(second, 0x80, 0xBF)
+            && holds(third, 0x80, 0xBF)
+            && holds(fourth, 0x80, 0xBF),
+        0xF4 => holds(second, 0x80, 0x8F) && holds(third, 0x80, 0xBF) && holds(fourth, 0x80, 0xBF),
         _ => false,
     }
 }
@@ -107,7 +109,7 @@ fn three_at(s: &[u8], at: usize) -> bool
     if left < 2 {
         return false;
     }
-    rows_of_three(s[at], s[at + 1]) && holds(s[at + 2], 0x80, 0xBF)
+    rows_of_three(s[at], s[at + 1], s[at + 2])
 }
 
 // Whether the first byte, from F0 on, begins a sequence of four bytes; one of no other length.
@@ -119,7 +121,7 @@ fn four_at(s: &[u8], at: usize) -> bool
     if left < 3 {
         return false;
     }
-    rows_of_four(s[at], s[at + 1]) && holds(s[at + 2], 0x80, 0xBF) && holds(s[at + 3], 0x80, 0xBF)
+    rows_of_four(s[at], s[at + 1], s[at + 2], s[at + 3])
 }
 
 fn byte(s: &[u8], k: usize) -> u64

@@ -1,10 +1,10 @@
--- `text::three_at` meets its contract: the first two bytes decide, with a third that fits.
+-- `text::three_at` meets its contract: the first three bytes decide.
 -- Assumes nothing.
 use borrow.Author.Needs.{needs}
 use denote.Ref.{now}
-use mathlib.Core.Path.{refl, sym, _∙_}
+use mathlib.Core.Path.{refl, _∙_}
 use native.Mathlib.Omega.{arith}
-use Rattle.text.proofs.Second.{three-row, three-bytes}
+use Rattle.text.proofs.Second.{three-bytes, three-short}
 use Rattle.text.proofs.three_at.Statement.{statement}
 use Rattle.text.proofs.three_at.Tie as tie
 
@@ -15,9 +15,7 @@ sub-left : tie.Need-sub-left
 sub-left c = search needs
 
 returns : tie.Need-returns
-returns c =
-    let a = c .before .before .args in
-    three-row (now (a .s)) (a .at) (omega arith) (omega arith) (omega arith) .short (omega arith)
+returns c = let a = c .before .before .args in three-short (now (a .s)) (a .at) (omega arith) (omega arith) (omega arith) (omega arith)
 
 shared-slice-read-rows-of-three : tie.Need-shared-slice-read-rows-of-three
 shared-slice-read-rows-of-three c = search needs
@@ -28,29 +26,19 @@ add-rows-of-three c = search needs
 shared-slice-read-rows-of-three-2 : tie.Need-shared-slice-read-rows-of-three-2
 shared-slice-read-rows-of-three-2 c = search needs
 
+add-rows-of-three-2 : tie.Need-add-rows-of-three-2
+add-rows-of-three-2 c = search needs
+
+shared-slice-read-rows-of-three-3 : tie.Need-shared-slice-read-rows-of-three-3
+shared-slice-read-rows-of-three-3 c = search needs
+
 rows-of-three-requires : tie.Need-rows-of-three-requires
 rows-of-three-requires c κs = search needs
 
-add-holds : tie.Need-add-holds
-add-holds c = search needs
-
-shared-slice-read-holds : tie.Need-shared-slice-read-holds
-shared-slice-read-holds c = search needs
-
-holds-requires : tie.Need-holds-requires
-holds-requires c κs = search needs
-
 returns-2 : tie.Need-returns-2
 returns-2 c =
-    let a = c .before .before .before .before .before .before .before .before .args in
-    three-bytes (now (a .s)) (a .at) (omega arith) (omega arith) (omega arith) (omega arith)
-    ∙ rw (c .holds .ensures, sym (c .before .before .before .rows-of-three .ensures) ∙ c .before .before .if2 .taken) refl
-
-returns-3 : tie.Need-returns-3
-returns-3 c =
     let a = c .before .before .before .before .before .before .args in
-    three-bytes (now (a .s)) (a .at) (omega arith) (omega arith) (omega arith) (omega arith)
-    ∙ rw (c .if2 .left, sym (c .before .rows-of-three .ensures) ∙ c .if2 .left) refl
+    three-bytes (now (a .s)) (a .at) (omega arith) (omega arith) (omega arith) (omega arith) ∙ rw (c .rows-of-three .ensures) refl
 
 pub three-at-spec : {M : Type 1} → statement M
 three-at-spec =
@@ -62,9 +50,7 @@ three-at-spec =
     shared-slice-read-rows-of-three
     add-rows-of-three
     shared-slice-read-rows-of-three-2
+    add-rows-of-three-2
+    shared-slice-read-rows-of-three-3
     rows-of-three-requires
-    add-holds
-    shared-slice-read-holds
-    holds-requires
-    returns-2
-    returns-3)
+    returns-2)
