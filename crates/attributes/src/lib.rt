@@ -66,7 +66,7 @@ fn ends_key(cp: u32) -> bool
 }
 
 // The place of the first `=` or blank from a place on, or the length. Most bytes of a key are small letters, which need no
-// decoding.
+// decoding; nor does a sequence of two bytes from C3 80 on, U+00C0 to U+07FF, among which there is no blank.
 fn key_end(s: &[u8], from: usize) -> usize
     requires { ⌜ from ≤ length (now s) ⌝ }
     ensures { λ r. ⌜ Ended (now (s .entry)) from (find endsKey (drop from (now (s .entry)))) r ⌝ }
@@ -76,6 +76,12 @@ fn key_end(s: &[u8], from: usize) -> usize
         if text::holds(s[i], b'a', b'z') {
             i += 1;
             continue;
+        }
+        if text::holds(s[i], 0xC3, 0xDF) {
+            if text::two_at(s, i) {
+                i += 2;
+                continue;
+            }
         }
         let d = text::decode_at(s, i);
         if ends_key(d.cp) {

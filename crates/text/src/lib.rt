@@ -62,7 +62,7 @@ fn width_at(s: &[u8], at: usize) -> usize
 }
 
 // Row 2: whether the first byte, from 80 to DF, begins a sequence of two bytes; one of no other length.
-fn two_at(s: &[u8], at: usize) -> bool
+pub fn two_at(s: &[u8], at: usize) -> bool
     requires { ⌜ Led (now s) at 0x80 0xDF ⌝ }
     ensures { λ r. ⌜ widthOf (drop at (now (s .entry))) ≡ pick r 2 0 ⌝ }
 {
