@@ -8,8 +8,10 @@
 
 repository=$(readlink -f "${BASH_SOURCE[0]}")
 repository=${repository%/bin/lib/*}
+temporary=''
 work=''
 unfinished=''
+is_said=''
 
 say() { printf '%s: %s\n' "${0##*/}" "$*" >&2; }
 fail() {
@@ -18,6 +20,17 @@ fail() {
 }
 
 command -v rt > /dev/null || fail "there is no rt on PATH: this needs the Rattle kit"
+
+# Makes a folder for what is there only while a command runs, unless it has one, and has it removed at the end.
+make_temporary() {
+    [ -z "$temporary" ] || return 0
+    trap 'rm -rf ${temporary:+"$temporary"} ${unfinished:+"$unfinished"}' EXIT
+    # With these a signal waits for what is running, and nothing writes any more where the line above removes.
+    trap 'exit 129' HUP
+    trap 'exit 130' INT
+    trap 'exit 143' TERM
+    temporary=$(mktemp -d)
+}
 
 # Prints one sum over all that a program and its proofs are made of: the kit, the list of crates, and the names and contents of
 # their files.
@@ -138,12 +151,9 @@ find_program() { # NAME
     [ -z "${PROVED_ONLY:-}" ] || fail "there is no proved program of the sources as they are; \`bash bin/test\` makes it"
     program=$repository/target/quick/$sum/$1
     if [ ! -x "$program" ]; then
-        trap 'rm -rf ${work:+"$work"} ${unfinished:+"$unfinished"}' EXIT
-        # With these a signal waits for what is running, and nothing writes any more where the line above removes.
-        trap 'exit 129' HUP
-        trap 'exit 130' INT
-        trap 'exit 143' TERM
-        work=$(mktemp -d)
+        make_temporary
+        work=$temporary/$1
+        mkdir "$work"
         # A copy, so that an edit made meanwhile can't get into the program under the sum of what was there before it.
         mkdir "$work/sources"
         (cd "$repository" && cp -RL --parents crates.txt crates "$work/sources")
@@ -157,7 +167,9 @@ find_program() { # NAME
         # Where target/ can't be written the program runs in the temporary folder.
         keep "$work/program" "$program" 2> /dev/null || program=$work/program
     fi
-    say "compiled without proofs; \`bash bin/test\` proves it"
+    # Once, also for a command that runs two programs.
+    [ -n "$is_said" ] || say "compiled without proofs; \`bash bin/test\` proves it"
+    is_said=1
 }
 
 # Runs a program in the folder that a command was given.

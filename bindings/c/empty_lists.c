@@ -20,7 +20,7 @@ struct lists {
     uint32_t seen[2];
     harkoxin_open_start opens[2];
     uint64_t list[40], out[HARKOXIN_REPORT_WORDS], ends[4];
-    uint8_t text[400];
+    uint8_t text[400], nodes[2 * HARKOXIN_NODE_BYTES];
 };
 
 /* A pointer and a length for a list: whole, or empty with its pointer, or empty with NULL. */
@@ -51,8 +51,12 @@ static void run(int function, unsigned empty, int is_null, struct lists *l)
         harkoxin_tally(LENT(finding, HARKOXIN_FINDING_WORDS, LIST), LENT(l->list, 40, ENDS),
                        LENT(l->out, HARKOXIN_TALLY_WORDS, OUT));
         break;
-    default:
+    case 5:
         harkoxin_mark(0, 1, 1, LENT(l->out, HARKOXIN_MARK_WORDS, OUT));
+        break;
+    default:
+        harkoxin_read(LENT(table, sizeof table - 1, TABLE), LENT(source, sizeof source - 1, SOURCE),
+                      LENT(l->nodes, sizeof l->nodes, TAPE), LENT(l->out, HARKOXIN_READ_WORDS, OUT));
     }
 }
 
@@ -79,7 +83,7 @@ static int try_call(int function, unsigned empty)
 int main(void)
 {
     unsigned calls = 0;
-    for (int function = 0; function < 6; function++) {
+    for (int function = 0; function < 7; function++) {
         for (unsigned empty = 0; empty < 1u << LISTS; empty++) {
             if (!try_call(function, empty))
                 return 1;

@@ -1,11 +1,13 @@
 /*
- * Prints what is wrong in the documents of some folders, each of which holds table.txt, source.usfm and nodes.bin.
+ * Prints what is wrong in the documents of some folders, each of which holds table.txt, source.usfm and nodes.bin; or, behind
+ * --text and the path of a table, in the texts of some files.
  */
 #include "harkoxin.h"
 
 #include <inttypes.h>
 #include <stdio.h>
 #include <stdlib.h>
+#include <string.h>
 
 struct bytes {
     uint8_t *at;
@@ -42,12 +44,8 @@ static void *room(size_t count, size_t size)
     return list;
 }
 
-static struct bytes read_file(const char *folder, const char *name)
+static struct bytes read_file(const char *path)
 {
-    char path[4096];
-    int len = snprintf(path, sizeof path, "%s/%s", folder, name);
-    if (len < 0 || (size_t)len >= sizeof path)
-        fail("path too long:", folder);
     FILE *file = fopen(path, "rb");
     if (file == NULL || fseek(file, 0, SEEK_END) != 0)
         fail("can't read", path);
@@ -59,6 +57,22 @@ static struct bytes read_file(const char *folder, const char *name)
         fail("can't read", path);
     fclose(file);
     return read;
+}
+
+static struct bytes read_in(const char *folder, const char *name)
+{
+    char path[4096];
+    int len = snprintf(path, sizeof path, "%s/%s", folder, name);
+    if (len < 0 || (size_t)len >= sizeof path)
+        fail("path too long:", folder);
+    return read_file(path);
+}
+
+static void release_document(struct document *d)
+{
+    free(d->table.at);
+    free(d->source.at);
+    free(d->tape.at);
 }
 
 /* What is lent for a report and freed behind it. */
@@ -88,7 +102,7 @@ static void release(struct lists *l)
 static void report(const struct document *d, struct lists *l, uint64_t answer[HARKOXIN_REPORT_WORDS])
 {
     const uint64_t *messages = answer + HARKOXIN_REPORT_MESSAGES;
-    size_t nodes = d->tape.len / 16;
+    size_t nodes = d->tape.len / HARKOXIN_NODE_BYTES;
     uint32_t *seen = room(nodes, sizeof *seen);
     harkoxin_open_start *opens = room(nodes, sizeof *opens);
     lend(l, 16, 1024);
@@ -140,15 +154,19 @@ static void print_counts(const uint64_t *check)
     print_mark(check);
 }
 
-static void print_document(const char *folder, const struct document *d)
+static void print_refusal(uint64_t number, uint64_t place)
+{
+    printf("refused by number %" PRIu64 ", place %" PRIu64 "\n", number, place);
+}
+
+static void print_document(const char *name, const struct document *d)
 {
     uint64_t answer[HARKOXIN_REPORT_WORDS];
     struct lists l;
     report(d, &l, answer);
-    printf("%s: ", folder);
+    printf("%s: ", name);
     if (answer[HARKOXIN_CHECK_VERDICT] == HARKOXIN_REFUSED)
-        printf("refused by number %" PRIu64 ", place %" PRIu64 "\n",
-               answer[HARKOXIN_CHECK_NUMBER], answer[HARKOXIN_CHECK_PLACE]);
+        print_refusal(answer[HARKOXIN_CHECK_NUMBER], answer[HARKOXIN_CHECK_PLACE]);
     else
         print_counts(answer);
     size_t start = 0;
@@ -160,20 +178,58 @@ static void print_document(const char *folder, const struct document *d)
     release(&l);
 }
 
+/* Has the tape of the document's text made, once more with a longer list where that was too short. */
+static void read_text(struct document *d, uint64_t answer[HARKOXIN_READ_WORDS])
+{
+    size_t nodes = 64;
+    for (;;) {
+        d->tape.at = room(nodes, HARKOXIN_NODE_BYTES);
+        harkoxin_read(d->table.at, d->table.len, d->source.at, d->source.len,
+                      d->tape.at, nodes * HARKOXIN_NODE_BYTES, answer, HARKOXIN_READ_WORDS);
+        d->tape.len = (size_t)answer[HARKOXIN_READ_NODES] * HARKOXIN_NODE_BYTES;
+        if (answer[HARKOXIN_READ_NUMBER] != HARKOXIN_SHORT_NODE_LIST)
+            return;
+        free(d->tape.at);
+        nodes = (size_t)answer[HARKOXIN_READ_PLACE];
+    }
+}
+
+static void check_text(const char *table, const char *path)
+{
+    struct document d = {read_file(table), read_file(path), {NULL, 0}};
+    uint64_t answer[HARKOXIN_READ_WORDS];
+    read_text(&d, answer);
+    if (answer[HARKOXIN_READ_VERDICT] == HARKOXIN_REFUSED) {
+        printf("%s: ", path);
+        print_refusal(answer[HARKOXIN_READ_NUMBER], answer[HARKOXIN_READ_PLACE]);
+    } else {
+        print_document(path, &d);
+    }
+    release_document(&d);
+}
+
+static void check_folder(const char *folder)
+{
+    struct document d = {
+        read_in(folder, "table.txt"),
+        read_in(folder, "source.usfm"),
+        read_in(folder, "nodes.bin"),
+    };
+    print_document(folder, &d);
+    release_document(&d);
+}
+
 int main(int argc, char **argv)
 {
-    if (argc < 2)
-        fail("usage:", "example FOLDER...");
-    for (int k = 1; k < argc; k++) {
-        struct document d = {
-            read_file(argv[k], "table.txt"),
-            read_file(argv[k], "source.usfm"),
-            read_file(argv[k], "nodes.bin"),
-        };
-        print_document(argv[k], &d);
-        free(d.table.at);
-        free(d.source.at);
-        free(d.tape.at);
+    int is_text = argc > 1 && strcmp(argv[1], "--text") == 0;
+    int first = is_text ? 3 : 1;
+    if (argc <= first)
+        fail("usage:", "example FOLDER..., or example --text TABLE FILE...");
+    for (int k = first; k < argc; k++) {
+        if (is_text)
+            check_text(argv[2], argv[k]);
+        else
+            check_folder(argv[k]);
     }
     return EXIT_SUCCESS;
 }

@@ -8,6 +8,8 @@
  *   source  UTF-8, at most 1,048,576 bytes
  *   tape    1 to 65,535 nodes of 16 bytes, little-endian: kind (1 byte), flags (1), marker (2), start, len, link (4 each)
  *
+ * A parser makes the tape, or harkoxin_read of a text of one's own.
+ *
  * Each list is passed as a pointer and the number of its elements. A list that is written must not overlap another one, and
  * each must be aligned as its type is. Nothing else is required: lists may be of any length and hold anything, and the pointer
  * of a list of length 0 isn't read, so that it may be NULL.
@@ -48,7 +50,17 @@ enum {
     HARKOXIN_NO_TEXT = 12,             /* the finding has no text in this document: 0 */
     HARKOXIN_SHORT_TEXT_LIST = 13,     /* the list is too short for the text: bytes needed */
     HARKOXIN_LARGE_COUNT = 14,         /* a count of errors, warnings or verses is over 1,000,000: 0 */
-    HARKOXIN_NO_VERSES = 15            /* there are no verses to mark: 0 */
+    HARKOXIN_NO_VERSES = 15,           /* there are no verses to mark: 0 */
+    HARKOXIN_BAD_MARKER = 16,          /* a marker that the table doesn't have, or of category other: byte of its backslash */
+    HARKOXIN_UNMATCHED_MARKER = 17,    /* a close without its open innermost, a milestone that isn't closed, or a block marker, a
+                                          chapter or the text's end with a character or note open: byte of the backslash, a
+                                          milestone's own, or the text's length */
+    HARKOXIN_SHORT_NODE_LIST = 18      /* the list is too short for the nodes: nodes needed */
+};
+
+/* The bytes of a node on a tape. */
+enum {
+    HARKOXIN_NODE_BYTES = 16
 };
 
 /* The words of a finding in a list. */
@@ -254,6 +266,30 @@ enum {
  */
 void harkoxin_mark(
     uint64_t errors, uint64_t warnings, uint64_t verses,
+    uint64_t *out, size_t out_len);
+
+/* The answer of harkoxin_read. */
+enum {
+    HARKOXIN_READ_VERDICT = 0, /* done or refused */
+    HARKOXIN_READ_NUMBER = 1,
+    HARKOXIN_READ_PLACE = 2,
+    HARKOXIN_READ_NODES = 3,   /* how many nodes were written, the root among them; 0 after a refusal */
+    HARKOXIN_READ_WORDS = 4
+};
+
+/*
+ * Reads a text in USFM to a tape: its nodes are written over `tape`, which is a list of bytes with room for tape_len /
+ * HARKOXIN_NODE_BYTES nodes; what lies behind the written nodes is as it was. A text of n bytes has at most n + 1 nodes.
+ *
+ * Characters and notes must be closed by their own name, `\f + \ft text\ft*\f*`, milestones by `\*` behind their name or their
+ * attributes. Numbers 1, 2 and 3, then 16 or 17 by the earlier place, then 18; after a refusal `tape` is as it was. A check of the
+ * text with its tape is turned back by 8, where more than 64 markers are open, or by 4, where there are over 65,535 nodes, and by
+ * no other number of the tape.
+ */
+void harkoxin_read(
+    const uint8_t *table, size_t table_len,
+    const uint8_t *text, size_t text_len,
+    uint8_t *tape, size_t tape_len,
     uint64_t *out, size_t out_len);
 
 #ifdef __cplusplus

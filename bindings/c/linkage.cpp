@@ -1,4 +1,5 @@
-// The header and the library from C++: ends with 0 if an empty list is counted and a verse without findings is marked.
+// The header and the library from C++: ends with 0 if an empty list is counted, a verse without findings is marked and an empty
+// text is read to its root.
 #include "harkoxin.h"
 
 // Where the library finds the fields of an open start.
@@ -12,5 +13,8 @@ int main()
     harkoxin_tally(nullptr, 0, nullptr, 0, tally, HARKOXIN_TALLY_WORDS);
     uint64_t mark[HARKOXIN_MARK_WORDS] = {HARKOXIN_REFUSED};
     harkoxin_mark(0, 0, 1, mark, HARKOXIN_MARK_WORDS);
-    return static_cast<int>(tally[HARKOXIN_TALLY_VERDICT] + mark[HARKOXIN_MARK_VERDICT]);
+    uint8_t root[HARKOXIN_NODE_BYTES];
+    uint64_t read[HARKOXIN_READ_WORDS] = {HARKOXIN_REFUSED};
+    harkoxin_read(nullptr, 0, nullptr, 0, root, sizeof root, read, HARKOXIN_READ_WORDS);
+    return static_cast<int>(tally[HARKOXIN_TALLY_VERDICT] + mark[HARKOXIN_MARK_VERDICT] + read[HARKOXIN_READ_VERDICT]);
 }

@@ -9,7 +9,7 @@ use crate::document::{Entry, Node, table_text};
 use crate::reading::{Refused, read};
 
 pub use features::Shown;
-pub use large::{Large, large};
+pub use large::{Large, books, climbs, large, of_book, shapes};
 pub use seeded::{draft, room};
 pub use small::every_draft;
 

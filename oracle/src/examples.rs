@@ -1,6 +1,7 @@
-//! Folders of files for check-exercise and mark-exercise.
+//! Folders of files for check-exercise, mark-exercise and read-exercise.
 
 use crate::document::{Document, NODE_BYTES, Node, kind};
+use crate::reading;
 use crate::refusals::DEEPEST;
 use crate::samples::{self, Builder, entry, listing, read};
 
@@ -12,6 +13,27 @@ const COMBINING: &str = "\\id JHN Κατα\u{300} Ι\u{313}ωα\u{301}ννην\n
 /// A byte order mark, lines that end in bytes 13 and 10, characters of four bytes.
 const CRLF: &str = "\u{FEFF}\\id gen 😀\r\n\\c 1\r\n\\p \\v 1 👩\u{200D}👧 \\v 3 𐀀𐀁 \\ft 😀\\ft* \\fig 😀|\\fig*\r\n\\v 4 \\nd cafe\u{301}|x\\nd*\r\n😀\\v5 \\qt-s\\*\r\n";
 const EACH_CODE: &str = "text \\id gen\n\\p early\n\\c 01\n\\s \\v 1 a\n\\p \\nd \\v 3 b\\nd* \\ft out\\ft*\n\\b full\n\\c\n\\c 5\n\\c 5\n\\p \\v \n\\fig |src=\"a\"\\fig* \\w \\w* \\rb word\\rb* \\w a|\\w* \\w b|x=\"\\w* \\w c|k v=\"1\"\\w* \\w d|v=\"\"\\w* \\w e|v=w\\w* \\nd f|g\\nd*\n\\tr \\tc2 h\n\\p \\cp 3\\cp* \\qt-s\\* \\zaln-e\\*\n\\id XYZ\n";
+
+/// A text as an author writes it, with the closes that the reader asks for and a verse left out.
+const OWN_TEXT: &str = "\\id GEN A text of one's own\n\\h Genesis\n\\mt1 Genesis\n\\c 1\n\\s1 The beginning\n\\p\n\\v 1 In the beginning\\f + \\fr 1:1 \\fr*\\ft A note and its parts are closed.\\ft*\\f* \\w God|lemma=\"Elohim\"\\w* created.\n\\v 3 And God said,\n\\q1 \\qt-s |who=\"God\"\\*Let there be light\\qt-e\\*\n\\b\n\\tr \\tc1 a row\\tc1*\\tc2 and its cells\\tc2*\n";
+const UNKNOWN_MARKER: &str = "\\id GEN\n\\c 1\n\\p\n\\v 1 In the \\begin beginning\\begin*\n";
+/// The note's close comes while its text is open.
+const UNMATCHED_MARKER: &str =
+    "\\id GEN\n\\c 1\n\\p\n\\v 1 In the beginning\\f + \\ft A note\\f* was the word.\n";
+
+/// A text under the table of USFM 3.1, with the tape that the reader makes of it, if any.
+fn own_text(text: &str) -> Document {
+    let table = include_bytes!("../../tables/usfm-3.1.txt");
+    let mut document = Document {
+        table: table.to_vec(),
+        source: text.as_bytes().to_vec(),
+        tape: Vec::new(),
+    };
+    if let Ok(nodes) = reading::read(table, text.as_bytes(), usize::MAX) {
+        document.set_nodes(&nodes);
+    }
+    document
+}
 
 /// The document of document 01's listing with another node at a place.
 fn with_node(place: usize, change: impl FnOnce(&mut Node)) -> Document {
@@ -46,6 +68,8 @@ fn refused() -> Vec<(&'static str, Document)> {
         ("refused-9", split.under(&[entry("vv", 2, 0)])),
         ("refused-14", million_errors("\\v 01 ")),
         ("refused-15", read("\\id GEN\n\\c 1\n\\p Word\n")),
+        ("refused-16", own_text(UNKNOWN_MARKER)),
+        ("refused-17", own_text(UNMATCHED_MARKER)),
     ]
 }
 
@@ -114,6 +138,7 @@ pub fn examples() -> Vec<(&'static str, Document)> {
         ("full", full(0)),
         ("too-large", full(1)),
         ("empty", Document::default()),
+        ("own-text", own_text(OWN_TEXT)),
         (
             "clean",
             samples::read("\\id GEN\n\\c 1\n\\p \\v 1 a \\v 2 b\n"),

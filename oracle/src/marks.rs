@@ -90,8 +90,10 @@ mod tests {
     fn each_number_is_printed_of_an_example() {
         for (name, document) in examples() {
             let number = name.strip_prefix("refused-");
-            let refused = number.map(|number| format!("verdict=refused\nrefusal={number}\nplace="));
-            if let Some(refused) = refused {
+            let number: Option<u64> = number.map(|number| number.parse().unwrap());
+            // The numbers behind them are read-exercise's.
+            if let Some(number @ ..=15) = number {
+                let refused = format!("verdict=refused\nrefusal={number}\nplace=");
                 assert!(lines(&document).starts_with(&refused), "{name}");
             }
         }

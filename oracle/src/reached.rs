@@ -19,17 +19,18 @@ pub enum Function {
     Messages,
     Tally,
     Mark,
+    Read,
 }
 
-const FUNCTIONS: usize = 7;
-const LAST_REFUSAL: usize = 15;
+const FUNCTIONS: usize = 8;
+const LAST_REFUSAL: usize = 18;
 const CODES: usize = 35;
 const ROOMS: [&str; 3] = ["too short", "exact", "longer"];
 
 impl Function {
     const ALL: [Function; FUNCTIONS] = {
         use Function::*;
-        [Check, Checker, Report, Message, Messages, Tally, Mark]
+        [Check, Checker, Report, Message, Messages, Tally, Mark, Read]
     };
 
     fn name(self) -> &'static str {
@@ -41,6 +42,7 @@ impl Function {
             Function::Messages => "messages",
             Function::Tally => "tally",
             Function::Mark => "mark",
+            Function::Read => "read",
         }
     }
 
@@ -53,6 +55,7 @@ impl Function {
             Function::Message | Function::Messages => &[1, 2, 3, 4, 5, 6, 7, 8, 9, 12, 13],
             Function::Tally => &[11],
             Function::Mark => &[14, 15],
+            Function::Read => &[1, 2, 3, 16, 17, 18],
         }
     }
 }
@@ -169,12 +172,17 @@ impl Reached {
             }
         }
         for function in Function::ALL {
-            let missing = |&&number: &&usize| self.answers[function as usize][number] == 0;
-            let numbers = [0].iter().chain(function.numbers()).filter(missing);
-            let named = |number: &usize| format!("{}, number {number}", function.name());
-            unreached.extend(numbers.map(named));
+            unreached.extend(self.unreached_of(function));
         }
         unreached
+    }
+
+    /// The answers of a function that were never reached.
+    pub fn unreached_of(&self, function: Function) -> Vec<String> {
+        let missing = |&&number: &&usize| self.answers[function as usize][number] == 0;
+        let numbers = [0].iter().chain(function.numbers()).filter(missing);
+        let named = |number: &usize| format!("{}, number {number}", function.name());
+        numbers.map(named).collect()
     }
 }
 
@@ -198,7 +206,7 @@ mod tests {
     #[test]
     fn everything_is_unreached_until_it_is_reached() {
         let mut reached = Reached::default();
-        let calls = 1 + 10 + 1 + 9 + 3 * (1 + 11) + 1 + 1 + 1 + 2;
+        let calls = 1 + 10 + 1 + 9 + 3 * (1 + 11) + 1 + 1 + 1 + 2 + 1 + 6;
         assert_eq!(reached.unreached().len(), 4 * FORMS.len() + calls);
         for (code, form) in FORMS {
             reached.finding(code.into(), form);

@@ -1,4 +1,4 @@
-//! Document 02's reader from a text and a table to a tape, with numbers 16 to 18, plainly, and what document 02's program over files prints.
+//! Document 02's reader from a text and a table to a tape, with numbers 16 to 18, plainly, and what read-exercise prints.
 
 use std::collections::HashMap;
 

@@ -1,7 +1,10 @@
-//! The whole check beside the published `validate`, by the clock: both over the same documents, taken in turn.
+//! The whole check beside the published `validate`, and the reading of texts beside the plain reader, by the clock: both over the
+//! same inputs, taken in turn.
 
 #[cfg(feature = "library")]
 mod measured;
+#[cfg(feature = "library")]
+mod readings;
 mod sheet;
 mod timer;
 
@@ -15,7 +18,9 @@ use crate::validate::validate;
 
 #[cfg(feature = "library")]
 pub use measured::{Best, Measured, Texts};
-pub use sheet::{Sheet, grouped, seconds};
+#[cfg(feature = "library")]
+pub use readings::Readings;
+pub use sheet::{Sheet, grouped, ratio, rounds, seconds};
 
 use timer::Timer;
 

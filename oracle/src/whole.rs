@@ -1,5 +1,5 @@
-//! The whole check, its texts, its tally and its mark beside what the documents and the published code give: answers, findings,
-//! texts, the quotation account, and every element of every lent list with the bytes around it.
+//! The whole check, its texts, its tally, its mark and its reading of texts beside what the documents and the published code give:
+//! answers, findings, texts, nodes, the quotation account, and every element of every lent list with the bytes around it.
 
 mod accounts;
 mod counts;
@@ -7,6 +7,7 @@ mod findings;
 mod limits;
 mod marks;
 mod messages;
+mod readings;
 mod reports;
 mod slots;
 mod workers;
@@ -28,7 +29,9 @@ pub use counts::Counts;
 use findings::{same_counts, same_findings, same_nodes, same_positions, severities, words_of};
 use marks::same_mark;
 use slots::Slots;
-pub use workers::{Source, all_threads, compare_seeds, expect_all_reached, failure_message};
+pub use workers::{
+    Source, all_threads, compare_seeds, expect_all_reached, failure_message, share_out,
+};
 
 /// Words of an answer: verdict, number, place, total, written, verses, errors, warnings, infos.
 pub const ANSWER_WORDS: usize = 9;
@@ -89,6 +92,7 @@ impl Comparison {
             Some(refused) => self.refused(document, refused, lengths, &mut rng)?,
             None => self.accepted(document, lengths, &mut rng)?,
         }
+        self.reading(&document.table, &document.source, &mut rng)?;
         self.slots.expect_document()
     }
 

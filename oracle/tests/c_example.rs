@@ -8,6 +8,7 @@ use oracle::examples::examples;
 use oracle::listing::of_severity;
 use oracle::marks::mark;
 use oracle::published::{Validated, validate};
+use oracle::reading;
 use oracle::refusals::{refusal, verses_visited};
 
 const FOLDERS: [&str; 8] = [
@@ -21,12 +22,27 @@ const FOLDERS: [&str; 8] = [
     "refused-15",
 ];
 
+/// The folders whose sources the examples read as texts, under the table of USFM 3.1.
+const TEXTS: [&str; 6] = [
+    "own-text",
+    "listing",
+    "greek",
+    "refused-16",
+    "refused-17",
+    "refused-3",
+];
+const TABLE: &[u8] = include_bytes!("../../tables/usfm-3.1.txt");
+
 const SEVERITIES: [&str; 3] = ["error", "warning", "info"];
+
+fn refused(out: &mut String, name: &str, number: u32, place: u64) {
+    writeln!(out, "{name}: refused by number {number}, place {place}").unwrap();
+}
 
 fn printed(out: &mut String, name: &str, document: &Document) {
     let nodes = document.node_count();
     if let Some((number, place)) = refusal(document, nodes, nodes) {
-        writeln!(out, "{name}: refused by number {number}, place {place}").unwrap();
+        refused(out, name, number, place);
         return;
     }
     let Validated::Findings(findings) = validate(document) else {
@@ -56,13 +72,38 @@ fn printed(out: &mut String, name: &str, document: &Document) {
     }
 }
 
+fn example(name: &str) -> Document {
+    let mut all = examples().into_iter();
+    let (_, document) = all.find(|(its, _)| *its == name).expect("a folder");
+    document
+}
+
+#[test]
+fn the_stored_output_of_texts_is_the_published_one() {
+    let mut out = String::new();
+    for name in TEXTS {
+        let path = format!("{name}/source.usfm");
+        let mut document = Document {
+            table: TABLE.to_vec(),
+            ..example(name)
+        };
+        match reading::read(TABLE, &document.source, usize::MAX) {
+            Ok(nodes) => {
+                document.set_nodes(&nodes);
+                printed(&mut out, &path, &document);
+            }
+            Err((number, place)) => refused(&mut out, &path, number, place),
+        }
+    }
+    let stored = include_str!("../../bindings/c/expected-texts");
+    assert_eq!(out, stored);
+}
+
 #[test]
 fn the_stored_output_is_the_published_one() {
-    let all = examples();
     let mut out = String::new();
     for name in FOLDERS {
-        let (_, document) = all.iter().find(|(its, _)| *its == name).expect("a folder");
-        printed(&mut out, name, document);
+        printed(&mut out, name, &example(name));
     }
     let stored = include_str!("../../bindings/c/expected");
     assert_eq!(out, stored);

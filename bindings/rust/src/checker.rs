@@ -2,6 +2,7 @@
 
 use crate::document::{Table, Tape};
 use crate::raw::{self, FINDING_WORDS, OpenStart};
+use crate::reading::read_over;
 use crate::refusal::Refusal;
 use crate::report::{Counts, Report};
 use crate::texts::{self, Room, Texts, lengthen};
@@ -55,6 +56,8 @@ pub struct Checker {
     opens: Vec<OpenStart>,
     list: Vec<u64>,
     room: Room,
+    /// The nodes of a text.
+    nodes: Vec<u8>,
     max_findings: usize,
     max_text: usize,
 }
@@ -66,6 +69,7 @@ impl Default for Checker {
             opens: Vec::new(),
             list: Vec::new(),
             room: Room::default(),
+            nodes: Vec::new(),
             max_findings: MAX_FINDINGS,
             max_text: MAX_TEXT,
         }
@@ -130,6 +134,31 @@ impl Checker {
         let answer = self.find(lent, tape.len())?;
         let texts = self.gather(lent, &answer)?;
         Report::new(answer.counts, &self.list, texts)
+    }
+
+    /// Reads a text in USFM and checks it, as [`OwnedTape::read`](crate::OwnedTape::read) and [`check`](Checker::check) do.
+    ///
+    /// # Errors
+    ///
+    /// Those of the reading, numbers 1, 2, 16 and 17; then 4 for a text of over 65,535 nodes and 8 for more than 64 open markers.
+    pub fn check_text(&mut self, table: &Table<'_>, text: &str) -> Result<Report, Refusal> {
+        self.check_text_bytes(table, text.as_bytes())
+    }
+
+    /// Reads and checks a text that may not be UTF-8, which number 3 turns back.
+    ///
+    /// # Errors
+    ///
+    /// As [`check_text`](Checker::check_text).
+    pub fn check_text_bytes(&mut self, table: &Table<'_>, text: &[u8]) -> Result<Report, Refusal> {
+        let mut nodes = std::mem::take(&mut self.nodes);
+        let read = read_over(table, text, &mut nodes);
+        let report = read.and_then(|len| {
+            let tape = nodes.get(..len).unwrap_or_default();
+            self.check_bytes(table, text, &Tape::from_bytes(tape))
+        });
+        self.nodes = nodes;
+        report
     }
 
     /// Has the findings and their texts written: by one call, or by a second where there are more findings than nodes.

@@ -31,6 +31,8 @@ impl<'a> From<&'a str> for Table<'a> {
 }
 
 /// The tape of a document: its nodes, 16 bytes each, little-endian.
+///
+/// A parser makes it; [`OwnedTape::read`](crate::OwnedTape::read) makes one of a text.
 #[derive(Clone, Copy, PartialEq, Eq, Debug)]
 pub struct Tape<'a> {
     bytes: &'a [u8],

@@ -39,6 +39,12 @@ pub const TALLY_WORDS: usize = 3;
 /// Words of the answer of [`mark`].
 pub const MARK_WORDS: usize = 5;
 
+/// Words of the answer of [`read`].
+pub const READ_WORDS: usize = 4;
+
+/// Bytes of a node on a tape.
+pub const NODE_BYTES: usize = size_of::<Node>();
+
 /// A verdict: all that was requested is done.
 pub const DONE: u64 = 0;
 
@@ -150,6 +156,16 @@ mod library {
             errors: u64,
             warnings: u64,
             verses: u64,
+            out: *mut u64,
+            out_len: usize,
+        );
+        pub fn harkoxin_read(
+            table: *const u8,
+            table_len: usize,
+            text: *const u8,
+            text_len: usize,
+            tape: *mut u8,
+            tape_len: usize,
             out: *mut u64,
             out_len: usize,
         );
@@ -408,6 +424,42 @@ pub fn mark(errors: u64, warnings: u64, verses: u64, out: &mut [u64]) {
     // SAFETY: as in `check`.
     unsafe {
         library::harkoxin_mark(errors, warnings, verses, out.as_mut_ptr(), out.len());
+    }
+}
+
+/// Reads a text in USFM to a tape: its nodes are written over `tape`, [`NODE_BYTES`] bytes each.
+///
+/// What lies behind the written nodes is as it was; a refusal changes nothing. A text of n bytes has at most n + 1 nodes.
+///
+/// `out`: verdict ([`DONE`] or [`REFUSED`]), number, place, nodes; after a refusal the last is 0. Where the list is too short, 18,
+/// the place says how many nodes there are.
+///
+/// ```
+/// use harkoxin::raw;
+///
+/// let table = b"name=v\ncategory=verse\nrole=content\n";
+/// let mut tape = [0; 2 * raw::NODE_BYTES];
+/// let mut out = [0; raw::READ_WORDS];
+/// raw::read(table, b"\\v 2", &mut tape, &mut out);
+/// assert_eq!(out, [raw::DONE, 0, 0, 2]);
+/// raw::read(table, b"\\v 2 a", &mut tape, &mut out);
+/// assert_eq!(out, [raw::REFUSED, 18, 3, 0]);
+/// raw::read(table, b"\\v 2 \\x", &mut tape, &mut out);
+/// assert_eq!(out, [raw::REFUSED, 16, 5, 0]);
+/// ```
+pub fn read(table: &[u8], text: &[u8], tape: &mut [u8], out: &mut [u64]) {
+    // SAFETY: as in `check`.
+    unsafe {
+        library::harkoxin_read(
+            table.as_ptr(),
+            table.len(),
+            text.as_ptr(),
+            text.len(),
+            tape.as_mut_ptr(),
+            tape.len(),
+            out.as_mut_ptr(),
+            out.len(),
+        );
     }
 }
 

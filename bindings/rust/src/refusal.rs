@@ -5,8 +5,8 @@ use std::fmt;
 
 /// Why a call was turned back: a number, with a place.
 ///
-/// A document is turned back by the numbers 1 to 9, a mark by 14 and 15. The others are answers of the functions in
-/// [`raw`](crate::raw): 10 of a check, 11 of a tally, 12 and 13 of a text.
+/// A document is turned back by the numbers 1 to 9, a mark by 14 and 15, a text that is read by 1 to 3, 16 and 17. The others are
+/// answers of the functions in [`raw`](crate::raw): 10 of a check, 11 of a tally, 12 and 13 of a finding's text, 18 of a reading.
 #[derive(Clone, Copy, PartialEq, Eq, Hash, Debug)]
 pub struct Refusal {
     /// Which condition turned it back.
@@ -16,7 +16,7 @@ pub struct Refusal {
 }
 
 /// Each number's condition and what its place counts, from 1 on.
-const CONDITIONS: [(&str, &str); 15] = [
+const CONDITIONS: [(&str, &str); 18] = [
     ("the marker table breaks its layout", "table byte"),
     ("the source is longer than 1,048,576 bytes", "place"),
     ("the source isn't UTF-8", "source byte"),
@@ -53,6 +53,15 @@ const CONDITIONS: [(&str, &str); 15] = [
         "place",
     ),
     ("there are no verses to mark", "place"),
+    (
+        "a marker isn't in the table, or is of category other",
+        "source byte",
+    ),
+    (
+        "a close is without its open innermost, a milestone isn't closed, or a character or note is open where a block or a chapter begins or the text ends",
+        "source byte",
+    ),
+    ("the list is too short for the nodes", "nodes needed"),
 ];
 
 const UNKNOWN: (&str, &str) = ("the number is unknown", "place");

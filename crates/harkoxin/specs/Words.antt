@@ -8,6 +8,7 @@ use Rattle.definition.specs.Outcome.{Answer, Checked, refused, checked}
 use Rattle.messages.specs.Answer as message
 use Rattle.messages.specs.Messages as messages
 use Rattle.mark.specs.Mark as mark
+use Rattle.reader_spec.specs.Answer as reader
 
 abbrev pub reportWords : ℕ → ℕ → ℕ → ℕ → ℕ → ℕ → ℕ → List ℕ
 reportWords verdict total written verses errors warnings infos =
@@ -47,3 +48,8 @@ tallyWords (some r) = 2 ∷ r .number ∷ r .place ∷ []
 abbrev pub markWords : mark.MarkAnswer → List ℕ
 markWords (mark.refused r) = 2 ∷ r .number ∷ r .place ∷ 0 ∷ 0 ∷ []
 markWords (mark.marked m) = 0 ∷ 0 ∷ 0 ∷ m .loss ∷ m .mark ∷ []
+
+-- the verdict (0 read, 2 refused), a refusal's number and place, and the number of nodes
+abbrev pub readWords : reader.ReadAnswer → List ℕ
+readWords (reader.refused r) = 2 ∷ r .number ∷ r .place ∷ 0 ∷ []
+readWords (reader.read n) = 0 ∷ 0 ∷ 0 ∷ n ∷ []

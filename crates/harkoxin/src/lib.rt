@@ -4,6 +4,7 @@ use mark::MarkAnswer;
 use messages::MessageAnswer;
 use messages::MessageRequest;
 use messages::MessagesAnswer;
+use reader::ReadAnswer;
 use tally::Tallied;
 use validate::Answer;
 use validate::InputCheck;
@@ -22,10 +23,12 @@ ghost use Rattle.tally.specs.Tally as tally;
 ghost use Rattle.tally.specs.Tally.{tallyRefusal, countsAfter};
 ghost use Rattle.messages.specs.Messages.{textsOf, endsFrom, messagesAnswer, messagesAnswerOf, messagesAfter, endsAfter};
 ghost use Rattle.message_texts.specs.Filled.{joined};
-ghost use Rattle.harkoxin.specs.Words.{answerWords, reportWords, refusalWords, messageWords, messagesWords, tallyWords, markWords};
+ghost use Rattle.harkoxin.specs.Words.{answerWords, reportWords, refusalWords, messageWords, messagesWords, tallyWords, markWords, readWords};
 ghost use Rattle.harkoxin.specs.Report.{heldOf, heldIn, heldAnswer, turnedWords, reportAnswer, reportText, reportEnds};
 ghost use Rattle.table.specs.Inner.{Indexed};
 ghost use Rattle.mark.specs.Mark.{markAnswer, markAnswerOf};
+ghost use Rattle.reader_spec.specs.Answer.{readAnswer, nodesAfter};
+ghost use Rattle.reader.specs.Read.{readAnswerOf};
 ghost use Rattle.validate.specs.Entry.{lent};
 
 // Writes words over a lent list from a place on, as far as there is room.
@@ -294,4 +297,23 @@ pub extern "C" fn harkoxin_mark(errors: u64, warnings: u64, verses: u64, out: &m
     ensures { λ r. ⌜ now (out .exit) ≡ over (now (out .entry)) 0 (markWords (markAnswer errors warnings verses)) ⌝ }
 {
     write_mark(mark::mark(errors, warnings, verses), out)
+}
+
+fn write_read(a: ReadAnswer, out: &mut [u64])
+    ensures { λ r. ⌜ now (out .exit) ≡ over (now (out .entry)) 0 (readWords (readAnswerOf a)) ⌝ }
+{
+    match a {
+        ReadAnswer::Read(nodes) => write_words(&[0, 0, 0, nodes], 0, out),
+        ReadAnswer::Refused(number, place) => write_words(&[2, number, place, 0], 0, out),
+    }
+}
+
+// Reads a text under a marker table to a tape, 16 bytes a node. It writes its answer over the list `out`: the verdict (0 read,
+// 2 refused), a refusal's number and place, the number of nodes.
+#[no_mangle]
+pub extern "C" fn harkoxin_read(table: &[u8], text: &[u8], tape: &mut [u8], out: &mut [u64])
+    ensures answer { λ r. ⌜ now (out .exit) ≡ over (now (out .entry)) 0 (readWords (readAnswer (now (table .entry)) (now (text .entry)) (now (tape .entry)))) ⌝ }
+    ensures nodes { λ r. ⌜ now (tape .exit) ≡ nodesAfter (now (table .entry)) (now (text .entry)) (now (tape .entry)) ⌝ }
+{
+    write_read(reader::read(table, text, tape), out)
 }

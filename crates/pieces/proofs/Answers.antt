@@ -30,7 +30,7 @@ use Rattle.numbers.specs.declared.VersePart.{VersePart}
 use Rattle.numbers.specs.declared.PartRead.{PartRead}
 use Rattle.numbers.specs.declared.PartRead.the-variants as read
 use Rattle.numbers.proofs.Readable.{start-readable}
-use Rattle.reader_spec.specs.Refusals.{unknownMarker, unmatchedMarker}
+use Rattle.refusals.specs.Refusal.{unknownMarker, unmatchedMarker}
 use Rattle.reader_spec.specs.Pieces.{backslash, star, bar, byteIs, starAt, nameEnd, blanksAt, endsWord, withWord, numberSize, numberOr0, numberLink, toBackslash, milestonePiece, unlessStar, knownPiece, markerPiece, runPiece, pieceAt, Piece, close, block, chapter, verse, inline, milestone, fault}
 use Rattle.pieces.specs.declared.Piece.the-variants as found
 use Rattle.pieces.specs.Shown.{linkBy, shown}

@@ -1,3 +1,5 @@
 pub mod Tests
 pub mod Answers
 pub mod Sizes
+pub mod Places
+pub mod Depths

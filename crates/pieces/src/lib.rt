@@ -8,7 +8,7 @@ use table::MarkerInfo;
 ghost use mathlib.Core.Path.{_≡_};
 ghost use mathlib.Core.List.{List};
 ghost use mathlib.Core.Option.{some};
-ghost use Prim.Native.Nat.{ℕ, _≤_};
+ghost use Prim.Native.Nat.{ℕ, _<_, _≤_};
 ghost use lib.Dec.{eqb};
 ghost use lib.ListN.{length, drop};
 ghost use Rattle.text.specs.Characters.{find, findByte};
@@ -19,6 +19,7 @@ ghost use Rattle.table.specs.Inner.{Indexed, Chained};
 ghost use Rattle.cursor.specs.Inner.{Reached};
 ghost use Rattle.reader_spec.specs.Pieces.{bar, byteIs, starAt, nameEnd, endsWord, numberSize, milestonePiece, unlessStar, knownPiece, markerPiece, pieceAt};
 ghost use Rattle.pieces.specs.Shown.{linkBy, shown, bytesOf};
+ghost use Rattle.pieces.specs.Depth.{depthAfter};
 
 // What a text has at a place, with the numbers of bytes that belong to it. Names, links and a run's first `|` are left out, since the
 // pass that only counts needs few of them.
@@ -39,13 +40,6 @@ pub enum Piece {
     // Number 16 or 17; all the rest of the text belongs to it.
     Fault(u64),
 }
-
-// Document 02, K5: "16 for an unknown marker .. or one of category other". The numbers before it stand in crate refusals.
-pub const UNKNOWN_MARKER: u64 = 16;
-
-// "17 for a close without its open innermost, a milestone not closed as above, or a block marker, Chapter or text's end met with a
-// character or note marker open".
-pub const UNMATCHED_MARKER: u64 = 17;
 
 // Whether a byte stands at a place; past the end there is none.
 fn byte_is(l: &[u8], k: usize, b: u8) -> bool
@@ -117,7 +111,7 @@ fn milestone_piece(m: u16, l: &[u8], end: usize) -> Piece
             return Piece::Milestone(m, end, bar - end, last - bar);
         }
     }
-    Piece::Fault(UNMATCHED_MARKER)
+    Piece::Fault(refusals::UNMATCHED_MARKER)
 }
 
 // A close where a star stands directly behind the name, else the piece that is given.
@@ -145,7 +139,7 @@ fn known_piece(info: MarkerInfo, m: u16, l: &[u8], end: usize) -> Piece
         Category::Character => unless_star(l, end, Piece::Inline(m, end)),
         Category::Note => unless_star(l, end, Piece::Inline(m, end)),
         Category::Milestone => unless_star(l, end, milestone_piece(m, l, end)),
-        Category::Other => Piece::Fault(UNKNOWN_MARKER),
+        Category::Other => Piece::Fault(refusals::UNKNOWN_MARKER),
     }
 }
 
@@ -158,10 +152,10 @@ fn marker_piece(table: &[u8], index: &[u64], entries: usize, chains: &[u16], l: 
     let start = at.start;
     let end = at.end;
     let Lookup::Found(id) = MarkerId::lookup(table, index, entries, chains, &l[start..end]) else {
-        return Piece::Fault(UNKNOWN_MARKER);
+        return Piece::Fault(refusals::UNKNOWN_MARKER);
     };
     let Info::Known(info) = MarkerId::info(table, index, entries, id) else {
-        return Piece::Fault(UNKNOWN_MARKER);
+        return Piece::Fault(refusals::UNKNOWN_MARKER);
     };
     known_piece(info, id.0, l, end)
 }
@@ -175,7 +169,7 @@ pub fn piece_at(table: &[u8], index: &[u64], entries: usize, chains: &[u16], l: 
         return Piece::Run(text::find_byte(l, b'\\'));
     }
     if byte_is(l, 1, b'*') {
-        return Piece::Fault(UNMATCHED_MARKER);
+        return Piece::Fault(refusals::UNMATCHED_MARKER);
     }
     marker_piece(table, index, entries, chains, l)
 }
@@ -194,6 +188,18 @@ pub fn size_of(p: Piece, rest: usize) -> usize
         Piece::Inline(_, n) => n,
         Piece::Milestone(_, n, x, y) => n + x + y + 2,
         Piece::Fault(_) => rest,
+    }
+}
+
+// How many characters and notes are open behind a piece; a close with none open leaves none.
+pub fn depth_after(p: Piece, depth: usize) -> usize
+    requires { ⌜ depth < 4294967296 ⌝ }
+    ensures { λ r. ⌜ r ≡ depthAfter p depth ⌝ }
+{
+    match p {
+        Piece::Close(_) => if depth == 0 { 0 } else { depth - 1 },
+        Piece::Inline(_, _) => depth + 1,
+        _ => depth,
     }
 }
 

@@ -27,7 +27,7 @@ use Rattle.table.specs.Entries.{Entry, entries, nth}
 use Rattle.table.specs.Inner.{categoryAt}
 use Rattle.table.specs.Names.{lookedUp}
 use Rattle.cursor.specs.Names.{nameOf}
-use Rattle.reader_spec.specs.Refusals.{unknownMarker, unmatchedMarker}
+use Rattle.refusals.specs.Refusal.{unknownMarker, unmatchedMarker}
 use Rattle.reader_spec.specs.Pieces.{backslash, star, bar, runBar, closedAfter, Piece, run, close, block, chapter, verse, inline, milestone, fault, sizeOf, byteIs, starAt, nameEnd, blanksAt, numberSize, toBackslash, barAt, lastAt, milestonePiece, unlessStar, knownPiece, entryPiece, foundPiece, markerPiece, backslashPiece, runPiece, pieceAt, piecesPast, pieces}
 use Rattle.reader_spec.proofs.Sound.{Edge, Fair, Laid, edge-on}
 use Rattle.reader_spec.proofs.Below.{part-or-end, byte-boundary, past-byte}

@@ -14,7 +14,7 @@ use Rattle.table.specs.Names.{lookedUp}
 use Rattle.table.specs.declared.Category.{Category}
 use Rattle.table.specs.declared.Category.the-variants as category
 use Rattle.cursor.specs.Names.{nameOf}
-use Rattle.reader_spec.specs.Refusals.{unknownMarker, unmatchedMarker}
+use Rattle.refusals.specs.Refusal.{unknownMarker, unmatchedMarker}
 use Rattle.reader_spec.specs.Pieces.{Piece, close, block, chapter, verse, inline, milestone, fault, backslash, star, byteIs, starAt, nameEnd, blanksAt, numberSize, numberLink, toBackslash, barAt, closedAfter, milestonePiece, knownPiece, entryPiece, foundPiece, markerPiece, backslashPiece, runPiece, pieceAt}
 use Rattle.reader_spec.specs.Pass.{closes, OpenMarker, stateWith, PieceStep, goes, stops, pieceStep}
 use Rattle.reader_spec.specs.Conditions.{entryAt, entryFound, noneOrOther, isUnknown, innermostIs, someOpen, closeAlone, milestoneOpen, blockInside, isUnmatched}

@@ -15,12 +15,11 @@ use Rattle.text.specs.Pick.{pick}
 use Rattle.text.specs.Utf8.{Made, firstIllFormed}
 use Rattle.text.proofs.Bool.{and-left}
 use Rattle.text.proofs.Exact.{utf8-exact, utf8-place}
-use Rattle.refusals.specs.Refusal.{Refusal, refuse, onlyIf, orElse, badTableLayout, sourceTooLong, sourceNotUtf8}
+use Rattle.refusals.specs.Refusal.{Refusal, refuse, onlyIf, orElse, badTableLayout, sourceTooLong, sourceNotUtf8, unknownMarker, unmatchedMarker, nodeListTooShort}
 use Rattle.tape.specs.Nodes.{count}
 use Rattle.table.specs.Lines.{badTable}
 use Rattle.table.proofs.NumberOne.{one-number-1, number-1-one}
 use Rattle.definition.specs.Outcome.{atPlace}
-use Rattle.reader_spec.specs.Refusals.{unknownMarker, unmatchedMarker, nodeListTooShort}
 use Rattle.reader_spec.specs.Pieces.{backslash, byteIs, sizeOf, pieceAt}
 use Rattle.reader_spec.specs.Pass.{ReadNode, OpenMarker, ReadState, nothingOpen, PieceStep, goes, stops, pieceStep, PassOutcome, passed, faulty, withNodes, passOn, passEnd, outcome}
 use Rattle.reader_spec.specs.Rows.{nodeCount}

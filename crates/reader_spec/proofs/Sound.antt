@@ -16,7 +16,7 @@ use Rattle.table.specs.Entries.{entries, nth}
 use Rattle.table.specs.Names.{lookedUp}
 use Rattle.cursor.specs.Names.{nameOf}
 use Rattle.numbers.specs.Label.{splits}
-use Rattle.reader_spec.specs.Refusals.{unmatchedMarker}
+use Rattle.refusals.specs.Refusal.{unmatchedMarker}
 use Rattle.reader_spec.specs.Pieces.{Piece, run, close, block, chapter, verse, inline, milestone, fault, sizeOf}
 use Rattle.reader_spec.specs.Pass.{ReadNode, text, attribute, chapterAt, verseAt, opens, closes, ends, OpenMarker, ReadState, stateWith, PieceStep, goes, stops, withText, withAttribute, withBlockEnd, pieceStep, PassOutcome, passed, faulty, withNodes, passOn, passEnd, pass}
 use Rattle.reader_spec.specs.Rows.{shapeOf, rowOf}

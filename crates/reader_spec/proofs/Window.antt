@@ -13,7 +13,7 @@ use Rattle.text.specs.Utf8.{Made}
 use Rattle.text.specs.Pick.{pick}
 use Rattle.text.specs.Bytes.{equal}
 use Rattle.table.specs.Lines.{badTable}
-use Rattle.reader_spec.specs.Refusals.{unmatchedMarker}
+use Rattle.refusals.specs.Refusal.{unmatchedMarker}
 use Rattle.reader_spec.specs.Pieces.{Piece, run, close, block, chapter, verse, inline, milestone, fault, sizeOf, pieceAt, pieces}
 use Rattle.reader_spec.specs.Pass.{closes, OpenMarker, stateWith, PieceStep, goes, stops, pieceStep}
 use Rattle.reader_spec.specs.InnerSteps.{PlacedOpens, placesAfter, openTo, openFrom, window, Kept}
@@ -62,35 +62,51 @@ module _ (t s : List ℕ) (to at : ℕ) (os : List ℕ) where
   pub open-here : to ≤ at → openFrom t s to at os ≡ os
   open-here h = open-there to at (pieces t (drop at s)) os h
 
+-- these places are open at a place, to which a rescan from the text's start comes and goes on from there
+abbrev pub Reached : List ℕ → List ℕ → ℕ → List ℕ → Type 0
+Reached t s at ps = (to : ℕ) → at ≤ to → openFrom t s to 0 [] ≡ openFrom t s to at ps
+
+pub reached-start : (t s : List ℕ) → Reached t s 0 []
+reached-start t s to h = refl
+
+module _ (t s : List ℕ) (at : ℕ) (ps : List ℕ) (r : Reached t s at ps) where
+  pub reached-here : openFrom t s at 0 [] ≡ ps
+  reached-here = r at (omega arith) ∙ open-here t s at at ps (omega arith)
+
+  pub reached-next : badTable t ≡ none → Made (drop at s) → at < length s → Reached t s (at + sizeOf (pieceAt t (drop at s))) (placesAfter (pieceAt t (drop at s)) at ps)
+  reached-next sound made inside to h =
+      let some = here-some t s at sound made inside in
+      r to (omega arith) ∙ open-step t s to at ps sound made inside (omega arith)
+
 -- the window: nothing is open; one more is; the innermost is read and taken away; fewer are asked for
 pub kept-none : (w : List ℕ) (low : ℕ) → Kept w low []
 unfolding Kept
 kept-none w low = tt
 
-kept-set : (w : List ℕ) (low d p : ℕ) (ps : List ℕ) → length ps ≤ d → d < low + window → Kept w low ps → Kept (set w (d % window) p) low ps
+kept-set : (w : List ℕ) (low d p : ℕ) (ps : List ℕ) → length ps ≤ d → low ≤ d → d < low + window → Kept w low ps → Kept (set w (d % window) p) low ps
 unfolding Kept
-kept-set w low d p [] h l k = tt
-kept-set w low d p (q ∷ ps) h l k =
-    (λ b. getD-set-other w (d % window) (length ps % window) p 0 (λ e. omega arith) ∙ k .0 b, kept-set w low d p ps (omega arith) l (k .1))
+kept-set w low d p [] h a l k = tt
+kept-set w low d p (q ∷ ps) h a l k =
+    (λ b c. getD-set-other w (d % window) (length ps % window) p 0 (λ e. omega arith) ∙ k .0 b c, kept-set w low d p ps (omega arith) a l (k .1))
 
-pub kept-push : (w : List ℕ) (low p : ℕ) (ps : List ℕ) → length w ≡ window → length ps < low + window → Kept w low ps → Kept (set w (length ps % window) p) low (p ∷ ps)
+pub kept-push : (w : List ℕ) (low p : ℕ) (ps : List ℕ) → length w ≡ window → low ≤ length ps → length ps < low + window → Kept w low ps → Kept (set w (length ps % window) p) low (p ∷ ps)
 unfolding Kept
-kept-push w low p ps long l k = (λ b. getD-set-same w (length ps % window) p 0 (omega arith), kept-set w low (length ps) p ps (omega arith) l k)
+kept-push w low p ps long a l k = (λ b c. getD-set-same w (length ps % window) p 0 (omega arith), kept-set w low (length ps) p ps (omega arith) a l k)
 
-pub kept-top : (w : List ℕ) (low p : ℕ) (ps : List ℕ) → low ≤ length ps → Kept w low (p ∷ ps) → getD w (length ps % window) 0 ≡ p
+pub kept-top : (w : List ℕ) (low p : ℕ) (ps : List ℕ) → low ≤ length ps → length ps < low + window → Kept w low (p ∷ ps) → getD w (length ps % window) 0 ≡ p
 unfolding Kept
-kept-top w low p ps h k = k .0 h
+kept-top w low p ps h l k = k .0 h l
 
 pub kept-pop : (w : List ℕ) (low p : ℕ) (ps : List ℕ) → Kept w low (p ∷ ps) → Kept w low ps
 unfolding Kept
 kept-pop w low p ps k = k .1
 
-pub kept-raise : (w : List ℕ) (low low′ : ℕ) (ps : List ℕ) → low ≤ low′ → Kept w low ps → Kept w low′ ps
+pub kept-raise : (w : List ℕ) (low low′ : ℕ) (ps : List ℕ) → low ≤ low′ → length ps ≤ low + window → Kept w low ps → Kept w low′ ps
 unfolding Kept
-kept-raise w low low′ [] h k = tt
-kept-raise w low low′ (p ∷ ps) h k = (λ b. k .0 (omega arith), kept-raise w low low′ ps h (k .1))
+kept-raise w low low′ [] h l k = tt
+kept-raise w low low′ (p ∷ ps) h l k = (λ b c. k .0 (omega arith) (omega arith), kept-raise w low low′ ps h (omega arith) (k .1))
 
--- a rescan passes over what is not asked for
-pub kept-over : (w : List ℕ) (low p : ℕ) (ps : List ℕ) → length ps < low → Kept w low ps → Kept w low (p ∷ ps)
+-- a place that the window doesn't reach
+pub kept-over : (w : List ℕ) (low p : ℕ) (ps : List ℕ) → (low ≤ length ps → length ps < low + window → ⊥) → Kept w low ps → Kept w low (p ∷ ps)
 unfolding Kept
-kept-over w low p ps h k = (λ b. absurd (omega arith), k)
+kept-over w low p ps h k = (λ b c. absurd (h b c), k)

@@ -5,12 +5,11 @@ use mathlib.Core.Option.{Option, some, none}
 use lib.Dec.{ltb}
 use lib.ListN.{length, drop}
 use Rattle.text.specs.Utf8.{firstIllFormed}
-use Rattle.refusals.specs.Refusal.{Refusal, refuse, onlyIf, orElse, badTableLayout, sourceTooLong, sourceNotUtf8}
+use Rattle.refusals.specs.Refusal.{Refusal, refuse, onlyIf, orElse, badTableLayout, sourceTooLong, sourceNotUtf8, nodeListTooShort}
 use Rattle.tape.specs.Nodes.{count}
 use Rattle.table.specs.Lines.{badTable}
 use Rattle.definition.specs.Outcome.{atPlace, wordsBy}
 use Rattle.definition.specs.Examples.{Row, tapeOf}
-use Rattle.reader_spec.specs.Refusals.{nodeListTooShort}
 use Rattle.reader_spec.specs.Pass.{ReadNode, PassOutcome, passed, faulty, outcome}
 use Rattle.reader_spec.specs.Rows.{nodeCount, rowsOf}
 

@@ -9,7 +9,7 @@ use lib.Dec.{eqb}
 use lib.ListN.{length, drop}
 use Rattle.text.specs.Bytes.{equal}
 use Rattle.text.specs.Utf8.{FirstIllFormed}
-use Rattle.refusals.specs.Refusal.{Refusal, refuse, badTableLayout, sourceTooLong, sourceNotUtf8}
+use Rattle.refusals.specs.Refusal.{Refusal, refuse, badTableLayout, sourceTooLong, sourceNotUtf8, unknownMarker, unmatchedMarker, nodeListTooShort}
 use Rattle.tape.specs.Nodes.{count}
 use Rattle.table.specs.Lines.{badTable}
 use Rattle.table.specs.Entries.{Entry, entries, nth, categoryOf, identificationCategory, chapterCategory, paragraphCategory, milestoneCategory, otherCategory}
@@ -17,7 +17,6 @@ use Rattle.table.specs.Inner.{categoryAt}
 use Rattle.table.specs.Conditions.{NumberOne}
 use Rattle.table.specs.Names.{lookedUp}
 use Rattle.cursor.specs.Names.{nameOf}
-use Rattle.reader_spec.specs.Refusals.{unknownMarker, unmatchedMarker, nodeListTooShort}
 use Rattle.reader_spec.specs.Pieces.{sizeOf, backslash, star, byteIs, starAt, nameEnd, closedAfter, pieceAt}
 use Rattle.reader_spec.specs.Pass.{ReadNode, OpenMarker, ReadState, nothingOpen, goes, pieceStep, passed, outcome}
 use Rattle.reader_spec.specs.Rows.{nodeCount}

@@ -3,11 +3,10 @@ use Prim.Native.Nat.{ℕ}
 use mathlib.Core.List.{List, [], _∷_, _++_}
 use mathlib.Core.Option.{Option, some, none}
 use Rattle.text.specs.Literal.{ascii}
-use Rattle.refusals.specs.Refusal.{Refusal, badTableLayout, sourceNotUtf8}
+use Rattle.refusals.specs.Refusal.{Refusal, badTableLayout, sourceNotUtf8, unknownMarker, unmatchedMarker, nodeListTooShort}
 use Rattle.tape.specs.Nodes.{rootKind, markerOpenKind, markerCloseKind, chapterKind, verseKind, textKind, attributeKind, blockEndKind}
 use Rattle.definition.specs.Outcome.{repeated}
 use Rattle.definition.specs.Examples.{Row, row, exampleTable}
-use Rattle.reader_spec.specs.Refusals.{unknownMarker, unmatchedMarker, nodeListTooShort}
 use Rattle.reader_spec.specs.Answer.{readRefusal, rowsRead}
 
 -- what the reader gives: the rows of a tape, or a number with its place

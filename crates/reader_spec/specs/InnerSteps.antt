@@ -56,7 +56,7 @@ openFrom t s to at ps = openTo to at (pieces t (drop at s)) ps
 abbrev pub window : ℕ
 window = 8192
 
--- a window of places: the open with k others around it has its place at k mod the window's length, for each k from low on
+-- a window of places: the open with k others around it has its place at k mod the window's length, for as many k from low on as the window holds
 unfoldable pub Kept : List ℕ → ℕ → List ℕ → Type 0
 Kept w low [] = Unit {0}
-Kept w low (p ∷ ps) = (low ≤ length ps → getD w (length ps % window) 0 ≡ p) × Kept w low ps
+Kept w low (p ∷ ps) = (low ≤ length ps → length ps < low + window → getD w (length ps % window) 0 ≡ p) × Kept w low ps

@@ -1,4 +1,3 @@
-pub mod Refusals
 pub mod Pieces
 pub mod Pass
 pub mod Rows

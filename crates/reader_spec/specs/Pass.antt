@@ -4,7 +4,7 @@ use mathlib.Core.List.{List, [], _∷_, _++_}
 use mathlib.Core.Option.{Option, some, none}
 use Rattle.text.specs.Pick.{pick}
 use Rattle.text.specs.Bytes.{equal}
-use Rattle.reader_spec.specs.Refusals.{unmatchedMarker}
+use Rattle.refusals.specs.Refusal.{unmatchedMarker}
 use Rattle.reader_spec.specs.Pieces.{Piece, run, close, block, chapter, verse, inline, milestone, fault, sizeOf, pieces}
 
 -- a node after the root, without what the order of the nodes gives: its own number, and an open's link

@@ -17,7 +17,7 @@ use Rattle.table.specs.declared.Category.the-variants as category
 use Rattle.cursor.specs.Names.{namePart, nameOf}
 use Rattle.numbers.specs.Label.{isGlued, labelOf}
 use Rattle.numbers.specs.Verse.{Position, versePart}
-use Rattle.reader_spec.specs.Refusals.{unknownMarker, unmatchedMarker}
+use Rattle.refusals.specs.Refusal.{unknownMarker, unmatchedMarker}
 
 -- a piece, with the numbers of bytes that belong to it
 pub data Piece : Type 0 where

@@ -64,6 +64,18 @@ countTooLarge = 14
 abbrev pub noVerses : ℕ
 noVerses = 15
 
+-- document 02, K5: "16 for an unknown marker (`\*` is a close, no marker) or one of category other"
+abbrev pub unknownMarker : ℕ
+unknownMarker = 16
+
+-- "17 for a close without its open innermost, a milestone not closed as above, or a block marker, Chapter or text's end met with a character or note marker open"
+abbrev pub unmatchedMarker : ℕ
+unmatchedMarker = 17
+
+-- "18 when the node list is too short"
+abbrev pub nodeListTooShort : ℕ
+nodeListTooShort = 18
+
 pub record Refusal : Type 0 where
   pub number : ℕ
   pub place : ℕ

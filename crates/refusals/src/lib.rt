@@ -43,3 +43,13 @@ pub const COUNT_TOO_LARGE: u64 = 14;
 
 // "15 when verses is 0."
 pub const NO_VERSES: u64 = 15;
+
+// Document 02, K5: "16 for an unknown marker .. or one of category other".
+pub const UNKNOWN_MARKER: u64 = 16;
+
+// "17 for a close without its open innermost, a milestone not closed as above, or a block marker, Chapter or text's end met with a
+// character or note marker open".
+pub const UNMATCHED_MARKER: u64 = 17;
+
+// "18 when the node list is too short".
+pub const NODE_LIST_TOO_SHORT: u64 = 18;

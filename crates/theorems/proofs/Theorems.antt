@@ -75,6 +75,17 @@ use Rattle.mark.specs.Mark.{markOf, fullMark, markRefusal, LossAndMark, marked,
 use Rattle.mark.specs.Conditions.{GivenMark}
 use Rattle.mark.specs.MarkLines.{markLines, markOfAnswer, markOutput}
 use Rattle.mark.proofs.Marks as marks
+use Rattle.reader_spec.specs.Pass.{ReadNode, passed, outcome}
+use Rattle.reader_spec.specs.Rows.{nodeCount}
+use Rattle.reader_spec.specs.Answer.{readRefusal, nodesRead, readAnswer, nodesAfter}
+use Rattle.reader_spec.specs.Promise.{Legible, Yields, ReadChecked}
+use Rattle.reader_spec.specs.Conditions.{GivenRead}
+use Rattle.reader_spec.specs.Examples as reader-examples
+use Rattle.reader_spec.proofs.OneNumber as reader-numbers
+use Rattle.reader_spec.proofs.Whole as reader
+use Rattle.reader_spec.proofs.Settled as reader-settled
+use Rattle.reader.specs.Output.{programNodes, readOutput, Printed}
+use Rattle.reader.proofs.Outputs as outputs
 use Rattle.tally.specs.Tally.{tallyRefusal, tallyOf, sum}
 use Rattle.tally.proofs.Sums as sums
 use Rattle.tally.proofs.Total as totals
@@ -84,7 +95,7 @@ use Rattle.theorems.specs.Conditions.{Condition}
 use Rattle.theorems.specs.ListingExample.{tableFile, output, greekSource, greekNodes, greekOutput}
 use Rattle.theorems.proofs.Composed as composed
 use Rattle.theorems.proofs.Printed as printed
-use Rattle.refusals.specs.Refusal.{refuse}
+use Rattle.refusals.specs.Refusal.{Refusal, refuse, nodeListTooShort}
 
 -- ---- What `validate::check` promises
 
@@ -377,6 +388,41 @@ mark-number errors warnings verses = marks.mark-number errors warnings verses
 -- What `put_mark` writes by the check's answer is what mark-exercise prints for these files.
 pub mark-printed : (l : Lent) → isTooLarge (l .table) (l .source) (l .tape) ≡ false → 4096 ≤ length (l .seen) → 4096 ≤ length (l .openStarts) → markLines (markOfAnswer (answer l)) ≡ markOutput (l .table) (l .source) (l .tape)
 mark-printed l small seen opens = marks.mark-printed l small seen opens
+
+-- ---- The reader (document 02, K5)
+
+-- "Answers, after 1 to 3: 16 for an unknown marker .., 17 for a close without its open innermost .., 18 when the node list is too short ..; of 16 and 17 the earlier place, at one place 16."
+-- `GivenRead` has one case for each number, with its condition, and one for none: a refusal is given exactly where its condition holds.
+pub read-number : (t s nodes : List ℕ) (o : Option Refusal) → (readRefusal t s nodes ≡ o) ↔ GivenRead t s nodes o
+read-number t s nodes o = reader-numbers.read-number t s nodes o
+
+-- "Every tape it yields is one that numbers 4 to 9 don't turn back, unless it is too deep or over 65,535 nodes."
+-- Of the nodes that the pass over a text gives: they lie end to end from the text's start to its end, and 4 and 8 are the only exceptions.
+pub read-yields : (t s : List ℕ) (xs : List ReadNode) → Legible t s → outcome t s ≡ passed xs → Yields t s xs
+read-yields t s xs legible passes = reader.read-yields t s xs legible passes
+
+-- Of the check: lent a text's own tape it never answers 5, 6, 7 or 9, and 4 over 65,535 nodes alone, whatever else is lent.
+pub read-checked : (t s nodes seen : List ℕ) (starts : List OpenStart) (list : List ℕ) → readRefusal t s nodes ≡ none → ReadChecked t s nodes seen starts list
+read-checked t s nodes seen starts list none-given = reader.read-checked t s nodes seen starts list none-given
+
+-- "lent lists keep what lies beyond the written part", and a refusal writes nothing.
+pub read-refused-unchanged : (t s nodes : List ℕ) (r : Refusal) → readRefusal t s nodes ≡ some r → nodesAfter t s nodes ≡ nodes
+read-refused-unchanged t s nodes r e = outputs.refused-unchanged t s nodes r e
+
+pub read-beyond : (t s nodes : List ℕ) → drop (16 * nodeCount (nodesRead t s)) (nodesAfter t s nodes) ≡ drop (16 * nodeCount (nodesRead t s)) nodes
+read-beyond t s nodes = outputs.kept-beyond t s nodes
+
+-- What `put_output` writes over a list of nodes, up to the place that it gives, is what read-exercise prints for these files.
+pub read-printed : (t s entry exit : List ℕ) (r : ℕ) → isTooLarge t s [] ≡ false → 256 ≤ length entry → r ≤ length exit → Printed t s entry exit r (readAnswer t s entry) → take r exit ≡ readOutput t s entry
+read-printed t s entry exit r small room inside p = outputs.output-printed t s entry exit r small room inside p
+
+-- The program's list of 65,537 nodes is never too short.
+pub read-has-room : (t s nodes : List ℕ) (place : ℕ) → isTooLarge t s [] ≡ false → count nodes ≡ programNodes → readRefusal t s nodes ≡ refuse nodeListTooShort place → ⊥
+read-has-room t s nodes place small room given = outputs.has-room t s nodes place small room given
+
+-- Each of 53 texts gives the rows, or the refusal, that is written beside it.
+pub read-examples : reader-examples.resultsOf reader-examples.readExamples ≡ reader-examples.wantedResults reader-examples.readExamples
+read-examples = reader-settled.read-examples
 
 -- ---- Examples
 

@@ -91,7 +91,12 @@ use Rattle.listing.specs.Listing.{listing}
 use Rattle.listing.specs.Pieces.{headLines, heldCount, wholeIn, pieceOf, nextOf}
 use Rattle.mark.specs.Mark as marks
 use Rattle.mark.specs.Mark.{markRefusal, markAnswer}
-use Rattle.harkoxin.specs.Words.{answerWords, messageWords, messagesWords, tallyWords, markWords}
+use Rattle.reader_spec.specs.Pieces as pieces
+use Rattle.reader_spec.specs.Pass as passes
+use Rattle.reader_spec.specs.Rows as rows
+use Rattle.reader_spec.specs.Answer as reading-answer
+use Rattle.reader.specs.Output.{Printed}
+use Rattle.harkoxin.specs.Words.{answerWords, messageWords, messagesWords, tallyWords, markWords, readWords}
 use Rattle.harkoxin.specs.Report.{reportAnswer, reportText}
 use Rattle.theorems.specs.ListingExample.{tableFile, output}
 use Rattle.theorems.proofs.Printed.{listing-example}
@@ -984,6 +989,65 @@ mark-words-turned e = eqb-false 9250 750 refl (ap (wordIn 3) e)
 mark-words-verdict : 0 ∷ 15 ∷ 0 ∷ 0 ∷ 0 ∷ [] ≡ over (repeated 0 5) 0 (markWords (markAnswer 0 0 0)) → ⊥
 unfolding markRefusal repeated over
 mark-words-verdict e = eqb-false 0 2 refl (ap (wordIn 0) e)
+
+-- ---- reader::read
+
+-- a text of one byte, without a backslash: under the empty table its tape is the root and a Text
+abbrev oneByte : List ℕ
+oneByte = 120 ∷ []
+
+-- the number of nodes (0 for a refusal), and the number of a refusal (0 for none) in an answer for a text that is read
+abbrev nodesSaid : reading-answer.ReadAnswer → ℕ
+nodesSaid (reading-answer.refused r) = 0
+nodesSaid (reading-answer.read n) = n
+
+abbrev readNumberSaid : reading-answer.ReadAnswer → ℕ
+readNumberSaid (reading-answer.refused r) = r .number
+readNumberSaid (reading-answer.read n) = 0
+
+-- an answer that leaves the root out
+read-uncounted : reading-answer.read 1 ≡ reading-answer.readAnswer [] oneByte (repeated 0 32) → ⊥
+unfolding ascii inAny blankRanges blank utf8.table3-7 utf8.begins utf8.widthBy utf8.widthOf utf8.decoded utf8.decode utf8.afterWidth utf8.scan utf8.firstIllFormed charsPast bytesBefore findByte equal lines.lines lines.categories lines.roles lines.badFrom lines.badTable entries.position entries.entriesOf entries.entries entries.nth names.namedFrom names.undigited names.strippedLength names.lookedUp namePart repeated pieces.knownPiece pieces.markerPiece pieces.runPiece pieces.pieceAt pieces.piecesPast passes.pieceStep passes.pass passes.outcome rows.awaited rows.rowsFrom reading-answer.readRefusal worked.tapeOf
+read-uncounted e = eqb-false 1 2 refl (ap nodesSaid e)
+
+-- a list that is left as it was
+read-unwritten : repeated 0 32 ≡ reading-answer.nodesAfter [] oneByte (repeated 0 32) → ⊥
+unfolding ascii inAny blankRanges blank utf8.table3-7 utf8.begins utf8.widthBy utf8.widthOf utf8.decoded utf8.decode utf8.afterWidth utf8.scan utf8.firstIllFormed charsPast bytesBefore findByte equal lines.lines lines.categories lines.roles lines.badFrom lines.badTable entries.position entries.entriesOf entries.entries entries.nth names.namedFrom names.undigited names.strippedLength names.lookedUp namePart repeated pieces.knownPiece pieces.markerPiece pieces.runPiece pieces.pieceAt pieces.piecesPast passes.pieceStep passes.pass passes.outcome rows.awaited rows.rowsFrom reading-answer.readRefusal worked.tapeOf
+read-unwritten e = eqb-false 0 2 refl (ap (wordIn 12) e)
+
+-- a list without room that is no refusal
+read-roomless : reading-answer.read 2 ≡ reading-answer.readAnswer [] oneByte (repeated 0 31) → ⊥
+unfolding ascii inAny blankRanges blank utf8.table3-7 utf8.begins utf8.widthBy utf8.widthOf utf8.decoded utf8.decode utf8.afterWidth utf8.scan utf8.firstIllFormed charsPast bytesBefore findByte equal lines.lines lines.categories lines.roles lines.badFrom lines.badTable entries.position entries.entriesOf entries.entries entries.nth names.namedFrom names.undigited names.strippedLength names.lookedUp namePart repeated pieces.knownPiece pieces.markerPiece pieces.runPiece pieces.pieceAt pieces.piecesPast passes.pieceStep passes.pass passes.outcome rows.awaited rows.rowsFrom reading-answer.readRefusal worked.tapeOf
+read-roomless e = eqb-false 0 18 refl (ap readNumberSaid e)
+
+-- a marker without a name as a close without its open
+read-nameless : reading-answer.refused (record { number = 17; place = 0 }) ≡ reading-answer.readAnswer [] (0x5C ∷ []) [] → ⊥
+unfolding ascii inAny blankRanges blank utf8.table3-7 utf8.begins utf8.widthBy utf8.widthOf utf8.decoded utf8.decode utf8.afterWidth utf8.scan utf8.firstIllFormed charsPast bytesBefore findByte equal lines.lines lines.categories lines.roles lines.badFrom lines.badTable entries.position entries.entriesOf entries.entries entries.nth names.namedFrom names.undigited names.strippedLength names.lookedUp namePart repeated pieces.knownPiece pieces.markerPiece pieces.runPiece pieces.pieceAt pieces.piecesPast passes.pieceStep passes.pass passes.outcome rows.awaited rows.rowsFrom reading-answer.readRefusal worked.tapeOf
+read-nameless e = eqb-false 17 16 refl (ap readNumberSaid e)
+
+-- ---- reader::put_output
+
+-- the first node alone
+output-half : Printed [] oneByte (repeated 0 32) (reading-answer.nodesAfter [] oneByte (repeated 0 32)) 16 (reading-answer.readAnswer [] oneByte (repeated 0 32)) → ⊥
+unfolding ascii inAny blankRanges blank utf8.table3-7 utf8.begins utf8.widthBy utf8.widthOf utf8.decoded utf8.decode utf8.afterWidth utf8.scan utf8.firstIllFormed charsPast bytesBefore findByte equal lines.lines lines.categories lines.roles lines.badFrom lines.badTable entries.position entries.entriesOf entries.entries entries.nth names.namedFrom names.undigited names.strippedLength names.lookedUp namePart repeated pieces.knownPiece pieces.markerPiece pieces.runPiece pieces.pieceAt pieces.piecesPast passes.pieceStep passes.pass passes.outcome rows.awaited rows.rowsFrom reading-answer.readRefusal worked.tapeOf
+output-half e = eqb-false 16 32 refl (e .1)
+
+-- a refusal whose lines aren't written
+output-unwritten : Printed [] (0x5C ∷ []) (repeated 0 256) (repeated 0 256) 38 (reading-answer.readAnswer [] (0x5C ∷ []) (repeated 0 256)) → ⊥
+unfolding ascii inAny blankRanges blank utf8.table3-7 utf8.begins utf8.widthBy utf8.widthOf utf8.decoded utf8.decode utf8.afterWidth utf8.scan utf8.firstIllFormed charsPast bytesBefore findByte equal lines.lines lines.categories lines.roles lines.badFrom lines.badTable entries.position entries.entriesOf entries.entries entries.nth names.namedFrom names.undigited names.strippedLength names.lookedUp namePart repeated pieces.knownPiece pieces.markerPiece pieces.runPiece pieces.pieceAt pieces.piecesPast passes.pieceStep passes.pass passes.outcome rows.awaited rows.rowsFrom reading-answer.readRefusal worked.tapeOf refusedLines over decimal decimalFuel
+output-unwritten e = eqb-false 0 118 refl (ap (wordIn 0) (e .list))
+
+-- ---- harkoxin::harkoxin_read
+
+-- the place as the number, and the number as the place
+read-words-turned : 2 ∷ 5 ∷ 16 ∷ 0 ∷ [] ≡ over (repeated 0 4) 0 (readWords (reading-answer.refused (record { number = 16; place = 5 }))) → ⊥
+unfolding repeated over
+read-words-turned e = eqb-false 5 16 refl (ap (wordIn 1) e)
+
+-- the number of nodes as the place
+read-words-place : 0 ∷ 0 ∷ 2 ∷ 0 ∷ [] ≡ over (repeated 0 4) 0 (readWords (reading-answer.read 2)) → ⊥
+unfolding repeated over
+read-words-place e = eqb-false 2 0 refl (ap (wordIn 2) e)
 
 -- ---- check_exercise: the listing
 

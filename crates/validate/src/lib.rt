@@ -131,7 +131,7 @@ pub enum InputCheck {
 }
 
 // Numbers 2 and 3.
-fn check_source(source: &[u8]) -> InputCheck
+pub fn check_source(source: &[u8]) -> InputCheck
     ensures { λ r. ⌜ checkRefusal r ≡ sourceRefusal (now (source .entry)) ⌝ }
 {
     if 1048576 < source.len() {

@@ -1,5 +1,5 @@
-//! Writes the folders of examples for check-exercise and mark-exercise, each with what they print;
-//! with --check it makes them anew and compares.
+//! Writes the folders of examples for check-exercise, mark-exercise and read-exercise, each with
+//! what they print; with --check it makes them anew and compares.
 
 use std::fs;
 use std::path::{Path, PathBuf};
@@ -8,6 +8,7 @@ use std::process::ExitCode;
 use oracle::examples::examples;
 use oracle::listing::listing;
 use oracle::marks;
+use oracle::reading;
 
 const FOLDER: &str = concat!(env!("CARGO_MANIFEST_DIR"), "/../examples");
 
@@ -19,12 +20,14 @@ fn files() -> Vec<(PathBuf, Vec<u8>)> {
         let folder = Path::new(FOLDER).join(name);
         let expected = listing(&document).into_bytes();
         let expected_mark = marks::lines(&document).into_bytes();
+        let expected_read = reading::printed(&document.table, &document.source);
         list.extend([
             (folder.join("table.txt"), document.table),
             (folder.join("source.usfm"), document.source),
             (folder.join("nodes.bin"), document.tape),
             (folder.join("expected"), expected),
             (folder.join("expected-mark"), expected_mark),
+            (folder.join("expected-read"), expected_read),
         ]);
     }
     list.retain(|(_, bytes)| !bytes.is_empty());

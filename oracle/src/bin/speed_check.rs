@@ -7,10 +7,11 @@
 use std::process::ExitCode;
 use std::time::Duration;
 
+use oracle::arguments::sections;
 use oracle::books::{Manner, Shape, Style, bible, book, filled, overlapping, shapes};
 use oracle::document::Document;
 use oracle::refusals::MOST_NODES;
-use oracle::timed::{Best, Measured, Sheet, Texts, grouped, seconds};
+use oracle::timed::{Best, Measured, Sheet, Texts, grouped, ratio, rounds, seconds};
 
 const SECTIONS: [&str; 5] = ["books", "bible", "growth", "adversarial", "overlapping"];
 
@@ -64,23 +65,6 @@ fn measure(items: &mut [Item], time: Duration) {
             item.measured.sweep(&item.documents, time);
         }
     }
-}
-
-fn ratio(value: f64) -> String {
-    let places = match value {
-        ..0.01 => 5,
-        ..10.0 => 2,
-        _ => 0,
-    };
-    format!("{value:.places$}")
-}
-
-/// How many rounds the library had, and the Rust where it had others.
-fn rounds(library: usize, rust: usize) -> String {
-    if library == rust {
-        return library.to_string();
-    }
-    format!("{library}, Rust {rust}")
 }
 
 fn row(name: &str, it: &Measured, library: f64) -> Vec<String> {
@@ -223,24 +207,8 @@ fn shape_sheet(list: &[Shape]) -> (Sheet, Vec<String>) {
     (sheet, slow)
 }
 
-/// The sections that the command line names, and whether it has `--markdown`.
-fn chosen() -> Result<(Vec<String>, bool), String> {
-    let given = std::env::args().skip(1);
-    let (options, names): (Vec<String>, Vec<String>) = given.partition(|it| it.starts_with('-'));
-    let is_known = |name: &&String| SECTIONS.contains(&name.as_str());
-    let unknown = names.iter().find(|name| !is_known(name));
-    let unknown = unknown.or(options.iter().find(|option| *option != "--markdown"));
-    if let Some(word) = unknown {
-        let usage = SECTIONS.join("] [");
-        return Err(format!("{word}? usage: [--markdown] [{usage}]"));
-    }
-    let all = SECTIONS.map(String::from).to_vec();
-    let names = if names.is_empty() { all } else { names };
-    Ok((names, !options.is_empty()))
-}
-
 fn main() -> ExitCode {
-    let (names, markdown) = match chosen() {
+    let (names, markdown) = match sections(&SECTIONS) {
         Ok(chosen) => chosen,
         Err(why) => {
             eprintln!("{why}");

@@ -157,6 +157,14 @@ impl Shown {
         self.read += u64::from(answer.is_ok());
     }
 
+    pub fn add_all(&mut self, other: &Shown) {
+        for (feature, count) in &other.counts {
+            *self.counts.entry(feature).or_default() += count;
+        }
+        self.texts += other.texts;
+        self.read += other.read;
+    }
+
     fn count(&self, feature: &str) -> u64 {
         self.counts.get(feature).copied().unwrap_or(0)
     }
@@ -643,5 +651,10 @@ mod tests {
         let lines = shown.report();
         assert!(lines.starts_with("1 texts, 1 read\n"));
         assert_eq!(lines.lines().count(), 1 + FEATURES.len());
+        let mut both = shown.clone();
+        both.add_all(&shown);
+        assert_eq!((both.texts, both.read), (2, 2));
+        assert_eq!(both.count("the empty text"), 2);
+        assert_eq!(both.missing(), shown.missing());
     }
 }

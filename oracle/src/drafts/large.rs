@@ -21,13 +21,21 @@ macro_rules! list {
 
 /// All of them.
 pub fn large() -> Vec<Large> {
-    [books(), nestings(), long_pieces(), many_pieces()]
+    let mut list = books();
+    list.extend(shapes());
+    list
+}
+
+/// Those that aren't books.
+pub fn shapes() -> Vec<Large> {
+    [nestings(), long_pieces(), many_pieces()]
         .into_iter()
         .flatten()
         .collect()
 }
 
-fn books() -> Vec<Large> {
+/// Those that are books.
+pub fn books() -> Vec<Large> {
     list! {
         "a book of prose": |by| book(by, Style::Plain, Manner::Prose, 57_000),
         "a book of poetry": |by| book(by, Style::Plain, Manner::Poetry, 65_000),
@@ -40,6 +48,9 @@ fn nestings() -> Vec<Large> {
     list! {
         "the deepest nesting": |by| nested(by, "\\a", "\\a*", ""),
         "the deepest nesting of two names": |by| nested(by, "\\a\\b", "\\b*\\a*", ""),
+        "the deepest nesting of three names": |by| nested(by, "\\a\\b\\a1", "\\a1*\\b*\\a*", ""),
+        "the deepest nesting, a name for each": |by| own_names(by, 1).text(),
+        "the deepest nesting, a name for each, the last two closes exchanged": |by| own_names(by, 1).exchanged(),
         "the deepest nesting, another's close in the middle": |by| nested(by, "\\a", "\\a*", "\\b*"),
         "the most unclosed opens": |by| repeated(by, "", "\\a", ""),
         "the most unclosed opens, then a block": |by| repeated(by, "", "\\a", "\\p"),
@@ -51,6 +62,8 @@ fn nestings() -> Vec<Large> {
         "deep, then 257 closes and 257 opens in turn": |by| saw(by, 257),
         "deep, then 1,025 closes and 1,025 opens in turn": |by| saw(by, 1_025),
         "deep, then 20,000 closes and 20,000 opens in turn": |by| saw(by, 20_000),
+        "deep, then 1,000 closes and 1,000 opens in turn, a name for each": |by| own_names(by, 1_000).text(),
+        "deep, then 20,000 closes and 20,000 opens in turn, a name for each": |by| own_names(by, 20_000).text(),
         "opens with names of 1,000 bytes": |by| nested(by, &long_name("\\a", ""), &long_name("\\a", "*"), ""),
     }
 }
@@ -130,6 +143,91 @@ fn saw(by: usize, width: usize) -> Draft {
     Draft::new(&ENTRIES, text)
 }
 
+/// Opens and closes of which no two opens have the same name: a reader that takes one open for another doesn't pass.
+struct OwnNames {
+    text: String,
+    /// The closes at the end, the innermost first.
+    closes: Vec<String>,
+}
+
+impl OwnNames {
+    fn text(mut self) -> Draft {
+        self.text.extend(self.closes);
+        Draft::new(&ENTRIES, self.text)
+    }
+
+    fn exchanged(mut self) -> Draft {
+        let last = self.closes.len() - 1;
+        self.closes.swap(last - 1, last);
+        self.text()
+    }
+}
+
+/// So many opens, closes and opens again, then the closes of what is open, with a name for each open.
+fn climb(up: usize, down: usize, again: usize) -> Draft {
+    let mut names = (0..up + again).map(|number| format!("\\a{number}"));
+    let mut open: Vec<String> = names.by_ref().take(up).collect();
+    let mut text = open.concat();
+    for closed in open.split_off(up - down).iter().rev() {
+        text.push_str(&format!("{closed}*"));
+    }
+    text.extend(names.by_ref().inspect(|name| open.push(name.clone())));
+    text.extend(open.iter().rev().map(|name| format!("{name}*")));
+    Draft::new(&ENTRIES, text)
+}
+
+/// Nestings at both sides of each power of two, where a reader's memory for the innermost opens may end: straight ones, and ones
+/// that come down and go up again.
+pub fn climbs() -> impl Iterator<Item = Draft> {
+    let straight = (0..=16).flat_map(|power| {
+        let most = 1usize << power;
+        (most - 1..=most + 2).map(|up| climb(up, 0, 0))
+    });
+    let again = (3..=13).flat_map(|power| {
+        let most = 1usize << power;
+        let ups = [most + 1, 2 * most + 1];
+        ups.into_iter().flat_map(move |up| {
+            (most - 1..=most + 1).flat_map(move |down| {
+                (most - 1..=most + 2).map(move |again| climb(up, down, again))
+            })
+        })
+    });
+    straight.chain(again)
+}
+
+/// As `saw`, with a level of its own for each open; with a width of 1 opens alone.
+fn own_names(by: usize, width: usize) -> OwnNames {
+    let name = |number: usize| format!("\\a{number}");
+    let mut room = LARGEST_SOURCE / by;
+    let mut names = Vec::new();
+    while let Some(rest) = room.checked_sub(2 * name(names.len()).len() + 1) {
+        names.push(name(names.len()));
+        room = rest;
+    }
+    let width = width.min(names.len() / 3);
+    let teeth = match width {
+        1 => 0,
+        _ => names.len() * 2 / 3 / width,
+    };
+    let mut names = names.into_iter();
+    let deep = names.len() - teeth * width;
+    let mut open: Vec<String> = names.by_ref().take(deep).collect();
+    let mut text = open.concat();
+    for _ in 0..teeth {
+        for closed in open.split_off(open.len() - width).iter().rev() {
+            text.push_str(closed);
+            text.push('*');
+        }
+        open.extend(names.by_ref().take(width));
+        text.push_str(&open[open.len() - width..].concat());
+    }
+    let closes = open.iter().rev().map(|name| format!("{name}*"));
+    OwnNames {
+        text,
+        closes: closes.collect(),
+    }
+}
+
 fn long_name(begin: &str, end: &str) -> String {
     format!("{begin}{}{end}", "1".repeat(1_000))
 }
@@ -149,8 +247,12 @@ fn last_of_the_table(by: usize) -> Draft {
 
 /// A book of about so many nodes.
 fn book(by: usize, style: Style, manner: Manner, nodes: usize) -> Draft {
-    let document = filled(style, manner, nodes / by);
-    Draft::new(&MARKERS, with_closes(&document))
+    of_book(&filled(style, manner, nodes / by))
+}
+
+/// The text of a book, written so that the reader takes it.
+pub fn of_book(document: &Document) -> Draft {
+    Draft::new(&MARKERS, with_closes(document))
 }
 
 /// The source of a document in which every character and note has its close: a parser ends those of a note or a row where the
@@ -185,8 +287,7 @@ mod tests {
 
     #[test]
     fn each_shape_is_as_large_as_it_may_be() {
-        let shapes = large().into_iter().skip(books().len());
-        for Large { name, draft } in shapes {
+        for Large { name, draft } in shapes() {
             for by in [1, 2] {
                 let bytes = draft(by).text.len();
                 let most = LARGEST_SOURCE / by;
@@ -194,6 +295,14 @@ mod tests {
                 assert!(fits, "{name} by {by}: {bytes} of {most}");
             }
         }
+    }
+
+    #[test]
+    fn climbs_have_their_names_in_order() {
+        let text = String::from_utf8(climb(3, 2, 1).text).unwrap();
+        assert_eq!(text, "\\a0\\a1\\a2\\a2*\\a1*\\a3\\a3*\\a0*");
+        let most = climbs().map(|draft| draft.text.len()).max();
+        assert!(most.is_some_and(|most| (800_000..LARGEST_SOURCE).contains(&most)));
     }
 
     #[test]
@@ -205,10 +314,14 @@ mod tests {
     }
 
     /// Of the largest ones, those that are turned back.
-    const REFUSED: [(&str, (u32, u64)); 10] = [
+    const REFUSED: [(&str, (u32, u64)); 11] = [
         (
             "the deepest nesting, another's close in the middle",
             (17, (ALL - 3) / 5 * 2),
+        ),
+        (
+            "the deepest nesting, a name for each, the last two closes exchanged",
+            (17, ALL - 14),
         ),
         ("the most unclosed opens", (17, ALL)),
         ("the most unclosed opens, then a block", (17, ALL - 2)),
@@ -237,6 +350,11 @@ mod tests {
         for (name, nodes) in [
             ("blocks", LARGEST_SOURCE + 1),
             ("the deepest nesting", pairs),
+            ("the deepest nesting, a name for each", 2 * 71_386 + 1),
+            (
+                "deep, then 1,000 closes and 1,000 opens in turn, a name for each",
+                2 * 71_386 + 1,
+            ),
             ("opens and closes in turn", pairs),
             ("deep, then 257 closes and 257 opens in turn", pairs),
             ("verses", LARGEST_SOURCE / 2 + 1),

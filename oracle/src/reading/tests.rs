@@ -2,6 +2,7 @@
 
 use super::*;
 use crate::document::{Document, table_text};
+use crate::examples::examples;
 use crate::listing::listing as printed_listing;
 use crate::parts::{lookup, parse_verse_part};
 use crate::refusals::{LARGEST_SOURCE, MOST_MARKERS};
@@ -725,6 +726,18 @@ fn read_exercise_prints_nodes_or_a_refusal() {
         printed(&table, b"\\p\\zz"),
         b"verdict=refused\nrefusal=16\nplace=2\n"
     );
+}
+
+#[test]
+fn read_exercise_prints_16_and_17_of_an_example() {
+    for (number, place) in [(16, 28), (17, 52)] {
+        let mut all = examples().into_iter();
+        let name = format!("refused-{number}");
+        let (_, document) = all.find(|(its, _)| *its == name).unwrap();
+        let expected = format!("verdict=refused\nrefusal={number}\nplace={place}\n");
+        let printed = printed(&document.table, &document.source);
+        assert_eq!(printed, expected.into_bytes());
+    }
 }
 
 #[test]

@@ -10,8 +10,8 @@ use super::{Published, Timer, with_published};
 use crate::document::Document;
 
 /// Rounds of one sweep.
-const FEWEST_ROUNDS: usize = 2;
-const MOST_ROUNDS: usize = 1_000;
+pub(super) const FEWEST_ROUNDS: usize = 2;
+pub(super) const MOST_ROUNDS: usize = 1_000;
 
 /// What has run for as many seconds isn't run again.
 const ENOUGH: f64 = 2.0;
@@ -33,17 +33,17 @@ pub struct Best {
 }
 
 impl Best {
-    const NONE: Best = Best {
+    pub(super) const NONE: Best = Best {
         seconds: f64::MAX,
         rounds: 0,
         spent: 0.0,
     };
 
-    fn is_wanted(&self) -> bool {
+    pub(super) fn is_wanted(&self) -> bool {
         self.spent < ENOUGH
     }
 
-    fn add(&mut self, seconds: f64) {
+    pub(super) fn add(&mut self, seconds: f64) {
         self.seconds = self.seconds.min(seconds);
         self.rounds += 1;
         self.spent += seconds;

@@ -85,6 +85,24 @@ pub fn seconds(time: f64) -> String {
     format!("{value:.places$} {unit}")
 }
 
+/// How many times as long one takes as another.
+pub fn ratio(value: f64) -> String {
+    let places = match value {
+        ..0.01 => 5,
+        ..10.0 => 2,
+        _ => 0,
+    };
+    format!("{value:.places$}")
+}
+
+/// How many rounds the library had, and the Rust where it had others.
+pub fn rounds(library: usize, rust: usize) -> String {
+    if library == rust {
+        return library.to_string();
+    }
+    format!("{library}, Rust {rust}")
+}
+
 #[cfg(test)]
 mod tests {
     use super::*;
@@ -102,6 +120,12 @@ mod tests {
             texts,
             ["0.50 µs", "254 µs", "12.3 ms", "500 ms", "1.23 s", "12.0 s"]
         );
+    }
+
+    #[test]
+    fn ratios_have_three_digits_or_so() {
+        let texts = [0.001_234, 0.5, 1.0, 12.3].map(ratio);
+        assert_eq!(texts, ["0.00123", "0.50", "1.00", "12"]);
     }
 
     #[test]

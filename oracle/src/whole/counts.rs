@@ -4,6 +4,7 @@ use std::fmt::Write;
 
 use super::FINDING_WORDS;
 use super::accounts::Paired;
+use crate::drafts::Shown;
 use crate::reached::Reached;
 
 #[derive(Clone, Debug, Default, PartialEq, Eq)]
@@ -25,6 +26,14 @@ pub struct Counts {
     pub limited_cut: u64,
     /// Bytes of all lists that were lent, without their margins.
     pub lent_bytes: u64,
+    /// Texts, those that have a tape, and the nodes of these; those whose tape is too long or too deep for a check.
+    pub texts: u64,
+    pub texts_read: u64,
+    pub text_nodes: u64,
+    pub too_long: u64,
+    pub too_deep: u64,
+    /// What the texts show that were compared as such.
+    pub shown: Shown,
     /// Milestones of the accepted.
     pub paired: Paired,
     pub reached: Reached,
@@ -43,6 +52,12 @@ impl Counts {
         self.limited += other.limited;
         self.limited_cut += other.limited_cut;
         self.lent_bytes += other.lent_bytes;
+        self.texts += other.texts;
+        self.texts_read += other.texts_read;
+        self.text_nodes += other.text_nodes;
+        self.too_long += other.too_long;
+        self.too_deep += other.too_deep;
+        self.shown.add_all(&other.shown);
         self.paired.add(&other.paired);
         self.reached.add(&other.reached);
     }
@@ -71,10 +86,30 @@ impl Counts {
         self.limited_cut += u64::from(is_cut);
     }
 
+    pub(super) fn text(&mut self, nodes: Option<usize>) {
+        self.texts += 1;
+        self.texts_read += u64::from(nodes.is_some());
+        self.text_nodes += nodes.unwrap_or(0) as u64;
+    }
+
+    /// What was compared of texts, on one line.
+    pub fn text_line(&self) -> String {
+        line(&self.of_texts())
+    }
+
+    fn of_texts(&self) -> [(&'static str, u64); 5] {
+        [
+            ("texts", self.texts),
+            ("of them read", self.texts_read),
+            ("nodes of these", self.text_nodes),
+            ("with too many nodes for a check", self.too_long),
+            ("too deep for one", self.too_deep),
+        ]
+    }
+
     /// The counts on one line.
     pub fn line(&self) -> String {
-        let mut text = String::new();
-        for (name, count) in [
+        let of_documents = [
             ("documents", self.documents),
             ("accepted", self.accepted),
             ("nodes", self.nodes),
@@ -90,9 +125,15 @@ impl Counts {
             ("bases with several", self.paired.several),
             ("bases with some and mismatches", self.paired.partly),
             ("with crossing pairs", self.paired.crossing),
-        ] {
-            write!(text, ", {count} {name}").expect("a string takes all");
-        }
-        text.split_off(2)
+        ];
+        line(&[&of_documents[..], &self.of_texts()].concat())
     }
+}
+
+fn line(counts: &[(&str, u64)]) -> String {
+    let mut text = String::new();
+    for (name, count) in counts {
+        write!(text, ", {count} {name}").expect("a string takes all");
+    }
+    text.split_off(2)
 }

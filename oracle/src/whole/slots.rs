@@ -17,6 +17,8 @@ pub struct Slots {
     pub ends: Slot<u64>,
     pub text: Slot<u8>,
     pub counts: Slot<u64>,
+    /// What a text is read over.
+    pub nodes: Slot<u8>,
     pub out: Slot<u64>,
     write_protected: bool,
 }
@@ -126,5 +128,15 @@ impl Slots {
 
     pub fn mark(&mut self, errors: u64, warnings: u64, verses: u64) {
         raw::mark(errors, warnings, verses, self.out.list_mut());
+    }
+
+    /// Reads the source as a text.
+    pub fn read(&mut self) {
+        raw::read(
+            self.table.list(),
+            self.source.list(),
+            self.nodes.list_mut(),
+            self.out.list_mut(),
+        );
     }
 }

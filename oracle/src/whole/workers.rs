@@ -1,4 +1,4 @@
-//! Seeds shared out among threads.
+//! Numbers, most of them seeds, shared out among threads.
 
 use std::sync::atomic::{AtomicBool, Ordering};
 use std::thread;
@@ -13,7 +13,7 @@ pub struct Source {
     pub lengths: fn(u64, usize) -> (usize, usize),
 }
 
-/// A long run says at each such seed how far it is.
+/// A long run says at each such number how far it is.
 const PROGRESS: u64 = 1_000_000;
 
 /// What went wrong with a document.
@@ -21,47 +21,35 @@ pub fn failure_message(seed: u64, document: &Document, why: &str) -> String {
     format!("seed {seed}: {why}\n{}", document.to_hex())
 }
 
-/// Compares every `step`-th seed from `first` on, up to `end`, unless another thread met a difference.
-fn some(
-    source: Source,
-    (first, end, step): (u64, u64, usize),
-    stop: &AtomicBool,
-) -> Result<Counts, String> {
-    let mut comparison = Comparison::default();
-    for seed in (first..end).step_by(step) {
-        if stop.load(Ordering::Relaxed) {
-            break;
-        }
-        let document = (source.document)(seed);
-        let lengths = (source.lengths)(seed, document.node_count());
-        let compared = comparison.compare(&document, seed, lengths);
-        if let Err(why) = compared {
-            stop.store(true, Ordering::Relaxed);
-            return Err(failure_message(seed, &document, &why));
-        }
-        if seed.is_multiple_of(PROGRESS) {
-            println!("at seed {seed}, no difference so far");
-        }
-    }
-    Ok(comparison.counts)
-}
-
-/// Compares so many seeds by so many threads; ends at the first difference.
-pub fn compare_seeds(
-    source: Source,
-    first: u64,
-    seeds: u64,
+/// Has the numbers of a range compared by so many threads, each of which takes every so many of them; ends at the first
+/// difference.
+pub fn share_out(
+    (first, end): (u64, u64),
     threads: usize,
+    compare: impl Fn(&mut Comparison, u64) -> Result<(), String> + Sync,
 ) -> Result<Counts, String> {
-    let (threads, end) = (threads.max(1), first + seeds);
+    let threads = threads.max(1);
     let stop = AtomicBool::new(false);
+    let some = |share: u64| {
+        let mut comparison = Comparison::default();
+        for number in (first + share..end).step_by(threads) {
+            if stop.load(Ordering::Relaxed) {
+                break;
+            }
+            if let Err(why) = compare(&mut comparison, number) {
+                stop.store(true, Ordering::Relaxed);
+                return Err(why);
+            }
+            if number > 0 && number.is_multiple_of(PROGRESS) {
+                println!("at {number}, no difference so far");
+            }
+        }
+        Ok(comparison.counts)
+    };
     thread::scope(|scope| {
-        let start = |k: usize| {
-            let share = (first + k as u64, end, threads);
-            let stop = &stop;
-            scope.spawn(move || some(source, share, stop))
-        };
-        let workers: Vec<_> = (0..threads).map(start).collect();
+        let some = &some;
+        let start = |share| scope.spawn(move || some(share));
+        let workers: Vec<_> = (0..threads as u64).map(start).collect();
         let mut sum = Ok(Counts::default());
         for worker in workers {
             let counts = worker.join().map_err(|_| "a worker panicked".to_string());
@@ -71,6 +59,21 @@ pub fn compare_seeds(
             });
         }
         sum
+    })
+}
+
+/// Compares the documents of so many seeds by so many threads; ends at the first difference.
+pub fn compare_seeds(
+    source: Source,
+    first: u64,
+    seeds: u64,
+    threads: usize,
+) -> Result<Counts, String> {
+    share_out((first, first + seeds), threads, |comparison, seed| {
+        let document = (source.document)(seed);
+        let lengths = (source.lengths)(seed, document.node_count());
+        let compared = comparison.compare(&document, seed, lengths);
+        compared.map_err(|why| failure_message(seed, &document, &why))
     })
 }
 

@@ -143,7 +143,7 @@ pub fn example_names() -> Vec<String> {
         .map(|entry| entry.file_name().into_string().unwrap())
         .collect();
     names.sort();
-    assert!(names.len() >= 22, "{names:?}");
+    assert!(names.len() >= 25, "{names:?}");
     names
 }
 

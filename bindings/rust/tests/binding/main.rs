@@ -9,4 +9,5 @@ mod marks;
 mod nodes;
 mod positions;
 mod raw;
+mod reading;
 mod refusals;

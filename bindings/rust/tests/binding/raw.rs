@@ -366,4 +366,7 @@ fn empty_slices_everywhere() {
     raw::tally(&[], &mut [], &mut out);
     assert_eq!(out[..3], [DONE, 0, 0]);
     raw::mark(0, 0, 0, &mut []);
+    raw::read(&[], &[], &mut [], &mut []);
+    raw::read(&[], &[], &mut [], &mut out);
+    assert_eq!(out[..4], [REFUSED, 18, 1, 0]);
 }

@@ -8,7 +8,7 @@ use lib.ListN.{length}
 use mathlib.Core.Path.{_≡_}
 use native.Mathlib.Omega.{arith}
 use Rattle.text.specs.Pick.{pick}
-use Rattle.reader_spec.specs.Refusals.{unmatchedMarker}
+use Rattle.refusals.specs.Refusal.{unmatchedMarker}
 use Rattle.reader_spec.specs.Pieces.{backslash, milestone, fault, milestonePiece}
 use Rattle.pieces.proofs.Answers.{closed-bare, open-bare, behind-bar, from-place, from-inside}
 use Rattle.pieces.proofs.milestone_piece.Statement.{statement}
