@@ -66,9 +66,9 @@ walk = dict(
         measure='to₀ - $i',
         start=f'going-start {WALK} seen₀ opens₀ list₀ rec₀ _ (req .0) (req .1) after-numbers',
         again={
-            'kind_at': 'going-past-leaf kept test-while _ says-past-node _ says-kind-at test-kind-at _ _ _ _ len-visit-leaf-seen says-visit-leaf',
-            'Known': f'going-visited kept test-while {MARKER} _ told-marker-info _ _ _ _ len-visit-seen len-visit-opens says-visit',
-            'Missing': f'going-passed-over kept test-while {MARKER} told-marker-info'},
+            'not kind_at': 'going-past-leaf kept test-while _ says-past-node _ says-kind-at test-kind-at _ _ _ _ len-visit-leaf-seen says-visit-leaf',
+            'kind_at, Known': f'going-visited kept test-while {MARKER} _ told-marker-info _ _ _ _ len-visit-seen len-visit-opens says-visit',
+            'kind_at, Missing': f'going-passed-over kept test-while {MARKER} told-marker-info'},
         less='going-nearer kept test-while _ says-past-node'),
     returns='going-end kept test-while')
 

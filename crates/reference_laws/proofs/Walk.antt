@@ -61,7 +61,7 @@ pub use Rattle.reference_laws.proofs.Flow.{if-then, skip-then, exit-the
 use Rattle.reference_laws.proofs.Flow.{switch-then, onto-then, arm-at, has-arm}
 pub use Rattle.reference_laws.proofs.Hand.{At, ptrVal, fatVal, ref, HasRef, HasMut, HasShr, part, part-length, local}
 use Rattle.reference_laws.proofs.Hand.{OpenRef, OpenAt, open-ref, shut-ref, open-at, shut-at, back-at, KeptPart, lend-part, back-part, room-le, KeptLocal, lend-local, back-local}
-pub use Rattle.reference_laws.proofs.Call.{of-number, of-truth, of-nothing, of-struct, of-enum, Inputs, Rule, rule-of, Met, Knows, bound-at, calls-any, calls-met-last}
+pub use Rattle.reference_laws.proofs.Call.{of-number, of-truth, of-nothing, of-struct, of-enum, Inputs, Rule, rule-of, Met, Knows, bound-at, calls-any, calls-any-last, calls-met-last}
 use Rattle.reference_laws.proofs.Call.{calls-met, Data, Terms, Facts, Every, Vs, Z, Says, After, Held, HeldAt}
 pub use Rattle.reference_laws.proofs.Ends.{Facing, WalkFor, WalkIn, Leaves, walks-under, proves, proves-by, halves, whole-again, refs, inputs, ends, say, span, env-of, Stands, Dying}
 use lib.Seq.{length-take-le}

@@ -268,7 +268,29 @@ pub fn walk(
     while i < to {
         let here = i;
         i = cursor::past_node(tape, here);
-        if tape::kind_at(tape, here) != tape::MARKER_OPEN {
+        if tape::kind_at(tape, here) == tape::MARKER_OPEN {
+            // A marker without a table entry is passed over with all below it.
+            let Info::Known(m) = cursor::marker_info(table, index, entries, tape, here) else {
+                continue;
+            };
+            visit(
+                table,
+                index,
+                entries,
+                source,
+                tape,
+                here,
+                to,
+                depth,
+                m,
+                context,
+                numbers,
+                rec,
+                seen,
+                opens,
+                list,
+            );
+        } else {
             numbers = visit_leaf(
                 table,
                 index,
@@ -284,28 +306,6 @@ pub fn walk(
                 seen,
                 list,
             );
-            continue;
         }
-        // A marker without a table entry is passed over with all below it.
-        let Info::Known(m) = cursor::marker_info(table, index, entries, tape, here) else {
-            continue;
-        };
-        visit(
-            table,
-            index,
-            entries,
-            source,
-            tape,
-            here,
-            to,
-            depth,
-            m,
-            context,
-            numbers,
-            rec,
-            seen,
-            opens,
-            list,
-        );
     }
 }

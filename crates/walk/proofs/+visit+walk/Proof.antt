@@ -25,8 +25,8 @@ use Rattle.walk.proofs.CallInside as inside-C
 use Rattle.walk.proofs.CallAnchored as anchored-C
 use Rattle.walk.proofs.CallPastNode as past-node-C
 use Rattle.walk.proofs.CallKindAt as kind-at-C
-use Rattle.walk.proofs.CallVisitLeaf as visit-leaf-C
 use Rattle.walk.proofs.CallMarkerInfo as marker-info-C
+use Rattle.walk.proofs.CallVisitLeaf as visit-leaf-C
 use Rattle.marker_checks.proofs.can_skip_marker as can-skip-marker-F
 use Rattle.marker_checks.proofs.visit_marker as visit-marker-F
 use Rattle.milestones.proofs.milestone as milestone-F
@@ -37,8 +37,8 @@ use Rattle.state.proofs.inside as inside-F
 use Rattle.walk.proofs.anchored as anchored-F
 use Rattle.cursor.proofs.past_node as past-node-F
 use Rattle.tape.proofs.kind_at as kind-at-F
-use Rattle.walk.proofs.visit_leaf as visit-leaf-F
 use Rattle.cursor.proofs.marker_info as marker-info-F
+use Rattle.walk.proofs.visit_leaf as visit-leaf-F
 
 abbrev μ-visit : {M : Type 1} (𝓤 : URA M) (H : Heap 𝓤) (A : Atoms 𝓤) (at-mem : Memory → SProp 𝓤) (run : Routine → Fun 𝓤) → tripleOf 𝓤 H A visit-F.signature (visit-F.spec 𝓤 H A at-mem run) .Ghost → ℕ
 μ-visit 𝓤 H A at-mem run y = 2 * (y .0 .3 .1 .1 .1 .1 .1 .1 .1 .0)
@@ -58,4 +58,4 @@ unfolding code.visit-routine code.walk-routine tablesOf
     (visit-W.walk 𝓤 H (𝓖 .A) (givenOf 𝓤 H 𝓜 𝓖) T (can-skip-marker-C.known _ 𝓤 H 𝓜 𝓖 𝓡 code.env _ code.calls-marker-checks·can-skip-marker (can-skip-marker-F.Met.met 𝓤 H 𝓜 𝓖 𝓡)) (visit-marker-C.known _ 𝓤 H 𝓜 𝓖 𝓡 code.env _ code.calls-marker-checks·visit-marker (visit-marker-F.Met.met 𝓤 H 𝓜 𝓖 𝓡)) (milestone-C.known _ 𝓤 H 𝓜 𝓖 𝓡 code.env _ code.calls-milestones·milestone (milestone-F.Met.met 𝓤 H 𝓜 𝓖 𝓡)) (link-at-C.known _ 𝓤 H 𝓜 𝓖 𝓡 code.env _ code.calls-tape·link-at (link-at-F.Met.met 𝓤 H 𝓜 𝓖 𝓡)) (can-skip-children-C.known _ 𝓤 H 𝓜 𝓖 𝓡 code.env _ code.calls-walk·can-skip-children (can-skip-children-F.Met.met 𝓤 H 𝓜 𝓖 𝓡)) (with-anchor-C.known _ 𝓤 H 𝓜 𝓖 𝓡 code.env _ code.calls-state·with-anchor (with-anchor-F.Met.met 𝓤 H 𝓜 𝓖 𝓡)) (inside-C.known _ 𝓤 H 𝓜 𝓖 𝓡 code.env _ code.calls-state·inside (inside-F.Met.met 𝓤 H 𝓜 𝓖 𝓡)))))
     (λ t below. at-on 𝓤 H (𝓖 .A) walk-F.signature (walk-F.spec 𝓤 H (𝓖 .A) (𝓜 .mem) (𝓡 .run)) (WpFn 𝓤 H (T .C) (T .Λ) code.walk-function) (T .C walk-key.name) (code.walk-unfolded 𝓤 H 𝓜 𝓡) m-walk t (λ y e.
     walks-under 𝓤 H (𝓖 .A) (givenOf 𝓤 H 𝓜 𝓖) (T .C) (T .Λ) code.walk-function walk-C.terms (y .0 .0) (y .0 .1) (y .0 .3) (walk-W.Self 𝓤 H (𝓖 .A) (T .C)) (λ x lt cs. below .0 (m-visit (bound-at (rule-of visit-C.terms x .pars) cs)) (subst (λ (s : ℕ). m-visit (bound-at (rule-of visit-C.terms x .pars) cs) < s) e lt) (bound-at (rule-of visit-C.terms x .pars) cs) refl) (y .0 .4) (refl, (refl, (refl, (refl, (refl, tt)))))
-    (walk-W.walk 𝓤 H (𝓖 .A) (givenOf 𝓤 H 𝓜 𝓖) T (anchored-C.known _ 𝓤 H 𝓜 𝓖 𝓡 code.env _ code.calls-walk·anchored (anchored-F.Met.met 𝓤 H 𝓜 𝓖 𝓡)) (past-node-C.known _ 𝓤 H 𝓜 𝓖 𝓡 code.env _ code.calls-cursor·past-node (past-node-F.Met.met 𝓤 H 𝓜 𝓖 𝓡)) (kind-at-C.known _ 𝓤 H 𝓜 𝓖 𝓡 code.env _ code.calls-tape·kind-at (kind-at-F.Met.met 𝓤 H 𝓜 𝓖 𝓡)) (visit-leaf-C.known _ 𝓤 H 𝓜 𝓖 𝓡 code.env _ code.calls-walk·visit-leaf (visit-leaf-F.Met.met 𝓤 H 𝓜 𝓖 𝓡)) (marker-info-C.known _ 𝓤 H 𝓜 𝓖 𝓡 code.env _ code.calls-cursor·marker-info (marker-info-F.Met.met 𝓤 H 𝓜 𝓖 𝓡)))))
+    (walk-W.walk 𝓤 H (𝓖 .A) (givenOf 𝓤 H 𝓜 𝓖) T (anchored-C.known _ 𝓤 H 𝓜 𝓖 𝓡 code.env _ code.calls-walk·anchored (anchored-F.Met.met 𝓤 H 𝓜 𝓖 𝓡)) (past-node-C.known _ 𝓤 H 𝓜 𝓖 𝓡 code.env _ code.calls-cursor·past-node (past-node-F.Met.met 𝓤 H 𝓜 𝓖 𝓡)) (kind-at-C.known _ 𝓤 H 𝓜 𝓖 𝓡 code.env _ code.calls-tape·kind-at (kind-at-F.Met.met 𝓤 H 𝓜 𝓖 𝓡)) (marker-info-C.known _ 𝓤 H 𝓜 𝓖 𝓡 code.env _ code.calls-cursor·marker-info (marker-info-F.Met.met 𝓤 H 𝓜 𝓖 𝓡)) (visit-leaf-C.known _ 𝓤 H 𝓜 𝓖 𝓡 code.env _ code.calls-walk·visit-leaf (visit-leaf-F.Met.met 𝓤 H 𝓜 𝓖 𝓡)))))
