@@ -14,14 +14,15 @@ use Rattle.text.specs.Pick.{pick}
 use Rattle.text.specs.Bytes.{equal}
 use Rattle.text.specs.Characters.{findByte}
 use Rattle.cursor.specs.Names.{nameOf}
-use Rattle.reader_spec.specs.Pieces.{bar}
+use Rattle.reader_spec.specs.Pieces.{bar, pieceAt}
 use Rattle.reader_spec.specs.InnerSteps.{window}
 use Rattle.refusals.specs.Refusal.{unmatchedMarker}
 use Rattle.pieces.specs.declared.Piece.{Piece}
 use Rattle.pieces.specs.declared.Piece.the-variants as found
+use Rattle.pieces.specs.Closes.{isInline, OwnClose}
 use Rattle.pieces.proofs.Piece as declared
 use Rattle.pieces.proofs.Places.{rest-is}
-use Rattle.first_pass.specs.Counted.{one, runCount, nodesIn, blockAfter, innermostPlace, closeNumber, pieceNumber, placeKept, ReadyFor}
+use Rattle.first_pass.specs.Counted.{one, runCount, nodesIn, blockAfter, innermostPlace, closeNumber, pieceNumber, placeKept, ReadyFor, InnermostClosed}
 
 -- the arms of all variants that have none of their own
 pub block-same : (p : Piece) (b : Bool) → OneOf (0 ∷ 1 ∷ 4 ∷ 5 ∷ 6 ∷ 7 ∷ []) (tagOf declared.the-type p) → b ≡ blockAfter p b
@@ -102,3 +103,7 @@ ready-other (found.Verse m n) d low h = tt
 ready-other (found.Inline m n) d low h = absurd (miss (0 ∷ 2 ∷ 3 ∷ 4 ∷ 6 ∷ 7 ∷ []) 5 tt h)
 ready-other (found.Milestone m n x y) d low h = tt
 ready-other (found.Fault k) d low h = tt
+
+-- a close that has the name at the place that the window has for the innermost
+pub closed-here : (s : List ℕ) (at : ℕ) (w : List ℕ) (d low r o : ℕ) → o ≡ innermostPlace w d → ((t : List ℕ) → isInline (pieceAt t (take (length s - o) (drop o s))) ≡ true → 0 < r → OwnClose t (take (length s - o) (drop o s)) (take (length s - at) (drop at s)) r) → low < d → 0 < r → InnermostClosed s at w d low r
+closed-here s at w d low r o is f held h = record { some = held; close = λ t i. rw (rest-is s o, rest-is s at, is) at (f t (rw (rest-is s o, is) i) h) }

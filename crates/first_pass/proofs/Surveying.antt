@@ -21,6 +21,7 @@ use Rattle.text.proofs.Chars.{byte-le}
 use Rattle.cursor.specs.Names.{nameOf}
 use Rattle.refusals.specs.Refusal.{unknownMarker, unmatchedMarker}
 use Rattle.reader_spec.specs.Pieces.{bar, fault, sizeOf, pieceAt}
+use Rattle.reader_spec.specs.Pieces as pieces
 use Rattle.reader_spec.specs.Pass.{ReadNode, closes, OpenMarker, ReadState, stateWith, nothingOpen, PieceStep, goes, stops, withText, withAttribute, withBlockEnd, milestoneNodes, pieceStep, passOn, passEnd, outcome}
 use Rattle.reader_spec.specs.Promise.{Legible}
 use Rattle.reader_spec.specs.Conditions.{isUnknown, isUnmatched}
@@ -32,8 +33,9 @@ use Rattle.pieces.specs.declared.Piece.{Piece}
 use Rattle.pieces.specs.declared.Piece.the-variants as found
 use Rattle.pieces.specs.Shown.{shown, bytesOf}
 use Rattle.pieces.specs.Depth.{depthAfter}
-use Rattle.pieces.proofs.Places.{rest-length, found-here, here-size, goes-on, next-inside, next-made}
-use Rattle.first_pass.specs.Counted.{one, runCount, nodesIn, blockAfter, innermostPlace, pieceNumber, placeKept, Windowed, ReadyFor, Nameable}
+use Rattle.pieces.specs.Closes.{isInline, OwnClose}
+use Rattle.pieces.proofs.Places.{rest-is, rest-length, found-here, here-size, goes-on, next-inside, next-made}
+use Rattle.first_pass.specs.Counted.{one, runCount, nodesIn, blockAfter, innermostPlace, pieceNumber, placeKept, Windowed, ReadyFor, Nameable, InnermostClosed}
 use Rattle.first_pass.proofs.Windows.{depth-piece, depth-few, kept-long, kept-piece}
 
 abbrev pub isSome : Option ℕ → Bool
@@ -183,6 +185,31 @@ module _ (t s : List ℕ) (at : ℕ) (w : List ℕ) (b : Option ℕ) (low : ℕ)
   nameable (found.Milestone m n x y) os ps h k reach ready = tt
   nameable (found.Fault f) os ps h k reach ready = tt
 
+-- at the place of each open stands a character or note marker
+unfoldable pub Inlines : List ℕ → List ℕ → List ℕ → Type 0
+Inlines t s [] = Unit {0}
+Inlines t s (p ∷ ps) = (isInline (pieceAt t (drop p s)) ≡ true) × Inlines t s ps
+
+inlines-after : (t s : List ℕ) (at : ℕ) (ps : List ℕ) (x : pieces.Piece) → pieceAt t (drop at s) ≡ x → Inlines t s ps → Inlines t s (placesAfter x at ps)
+unfolding Inlines
+inlines-after t s at ps (pieces.run x y) e h = h
+inlines-after t s at [] (pieces.close name n) e h = h
+inlines-after t s at (q ∷ ps) (pieces.close name n) e h = h .1
+inlines-after t s at ps (pieces.block m n) e h = h
+inlines-after t s at ps (pieces.chapter m n link) e h = h
+inlines-after t s at ps (pieces.verse m n link) e h = h
+inlines-after t s at ps (pieces.inline m name n) e h = (ap isInline e, h)
+inlines-after t s at ps (pieces.milestone m n x y) e h = h
+inlines-after t s at ps (pieces.fault number n) e h = h
+
+-- so at the place of the innermost, which a window has
+innermost-inline : (t s w : List ℕ) (low : ℕ) (ps : List ℕ) → Inlines t s ps → Kept w low ps → length ps ≤ low + window → low < length ps → isInline (pieceAt t (drop (innermostPlace w (length ps)) s)) ≡ true
+unfolding Inlines
+innermost-inline t s w low [] h k reach held = absurd (omega arith)
+innermost-inline t s w low (q ∷ ps) h k reach held =
+    let less : suc (length ps) - 1 ≡ length ps = omega arith in
+    rw (less, kept-top w low q ps (omega arith) (omega arith) k) (h .0)
+
 -- a number that isn't 0
 says-stops : (k n : ℕ) (block : Bool) (x : PieceStep) → (k ≡ 0 → ⊥) → Says k n block x → x ≡ stops k
 says-stops zero n block x h z = absurd (h refl)
@@ -219,6 +246,7 @@ pub record Passing (t s : List ℕ) (at n d : ℕ) (block : Bool) : Type 0 where
   pub left : countedOn n (passAt t s at st) ≡ countedOn 1 (outcome t s)
   pub placed : PlacedOpens t s ps (st .opened)
   pub reached : Reached t s at ps
+  pub inlines : Inlines t s ps
   pub deep : length ps ≡ d
   pub blocks : isSome (st .block) ≡ block
   pub few : n ≤ 4 * at + 1
@@ -252,8 +280,8 @@ reaches-on (found.Fault k) d low a b r = (a, b)
 
 module _ (t s : List ℕ) (legible : Legible t s) where
   pub pass-start : Passing t s 0 1 0 false
-  unfolding outcome PlacedOpens
-  pass-start = record { st = nothingOpen; ps = []; inside = omega arith; made = utf8-exact s .0 (legible .utf8); left = refl; placed = tt; reached = reached-start t s; deep = refl; blocks = refl; few = omega arith; shallow = omega arith }
+  unfolding outcome PlacedOpens Inlines
+  pass-start = record { st = nothingOpen; ps = []; inside = omega arith; made = utf8-exact s .0 (legible .utf8); left = refl; placed = tt; reached = reached-start t s; inlines = tt; deep = refl; blocks = refl; few = omega arith; shallow = omega arith }
 
   pub window-start : (w : List ℕ) → length w ≡ window → Windowed t s 0 0 0 w
   window-start w long =
@@ -270,6 +298,13 @@ module _ (t s : List ℕ) (legible : Legible t s) where
 
     pub end-none : length s ≤ at → d ≡ 0 → nodes (n + one block) ≡ countedOn 1 (outcome t s)
     end-none h none-open = none-ends t s n at block (f .st .opened) (f .ps) (f .st .block) (f .placed) (f .deep ∙ none-open) (f .blocks) ∙ sym (ap (countedOn n) (pass-end t s at (f .st) h)) ∙ f .left
+
+    -- the place of the innermost open lies in the text
+    pub innermost-inside : (low : ℕ) (w : List ℕ) → Windowed t s at d low w → low < d → innermostPlace w d ≤ length s
+    innermost-inside low w win held =
+        let reach = win .reach in
+        let deep = f .deep in
+        rw (← deep) (nameable t s at w (f .st .block) low (found.Close 0) (f .st .opened) (f .ps) (f .placed) (rw opened-here at (win .kept)) (omega arith) (λ z. omega arith) (omega arith))
 
     module _ (low : ℕ) (w : List ℕ) (win : Windowed t s at d low w) (p : Piece) (is : shown t (take (length s - at) (drop at s)) p ≡ pieceAt t (take (length s - at) (drop at s))) (before-end : at < length s) (ready : ReadyFor p d low) where
       here : shown t (drop at s) p ≡ pieceAt t (drop at s)
@@ -331,6 +366,7 @@ module _ (t s : List ℕ) (legible : Legible t s) where
               left = next-left;
               placed = next-placed;
               reached = next-reached;
+              inlines = inlines-after t s at (f .ps) (pieceAt t (drop at s)) refl (f .inlines);
               deep = next-deep;
               blocks = step .blocks;
               few = omega (arith, nodes-few d block (text t s at w (f .st .block) low p) p);
@@ -355,3 +391,25 @@ module _ (t s : List ℕ) (legible : Legible t s) where
         pass-next a b e f g z =
             let whole : at + bytesOf p (length s - at) - at ≡ bytesOf p (length s - at) = omega arith in
             rw (b, e, f, g, a, whole) (pass-goes z, window-goes)
+
+    -- a close of the innermost open, without a look at the piece
+    module _ (low : ℕ) (w : List ℕ) (win : Windowed t s at d low w) (before-end : at < length s) (r : ℕ) (h : InnermostClosed s at w d low r) where
+      own : OwnClose t (drop (innermostPlace w d) s) (drop at s) r
+      own =
+          let reach = win .reach in
+          let held = h .some in
+          h .close t (rw (← f .deep) (innermost-inline t s w low (f .ps) (f .inlines) (rw opened-here at (win .kept)) (rw (f .deep) reach) (rw (f .deep) held)))
+
+      is-close : shown t (take (length s - at) (drop at s)) (found.Close r) ≡ pieceAt t (take (length s - at) (drop at s))
+      is-close = rw (rest-is s at) (own .is)
+
+      pub close-inside : at + r ≤ length s
+      close-inside = next-inside t s at (found.Close r) is-close (legible .table) (f .made) before-end
+
+      no-number : pieceNumber s at w d (found.Close r) ≡ 0
+      no-number =
+          let held = h .some in
+          rw (ne-eqb d 0 (λ z. omega arith), own .same)
+
+      pub close-next : Passing t s (at + r) (n + 1) (d - 1) block × Windowed t s (at + r) (d - 1) low w
+      close-next = pass-next low w win (found.Close r) is-close before-end (λ z. h .some) r 1 (d - 1) block w refl refl refl refl refl no-number

@@ -10,8 +10,9 @@ use Rattle.text.specs.Bytes.{equal}
 use Rattle.text.specs.Characters.{findByte}
 use Rattle.cursor.specs.Names.{nameOf}
 use Rattle.refusals.specs.Refusal.{unmatchedMarker}
-use Rattle.reader_spec.specs.Pieces.{bar}
+use Rattle.reader_spec.specs.Pieces.{bar, pieceAt}
 use Rattle.reader_spec.specs.InnerSteps.{Count, nodes, faultAt, openFrom, window, Kept}
+use Rattle.pieces.specs.Closes.{isInline, OwnClose}
 use Rattle.pieces.specs.declared.Piece.{Piece}
 use Rattle.pieces.specs.declared.Piece.the-variants as found
 use Rattle.first_pass.specs.declared.Surveyed.{Surveyed}
@@ -111,3 +112,8 @@ Nameable (found.Verse m n) s w d = Unit {0}
 Nameable (found.Inline m n) s w d = Unit {0}
 Nameable (found.Milestone m n x y) s w d = Unit {0}
 Nameable (found.Fault k) s w d = Unit {0}
+
+-- a close of r bytes stands at a place, with the name of the innermost open, of d that are open; the window has its place
+pub record InnermostClosed (s : List ℕ) (at : ℕ) (w : List ℕ) (d low r : ℕ) : Type 0 where
+  pub some : low < d
+  pub close : (t : List ℕ) → isInline (pieceAt t (drop (innermostPlace w d) s)) ≡ true → OwnClose t (drop (innermostPlace w d) s) (drop at s) r

@@ -16,7 +16,7 @@ ghost use Rattle.reader_spec.specs.Pass.{outcome};
 ghost use Rattle.reader_spec.specs.Promise.{Legible};
 ghost use Rattle.reader_spec.specs.InnerSteps.{countedOn, openFrom, Kept};
 ghost use Rattle.reader_spec.specs.InnerSteps;
-ghost use Rattle.first_pass.specs.Counted.{countOf, one, runCount, nodesIn, blockAfter, innermostPlace, closeNumber, pieceNumber, placeKept, Windowed, ReadyFor, Nameable};
+ghost use Rattle.first_pass.specs.Counted.{countOf, one, runCount, nodesIn, blockAfter, innermostPlace, closeNumber, pieceNumber, placeKept, Windowed, ReadyFor, Nameable, InnermostClosed};
 
 // Number 16 or 17 with its place, or how many nodes there are, the root among them.
 pub enum Surveyed {
@@ -217,6 +217,18 @@ fn number_of(s: &[u8], at: usize, p: Piece, depth: usize, window: &[u32]) -> u64
     }
 }
 
+// The bytes of a close of the innermost open marker at a place, or 0 where none stands there or the window doesn't have that marker.
+fn innermost_close(s: &[u8], at: usize, depth: usize, low: usize, window: &[u32]) -> usize
+    requires { ⌜ (at ≤ length (now s)) × (length (now window) ≡ InnerSteps.window) × (low < depth → innermostPlace (now window) depth ≤ length (now s)) ⌝ }
+    ensures { λ r. ⌜ (0 < r → InnermostClosed (now (s .entry)) at (now (window .entry)) depth low r) ⌝ }
+{
+    if depth <= low {
+        return 0;
+    }
+    let open = wide(window[(depth - 1) % WINDOW]);
+    pieces::own_close(&s[open..], &s[at..])
+}
+
 // The first fault of a text, or the number of its nodes, with a window that may hold anything.
 fn survey_with(
     table: &[u8],
@@ -235,6 +247,13 @@ fn survey_with(
     let mut low: usize = 0;
     let mut block = false;
     while at < s.len() {
+        let n = innermost_close(s, at, depth, low, window);
+        if n != 0 {
+            at += n;
+            nodes += 1;
+            depth -= 1;
+            continue;
+        }
         let p = pieces::piece_at(table, index, entries, chains, &s[at..]);
         low = prepare(table, index, entries, chains, s, at, p, depth, low, window);
         let number = number_of(s, at, p, depth, window);

@@ -3,3 +3,4 @@ pub mod Answers
 pub mod Sizes
 pub mod Places
 pub mod Depths
+pub mod Closes

@@ -6,6 +6,7 @@ use table::Lookup;
 use table::MarkerId;
 use table::MarkerInfo;
 ghost use mathlib.Core.Path.{_≡_};
+ghost use mathlib.Core.Bool.{true, false};
 ghost use mathlib.Core.List.{List};
 ghost use mathlib.Core.Option.{some};
 ghost use Prim.Native.Nat.{ℕ, _<_, _≤_};
@@ -20,6 +21,7 @@ ghost use Rattle.cursor.specs.Inner.{Reached};
 ghost use Rattle.reader_spec.specs.Pieces.{bar, byteIs, starAt, nameEnd, endsWord, numberSize, milestonePiece, unlessStar, knownPiece, markerPiece, pieceAt};
 ghost use Rattle.pieces.specs.Shown.{linkBy, shown, bytesOf};
 ghost use Rattle.pieces.specs.Depth.{depthAfter};
+ghost use Rattle.pieces.specs.Closes.{isFault, isInline, OwnClose};
 
 // What a text has at a place, with the numbers of bytes that belong to it. Names, links and a run's first `|` are left out, since the
 // pass that only counts needs few of them.
@@ -143,14 +145,19 @@ fn known_piece(info: MarkerInfo, m: u16, l: &[u8], end: usize) -> Piece
     }
 }
 
-// The piece of a marker.
-fn marker_piece(table: &[u8], index: &[u64], entries: usize, chains: &[u16], l: &[u8]) -> Piece
-    requires { ⌜ Indexed (now table) (now index) entries × Chained (now table) (now chains) ⌝ }
+// The piece of a marker whose name ends at a place.
+fn named_piece(
+    table: &[u8],
+    index: &[u64],
+    entries: usize,
+    chains: &[u16],
+    l: &[u8],
+    end: usize,
+) -> Piece
+    requires { ⌜ Indexed (now table) (now index) entries × Chained (now table) (now chains) × Reached (now l) (nameEnd (now l)) end ⌝ }
     ensures { λ r. ⌜ shown (now (table .entry)) (now (l .entry)) r ≡ markerPiece (now (table .entry)) (now (l .entry)) ⌝ }
 {
-    let at = cursor::name_span(l);
-    let start = at.start;
-    let end = at.end;
+    let start = cursor::name_start(l);
     let Lookup::Found(id) = MarkerId::lookup(table, index, entries, chains, &l[start..end]) else {
         return Piece::Fault(refusals::UNKNOWN_MARKER);
     };
@@ -158,6 +165,15 @@ fn marker_piece(table: &[u8], index: &[u64], entries: usize, chains: &[u16], l: 
         return Piece::Fault(refusals::UNKNOWN_MARKER);
     };
     known_piece(info, id.0, l, end)
+}
+
+// The piece of a marker.
+fn marker_piece(table: &[u8], index: &[u64], entries: usize, chains: &[u16], l: &[u8]) -> Piece
+    requires { ⌜ Indexed (now table) (now index) entries × Chained (now table) (now chains) ⌝ }
+    ensures { λ r. ⌜ shown (now (table .entry)) (now (l .entry)) r ≡ markerPiece (now (table .entry)) (now (l .entry)) ⌝ }
+{
+    let at = cursor::name_span(l);
+    named_piece(table, index, entries, chains, l, at.end)
 }
 
 // The piece that a text begins with.
@@ -172,6 +188,51 @@ pub fn piece_at(table: &[u8], index: &[u64], entries: usize, chains: &[u16], l: 
         return Piece::Fault(refusals::UNMATCHED_MARKER);
     }
     marker_piece(table, index, entries, chains, l)
+}
+
+// The same where that piece is known to be no fault: a star behind the name makes it a close, without a look into the table.
+pub fn faultless_piece_at(
+    table: &[u8],
+    index: &[u64],
+    entries: usize,
+    chains: &[u16],
+    l: &[u8],
+) -> Piece
+    requires { ⌜ Indexed (now table) (now index) entries × Chained (now table) (now chains) × (isFault (pieceAt (now table) (now l)) ≡ false) ⌝ }
+    ensures { λ r. ⌜ shown (now (table .entry)) (now (l .entry)) r ≡ pieceAt (now (table .entry)) (now (l .entry)) ⌝ }
+{
+    if !byte_is(l, 0, b'\\') {
+        return Piece::Run(text::find_byte(l, b'\\'));
+    }
+    let at = cursor::name_span(l);
+    let end = at.end;
+    if byte_is(l, end, b'*') {
+        return Piece::Close(end + 1);
+    }
+    named_piece(table, index, entries, chains, l, end)
+}
+
+// The bytes of a close with the name of the character or note marker that another text begins with, or 0 where the text begins
+// with no such close. The table has that name, so that it need not be looked up again.
+pub fn own_close(opened: &[u8], l: &[u8]) -> usize
+    ensures { λ r. ⌜ ((t : List ℕ) → isInline (pieceAt t (now (opened .entry))) ≡ true → 0 < r → OwnClose t (now (opened .entry)) (now (l .entry)) r) ⌝ }
+{
+    if !byte_is(l, 0, b'\\') {
+        return 0;
+    }
+    if byte_is(l, 1, b'*') {
+        return 0;
+    }
+    let at = cursor::name_span(l);
+    let start = at.start;
+    let end = at.end;
+    if !byte_is(l, end, b'*') {
+        return 0;
+    }
+    if text::equal(cursor::name_of(opened), &l[start..end]) {
+        return end + 1;
+    }
+    0
 }
 
 // How many bytes belong to a piece, where `rest` bytes are left from its first on. A fault has all of them.

@@ -25,6 +25,7 @@ use Rattle.reader_spec.proofs.Sound.{Fair}
 use Rattle.reader_spec.proofs.Steps.{passed-goes}
 use Rattle.pieces.specs.Shown.{linkBy, shown, bytesOf}
 use Rattle.pieces.specs.Depth.{depthAfter}
+use Rattle.pieces.specs.Closes.{isFault}
 use Rattle.pieces.specs.declared.Piece.{Piece}
 use Rattle.pieces.specs.declared.Piece.the-variants as found
 use Rattle.node_writer.specs.declared.Written.{Written}
@@ -59,6 +60,18 @@ next-after t w depth at l (found.Fault k) = omega arith
 -- a pass that stops has no nodes
 stopped : {A : Type 0} (k at : ℕ) (rest : ReadState → PassOutcome) (js : List ReadNode) → passOn (stops k) at rest ≡ passed js → A
 stopped k at rest js h = let z : _≡_ {A = ℕ} 0 1 = cc in absurd (omega arith)
+
+-- so no piece of a pass that has nodes is a fault
+pub passed-fair : (b : Option ℕ) (os : List OpenMarker) (at : ℕ) (rest : ReadState → PassOutcome) (js : List ReadNode) (x : pieces.Piece) → passOn (pieceStep b os at x) at rest ≡ passed js → isFault x ≡ false
+unfolding pieceStep
+passed-fair b os at rest js (pieces.run x y) h = refl
+passed-fair b os at rest js (pieces.close name n) h = refl
+passed-fair b os at rest js (pieces.block m n) h = refl
+passed-fair b os at rest js (pieces.chapter m n link) h = refl
+passed-fair b os at rest js (pieces.verse m n link) h = refl
+passed-fair b os at rest js (pieces.inline m name n) h = refl
+passed-fair b os at rest js (pieces.milestone m n x y) h = refl
+passed-fair b os at rest js (pieces.fault number n) h = stopped number at rest js h
 
 module _ (whole tb t : List ℕ) (w : Written) (at : ℕ) where
   -- the open node around the innermost one stands before the next node

@@ -4,6 +4,7 @@ use Prim.Native.Nat.{ℕ, _+_, _-_, _*_, _<_, _≤_}
 use native.Mathlib.Nat.{zero-add}
 use native.Mathlib.Omega.{arith}
 use mathlib.Core.Path.{_≡_, refl, sym, ap, _∙_}
+use mathlib.Core.Bool.{false}
 use mathlib.Core.List.{List, [], _∷_, _++_}
 use mathlib.Core.Option.{Option}
 use lib.ListN.{length, take, drop}
@@ -25,14 +26,15 @@ use Rattle.reader_spec.proofs.Whole.{reads-closes, read-yields}
 use Rattle.reader_spec.proofs.Writing.{Writing, write-start, write-end}
 use Rattle.pieces.specs.Shown.{shown, bytesOf}
 use Rattle.pieces.specs.Depth.{depthAfter}
+use Rattle.pieces.specs.Closes.{isFault}
 use Rattle.pieces.specs.declared.Piece.{Piece}
 use Rattle.pieces.specs.declared.Piece.the-variants as found
-use Rattle.pieces.proofs.Places.{rest-length, found-here, here-size, goes-on, next-inside, within-rest, next-made}
+use Rattle.pieces.proofs.Places.{rest-is, rest-length, found-here, here-size, goes-on, next-inside, within-rest, next-made}
 use Rattle.node_writer.specs.declared.Written.{Written}
 use Rattle.node_writer.specs.Written.{written, textLimit, nodeLimit, Ready, blockEnds, endedBlock, afterBlock}
 use Rattle.node_writer.proofs.Steps.{ready-for-block-end, after-block-end}
 use Rattle.second_pass.specs.Laid.{PieceReady, pieceLaid, afterPiece, Writable}
-use Rattle.second_pass.proofs.Stepping.{Stepped, piece-step}
+use Rattle.second_pass.proofs.Stepping.{Stepped, piece-step, passed-fair}
 
 -- at a place between two pieces: the nodes that the pass has left from there on are those that the list still waits for
 pub record Going (whole tb s t : List ℕ) (w : Written) (at depth : ℕ) : Type 0 where
@@ -111,7 +113,13 @@ module _ (whole tb s t : List ℕ) (w : Written) (at depth : ℕ) (legible : Leg
       let c = legible .short in
       omega arith
 
-  -- the piece p with n bytes, as `piece_at` and `size_of` find it
+  -- the piece there is no fault
+  pub fair-here : at < length s → isFault (pieceAt tb (take (length s - at) (drop at s))) ≡ false
+  fair-here here =
+      rw (rest-is s at)
+      (passed-fair (g .state .block) (g .state .opened) at (passAt tb s (at + sizeOf (pieceAt tb (drop at s)))) (g .left) (pieceAt tb (drop at s)) (sym (pass-step tb s at (legible .table) (g .made) here (g .state)) ∙ g .passes))
+
+  -- the piece p with n bytes, as the code finds them
   module _ (here : at < length s) (p : Piece) (is : shown tb (take (length s - at) (drop at s)) p ≡ pieceAt tb (take (length s - at) (drop at s))) where
     pub size-fits : bytesOf p (length s - at) ≤ length s - at
     size-fits = within-rest tb s at p is (legible .table) (g .made) here

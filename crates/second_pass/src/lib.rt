@@ -113,7 +113,7 @@ pub fn write_nodes(
     let mut at: usize = 0;
     let mut depth: usize = 0;
     while at < s.len() {
-        let p = pieces::piece_at(table, index, entries, chains, &s[at..]);
+        let p = pieces::faultless_piece_at(table, index, entries, chains, &s[at..]);
         let to = at + pieces::size_of(p, s.len() - at);
         w = put_piece(table, index, entries, t, w, p, depth, at, &s[at..to]);
         depth = pieces::depth_after(p, depth);

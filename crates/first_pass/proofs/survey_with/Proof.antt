@@ -7,14 +7,15 @@ use denote.Ref.{now}
 use native.Mathlib.Omega.{arith}
 use lib.ListN.{length, take, drop}
 use Rattle.pieces.specs.Shown.{bytesOf}
-use Rattle.first_pass.specs.Counted.{Windowed}
+use Rattle.first_pass.specs.Counted.{Windowed, InnermostClosed}
 use Rattle.first_pass.proofs.Windows.{Onward, onward}
-use Rattle.first_pass.proofs.Surveying.{Passing, pass-start, window-start, has-name, pass-stops, pass-next, nodes-low, end-open, end-none}
+use Rattle.first_pass.proofs.Surveying.{Passing, pass-start, window-start, innermost-inside, close-inside, close-next, has-name, pass-stops, pass-next, nodes-low, end-open, end-none}
 use Rattle.first_pass.proofs.survey_with.Statement.{statement}
 use Rattle.first_pass.proofs.survey_with.Tie as tie
 use Rattle.first_pass.proofs.survey_with.Reads as reads
 use Rattle.first_pass.proofs.survey_with.Lts as lts
 use Rattle.first_pass.proofs.block_after.Reads as block-after-reads
+use Rattle.first_pass.proofs.innermost_close.Reads as innermost-close-reads
 use Rattle.first_pass.proofs.keep_place.Reads as keep-place-reads
 use Rattle.first_pass.proofs.nodes_of.Reads as nodes-of-reads
 use Rattle.first_pass.proofs.number_of.Reads as number-of-reads
@@ -38,6 +39,46 @@ loop-holds c =
     let a = c .before .before .before .before .before .args in
     (pass-start (now (a .table)) (now (a .s)) (q .2), window-start (now (a .table)) (now (a .s)) (q .2) (now (a .window)) (q .3))
 
+innermost-close-requires : tie.Need-innermost-close-requires Inv-loop μ-loop
+innermost-close-requires c κs =
+    let q = c .before .before .before .before .before .before .before .before in
+    let l = c .before .before .loop in
+    (l .inv .0 .inside, l .inv .1 .long, innermost-inside (now (q .args .table)) (now (q .args .s)) (q .pre .2) (l .at) (l .nodes) (l .depth) (l .block) (l .inv .0) (l .low) (l .window) (l .inv .1))
+
+-- a turn that meets a close of the innermost
+abbrev top : tie.Then1 Inv-loop μ-loop → tie.At-loop Inv-loop μ-loop
+top c = c .before .before .before .before
+
+abbrev first : tie.Then1 Inv-loop μ-loop → tie.Start Inv-loop μ-loop
+first c = top c .before .before .before .before .before .before
+
+closed : (c : tie.Then1 Inv-loop μ-loop) → let l = top c .loop in InnermostClosed (now (first c .args .s)) (l .at) (l .window) (l .depth) (l .low) (c .before .innermost-close .result)
+closed c = c .before .innermost-close .ensures (omega arith)
+
+inside : (c : tie.Then1 Inv-loop μ-loop) → top c .loop .at + c .before .innermost-close .result ≤ length (now (first c .args .s))
+inside c =
+    let q = first c in
+    let l = top c .loop in
+    close-inside (now (q .args .table)) (now (q .args .s)) (q .pre .2) (l .at) (l .nodes) (l .depth) (l .block) (l .inv .0) (l .low) (l .window) (l .inv .1) (c .before .before .before .loop-test .taken) (c .before .innermost-close .result) (closed c)
+
+add-at : tie.Need-add-at Inv-loop μ-loop
+add-at c = omega (arith, inside c, first c .pre .2 .short)
+
+add-nodes : tie.Need-add-nodes Inv-loop μ-loop
+add-nodes c = omega (arith, top c .loop .inv .0 .few, top c .loop .inv .0 .inside, first c .pre .2 .short)
+
+sub-depth : tie.Need-sub-depth Inv-loop μ-loop
+sub-depth c = omega (arith, closed c .some)
+
+loop-less : tie.Need-loop-less Inv-loop μ-loop
+loop-less c = omega (arith, inside c)
+
+loop-again : tie.Need-loop-again Inv-loop μ-loop
+loop-again c =
+    let q = first c in
+    let l = top c .loop in
+    close-next (now (q .args .table)) (now (q .args .s)) (q .pre .2) (l .at) (l .nodes) (l .depth) (l .block) (l .inv .0) (l .low) (l .window) (l .inv .1) (c .before .before .before .loop-test .taken) (c .before .innermost-close .result) (closed c)
+
 sub-piece-at : tie.Need-sub-piece-at Inv-loop μ-loop
 sub-piece-at c = search needs
 
@@ -52,8 +93,8 @@ piece-at-requires c κs = search needs
 
 prepare-requires : tie.Need-prepare-requires Inv-loop μ-loop
 prepare-requires c κs =
-    let q = c .before .before .before .before .before .before .before .before .before .before .pre in
-    let l = c .before .before .before .before .loop in
+    let q = c .before .before .before .before .before .before .before .before .before .before .before .before .before .pre in
+    let l = c .before .before .before .before .before .before .before .loop in
     let f = l .inv .0 in
     let inside = f .inside in
     let short = q .2 .short in
@@ -61,42 +102,42 @@ prepare-requires c κs =
 
 number-of-requires : tie.Need-number-of-requires Inv-loop μ-loop
 number-of-requires c κs =
-    let q = c .before .before .before .before .before .before .before .before .before .before .before .before .before .before .pre in
-    let l = c .before .before .before .before .before .before .before .before .loop in
+    let q = c .before .before .before .before .before .before .before .before .before .before .before .before .before .before .before .before .before .pre in
+    let l = c .before .before .before .before .before .before .before .before .before .before .before .loop in
     let f = l .inv .0 in
     let inside = f .inside in
     let short = q .2 .short in
-    let t = now (c .before .before .before .before .before .before .before .before .before .before .before .before .before .before .args .table) in
-    let s = now (c .before .before .before .before .before .before .before .before .before .before .before .before .before .before .args .s) in
+    let t = now (c .before .before .before .before .before .before .before .before .before .before .before .before .before .before .before .before .before .args .table) in
+    let s = now (c .before .before .before .before .before .before .before .before .before .before .before .before .before .before .before .before .before .args .s) in
     let p = c .before .before .before .before .before .piece-at in
-    let below : l .at < length s = c .before .before .before .before .before .before .before .loop-test .taken in
+    let below : l .at < length s = c .before .before .before .before .before .before .before .before .before .before .loop-test .taken in
     (inside, c .before .before .before .prepare .ensures .0 .long, has-name t s (q .2) (l .at) (l .nodes) (l .depth) (l .block) f (c .before .before .before .prepare .result) (c .before .before .before .prepare .last .1 .1 .1 .1 .1 .1 .1 .1 .1 .0) (c .before .before .before .prepare .ensures .0) (p .result) (p .ensures) below (c .before .before .before .prepare .ensures .1))
 
 same-length : tie.Need-same-length Inv-loop μ-loop
-same-length c = c .before .before .before .before .before .prepare .ensures .0 .long ∙ sym (c .before .before .before .before .before .before .before .before .before .before .before .before .before .before .before .before .pre .3)
+same-length c = c .before .before .before .before .before .prepare .ensures .0 .long ∙ sym (c .before .before .before .before .before .before .before .before .before .before .before .before .before .before .before .before .before .before .before .pre .3)
 
 returns : tie.Need-returns Inv-loop μ-loop
 returns c =
-    let q = c .before .before .before .before .before .before .before .before .before .before .before .before .before .before .before .before .pre in
-    let l = c .before .before .before .before .before .before .before .before .before .before .loop in
+    let q = c .before .before .before .before .before .before .before .before .before .before .before .before .before .before .before .before .before .before .before .pre in
+    let l = c .before .before .before .before .before .before .before .before .before .before .before .before .before .loop in
     let f = l .inv .0 in
     let inside = f .inside in
     let short = q .2 .short in
-    let t = now (c .before .before .before .before .before .before .before .before .before .before .before .before .before .before .before .before .args .table) in
-    let s = now (c .before .before .before .before .before .before .before .before .before .before .before .before .before .before .before .before .args .s) in
+    let t = now (c .before .before .before .before .before .before .before .before .before .before .before .before .before .before .before .before .before .before .before .args .table) in
+    let s = now (c .before .before .before .before .before .before .before .before .before .before .before .before .before .before .before .before .before .before .before .args .s) in
     let p = c .before .before .before .before .before .before .before .piece-at in
-    let below : l .at < length s = c .before .before .before .before .before .before .before .before .before .loop-test .taken in
+    let below : l .at < length s = c .before .before .before .before .before .before .before .before .before .before .before .before .loop-test .taken in
     let e = c .before .number-of .ensures in
-    rw e (pass-stops t s (q .2) (l .at) (l .nodes) (l .depth) (l .block) f (c .before .before .before .before .before .prepare .result) (c .before .before .before .before .before .prepare .last .1 .1 .1 .1 .1 .1 .1 .1 .1 .0) (c .before .before .before .before .before .prepare .ensures .0) (p .result) (p .ensures) below (c .before .before .before .before .before .prepare .ensures .1) (rw e at (c .if1 .taken)))
+    rw e (pass-stops t s (q .2) (l .at) (l .nodes) (l .depth) (l .block) f (c .before .before .before .before .before .prepare .result) (c .before .before .before .before .before .prepare .last .1 .1 .1 .1 .1 .1 .1 .1 .1 .0) (c .before .before .before .before .before .prepare .ensures .0) (p .result) (p .ensures) below (c .before .before .before .before .before .prepare .ensures .1) (rw e at (c .if2 .taken)))
 
 sub-size-of : tie.Need-sub-size-of Inv-loop μ-loop
 sub-size-of c = search needs
 
 -- the piece that is found in a turn
-found : (c : tie.After-piece-at Inv-loop μ-loop) → Onward (now (c .before .before .before .before .before .before .before .before .before .args .s)) (c .before .before .before .loop .at) (bytesOf (c .piece-at .result) (length (now (c .before .before .before .before .before .before .before .before .before .args .s)) - c .before .before .before .loop .at))
+found : (c : tie.After-piece-at Inv-loop μ-loop) → Onward (now (c .before .before .before .before .before .before .before .before .before .before .before .before .args .s)) (c .before .before .before .before .before .before .loop .at) (bytesOf (c .piece-at .result) (length (now (c .before .before .before .before .before .before .before .before .before .before .before .before .args .s)) - c .before .before .before .before .before .before .loop .at))
 found c =
-    let a = c .before .before .before .before .before .before .before .before .before .args in
-    onward (now (a .table)) (now (a .s)) (c .before .before .before .loop .at) (c .piece-at .result) (c .piece-at .ensures) (c .before .before .before .before .before .before .before .before .before .pre .2) (c .before .before .before .loop .inv .0 .made) (c .before .before .loop-test .taken)
+    let a = c .before .before .before .before .before .before .before .before .before .before .before .before .args in
+    onward (now (a .table)) (now (a .s)) (c .before .before .before .before .before .before .loop .at) (c .piece-at .result) (c .piece-at .ensures) (c .before .before .before .before .before .before .before .before .before .before .before .before .pre .2) (c .before .before .before .before .before .before .loop .inv .0 .made) (c .before .before .before .before .before .loop-test .taken)
 
 size-of-requires : tie.Need-size-of-requires Inv-loop μ-loop
 size-of-requires c κs =
@@ -107,7 +148,7 @@ add-to : tie.Need-add-to Inv-loop μ-loop
 add-to c =
     let e = c .size-of .ensures in
     let n = found (c .before .before .before .before .before .before .before .before) .next in
-    let short = c .before .before .before .before .before .before .before .before .before .before .before .before .before .before .before .before .before .pre .2 .short in
+    let short = c .before .before .before .before .before .before .before .before .before .before .before .before .before .before .before .before .before .before .before .before .pre .2 .short in
     omega arith
 
 sub-nodes-of : tie.Need-sub-nodes-of Inv-loop μ-loop
@@ -125,25 +166,25 @@ part-nodes-of-end c =
 nodes-of-requires : tie.Need-nodes-of-requires Inv-loop μ-loop
 nodes-of-requires c κs = search needs
 
-add-nodes : tie.Need-add-nodes Inv-loop μ-loop
-add-nodes c =
-    let q = c .before .before .before .before .before .before .before .before .before .before .before .before .before .before .before .before .before .before .before .pre in
-    let l = c .before .before .before .before .before .before .before .before .before .before .before .before .before .loop in
+add-nodes-2 : tie.Need-add-nodes-2 Inv-loop μ-loop
+add-nodes-2 c =
+    let q = c .before .before .before .before .before .before .before .before .before .before .before .before .before .before .before .before .before .before .before .before .before .before .pre in
+    let l = c .before .before .before .before .before .before .before .before .before .before .before .before .before .before .before .before .loop in
     let f = l .inv .0 in
     let inside = f .inside in
     let short = q .2 .short in
-    let t = now (c .before .before .before .before .before .before .before .before .before .before .before .before .before .before .before .before .before .before .before .args .table) in
-    let s = now (c .before .before .before .before .before .before .before .before .before .before .before .before .before .before .before .before .before .before .before .args .s) in
+    let t = now (c .before .before .before .before .before .before .before .before .before .before .before .before .before .before .before .before .before .before .before .before .before .before .args .table) in
+    let s = now (c .before .before .before .before .before .before .before .before .before .before .before .before .before .before .before .before .before .before .before .before .before .before .args .s) in
     let p = c .before .before .before .before .before .before .before .before .before .before .piece-at in
-    let below : l .at < length s = c .before .before .before .before .before .before .before .before .before .before .before .before .loop-test .taken in
+    let below : l .at < length s = c .before .before .before .before .before .before .before .before .before .before .before .before .before .before .before .loop-test .taken in
     let few = f .few in
     let h = nodes-low (l .depth) (l .block) (take (l .at + c .before .before .size-of .result - l .at) (drop (l .at) s)) (p .result) (c .nodes-of .result) (c .nodes-of .ensures) in
     omega arith
 
 keep-place-requires : tie.Need-keep-place-requires Inv-loop μ-loop
 keep-place-requires c κs =
-    let q = c .before .before .before .before .before .before .before .before .before .before .before .before .before .before .before .before .before .before .before .before .pre in
-    let l = c .before .before .before .before .before .before .before .before .before .before .before .before .before .before .loop in
+    let q = c .before .before .before .before .before .before .before .before .before .before .before .before .before .before .before .before .before .before .before .before .before .before .before .pre in
+    let l = c .before .before .before .before .before .before .before .before .before .before .before .before .before .before .before .before .before .loop in
     let f = l .inv .0 in
     let inside = f .inside in
     let short = q .2 .short in
@@ -157,35 +198,35 @@ block-after-requires c κs = search needs
 
 depth-after-requires : tie.Need-depth-after-requires Inv-loop μ-loop
 depth-after-requires c κs =
-    let q = c .before .before .before .before .before .before .before .before .before .before .before .before .before .before .before .before .before .before .before .before .before .before .before .before .pre in
-    let l = c .before .before .before .before .before .before .before .before .before .before .before .before .before .before .before .before .before .before .loop in
+    let q = c .before .before .before .before .before .before .before .before .before .before .before .before .before .before .before .before .before .before .before .before .before .before .before .before .before .before .before .pre in
+    let l = c .before .before .before .before .before .before .before .before .before .before .before .before .before .before .before .before .before .before .before .before .before .loop in
     let f = l .inv .0 in
     let inside = f .inside in
     let short = q .2 .short in
     let shallow = f .shallow in
     omega arith
 
-loop-less : tie.Need-loop-less Inv-loop μ-loop
-loop-less c =
+loop-less-2 : tie.Need-loop-less-2 Inv-loop μ-loop
+loop-less-2 c =
     let e = c .before .before .before .before .before .before .before .before .size-of .ensures in
     let h = found (c .before .before .before .before .before .before .before .before .before .before .before .before .before .before .before .before) in
     let some = h .some in
     let next = h .next in
     omega arith
 
-loop-again : tie.Need-loop-again Inv-loop μ-loop
-loop-again c =
-    let q = c .before .before .before .before .before .before .before .before .before .before .before .before .before .before .before .before .before .before .before .before .before .before .before .before .before .pre in
-    let l = c .before .before .before .before .before .before .before .before .before .before .before .before .before .before .before .before .before .before .before .loop in
+loop-again-2 : tie.Need-loop-again-2 Inv-loop μ-loop
+loop-again-2 c =
+    let q = c .before .before .before .before .before .before .before .before .before .before .before .before .before .before .before .before .before .before .before .before .before .before .before .before .before .before .before .before .pre in
+    let l = c .before .before .before .before .before .before .before .before .before .before .before .before .before .before .before .before .before .before .before .before .before .before .loop in
     let f = l .inv .0 in
     let inside = f .inside in
     let short = q .2 .short in
-    let t = now (c .before .before .before .before .before .before .before .before .before .before .before .before .before .before .before .before .before .before .before .before .before .before .before .before .before .args .table) in
-    let s = now (c .before .before .before .before .before .before .before .before .before .before .before .before .before .before .before .before .before .before .before .before .before .before .before .before .before .args .s) in
+    let t = now (c .before .before .before .before .before .before .before .before .before .before .before .before .before .before .before .before .before .before .before .before .before .before .before .before .before .before .before .before .args .table) in
+    let s = now (c .before .before .before .before .before .before .before .before .before .before .before .before .before .before .before .before .before .before .before .before .before .before .before .before .before .before .before .before .args .s) in
     let p = c .before .before .before .before .before .before .before .before .before .before .before .before .before .before .before .before .piece-at in
-    let below : l .at < length s = c .before .before .before .before .before .before .before .before .before .before .before .before .before .before .before .before .before .before .loop-test .taken in
+    let below : l .at < length s = c .before .before .before .before .before .before .before .before .before .before .before .before .before .before .before .before .before .before .before .before .before .loop-test .taken in
     let number = c .before .before .before .before .before .before .before .before .before .before .number-of .ensures in
-    pass-next t s (q .2) (l .at) (l .nodes) (l .depth) (l .block) f (c .before .before .before .before .before .before .before .before .before .before .before .before .before .before .prepare .result) (c .before .before .before .before .before .before .before .before .before .before .before .before .before .before .prepare .last .1 .1 .1 .1 .1 .1 .1 .1 .1 .0) (c .before .before .before .before .before .before .before .before .before .before .before .before .before .before .prepare .ensures .0) (p .result) (p .ensures) below (c .before .before .before .before .before .before .before .before .before .before .before .before .before .before .prepare .ensures .1) (c .before .before .before .before .before .before .before .before .size-of .result) (c .before .before .before .before .before .before .nodes-of .result) (c .depth-after .result) (c .before .block-after .result) (c .before .before .before .before .keep-place .last .1 .1 .1 .1 .0) (c .before .before .before .before .before .before .before .before .size-of .ensures) (c .before .before .before .before .before .before .nodes-of .ensures) (c .before .before .before .before .keep-place .ensures) (c .before .block-after .ensures) (c .depth-after .ensures) (sym number ∙ c .before .before .before .before .before .before .before .before .before .if1 .left)
+    pass-next t s (q .2) (l .at) (l .nodes) (l .depth) (l .block) f (c .before .before .before .before .before .before .before .before .before .before .before .before .before .before .prepare .result) (c .before .before .before .before .before .before .before .before .before .before .before .before .before .before .prepare .last .1 .1 .1 .1 .1 .1 .1 .1 .1 .0) (c .before .before .before .before .before .before .before .before .before .before .before .before .before .before .prepare .ensures .0) (p .result) (p .ensures) below (c .before .before .before .before .before .before .before .before .before .before .before .before .before .before .prepare .ensures .1) (c .before .before .before .before .before .before .before .before .size-of .result) (c .before .before .before .before .before .before .nodes-of .result) (c .depth-after .result) (c .before .block-after .result) (c .before .before .before .before .keep-place .last .1 .1 .1 .1 .0) (c .before .before .before .before .before .before .before .before .size-of .ensures) (c .before .before .before .before .before .before .nodes-of .ensures) (c .before .before .before .before .keep-place .ensures) (c .before .block-after .ensures) (c .depth-after .ensures) (sym number ∙ c .before .before .before .before .before .before .before .before .before .if2 .left)
 
 same-length-2 : tie.Need-same-length-2 Inv-loop μ-loop
 same-length-2 c = c .before .before .loop .inv .1 .long ∙ sym (c .before .before .before .before .before .before .before .before .pre .3)
@@ -194,13 +235,13 @@ returns-2 : tie.Need-returns-2 Inv-loop μ-loop
 returns-2 c =
     let a = c .before .before .before .before .before .before .before .before .args in
     let l = c .before .before .loop in
-    end-open (now (a .table)) (now (a .s)) (c .before .before .before .before .before .before .before .before .pre .2) (l .at) (l .nodes) (l .depth) (l .block) (l .inv .0) (omega arith) (c .if2 .taken)
+    end-open (now (a .table)) (now (a .s)) (c .before .before .before .before .before .before .before .before .pre .2) (l .at) (l .nodes) (l .depth) (l .block) (l .inv .0) (omega arith) (c .if3 .taken)
 
 one-if-requires : tie.Need-one-if-requires Inv-loop μ-loop
 one-if-requires c κs = search needs
 
-add-t34 : tie.Need-add-t34 Inv-loop μ-loop
-add-t34 c =
+add-t37 : tie.Need-add-t37 Inv-loop μ-loop
+add-t37 c =
     let q = c .before .before .before .before .before .before .before .before .before .pre in
     let f = c .before .before .before .loop .inv .0 in
     let few = f .few in
@@ -225,6 +266,12 @@ survey-with-spec =
     Inv-loop
     μ-loop
     loop-holds
+    innermost-close-requires
+    add-at
+    add-nodes
+    sub-depth
+    loop-less
+    loop-again
     sub-piece-at
     part-piece-at-start
     part-piece-at-end
@@ -240,15 +287,15 @@ survey-with-spec =
     part-nodes-of-start
     part-nodes-of-end
     nodes-of-requires
-    add-nodes
+    add-nodes-2
     keep-place-requires
     block-after-requires
     depth-after-requires
-    loop-less
-    loop-again
+    loop-less-2
+    loop-again-2
     same-length-2
     returns-2
     one-if-requires
-    add-t34
+    add-t37
     same-length-3
     returns-3)

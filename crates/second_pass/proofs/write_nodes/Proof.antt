@@ -9,7 +9,7 @@ use denote.Ref.{now}
 use lib.ListN.{length}
 use Rattle.reader_spec.specs.Answer.{nodesRead}
 use Rattle.reader_spec.specs.InnerWriting.{willHold}
-use Rattle.second_pass.proofs.Whole.{Going, Turn, nodes-few, root-fits, going-start, whole-is, few-open, size-fits, turned, last-ready, all-written}
+use Rattle.second_pass.proofs.Whole.{Going, Turn, nodes-few, root-fits, going-start, whole-is, few-open, fair-here, size-fits, turned, last-ready, all-written}
 use Rattle.second_pass.proofs.write_nodes.Statement.{statement}
 use Rattle.second_pass.proofs.write_nodes.Tie as tie
 
@@ -49,17 +49,21 @@ loop-holds c =
     let r = c .before .before .put-row in
     (refl, going-start (now (a .table)) (now (a .s)) (now (a .t)) (a .count) (s .pre .2) (r .last .0) (r .result) (r .ensures))
 
-sub-piece-at : tie.Need-sub-piece-at Inv-loop μ-loop
-sub-piece-at c = search needs
+sub-faultless-piece-at : tie.Need-sub-faultless-piece-at Inv-loop μ-loop
+sub-faultless-piece-at c = search needs
 
-part-piece-at-start : tie.Need-part-piece-at-start Inv-loop μ-loop
-part-piece-at-start c = search needs
+part-faultless-piece-at-start : tie.Need-part-faultless-piece-at-start Inv-loop μ-loop
+part-faultless-piece-at-start c = search needs
 
-part-piece-at-end : tie.Need-part-piece-at-end Inv-loop μ-loop
-part-piece-at-end c = search needs
+part-faultless-piece-at-end : tie.Need-part-faultless-piece-at-end Inv-loop μ-loop
+part-faultless-piece-at-end c = search needs
 
-piece-at-requires : tie.Need-piece-at-requires Inv-loop μ-loop
-piece-at-requires c κs = search needs
+faultless-piece-at-requires : tie.Need-faultless-piece-at-requires Inv-loop μ-loop
+faultless-piece-at-requires c κs =
+    let l = c .before .before in
+    let s = start l in
+    let i = l .loop in
+    (s .pre .0, s .pre .1, fair-here _ (now (s .args .table)) (now (s .args .s)) (i .t) (i .w) (i .at) (i .depth) (s .pre .2 .legible) (i .inv .1) (c .before .loop-test .taken))
 
 sub-size-of : tie.Need-sub-size-of Inv-loop μ-loop
 sub-size-of c = search needs
@@ -69,14 +73,14 @@ size-of-requires c κs =
     let l = c .before .before .before in
     let s = start l in
     let i = l .loop in
-    size-fits _ (now (s .args .table)) (now (s .args .s)) (i .t) (i .w) (i .at) (i .depth) (s .pre .2 .legible) (i .inv .1) (c .before .before .loop-test .taken) (c .piece-at .result) (c .piece-at .ensures)
+    size-fits _ (now (s .args .table)) (now (s .args .s)) (i .t) (i .w) (i .at) (i .depth) (s .pre .2 .legible) (i .inv .1) (c .before .before .loop-test .taken) (c .faultless-piece-at .result) (c .faultless-piece-at .ensures)
 
-turn : (c : tie.After-size-of Inv-loop μ-loop) → let l = c .before .before .before .before in let a = start l .args in let r = l .before .before .before .put-row in Turn (whole (now (a .table)) (now (a .s)) (r .last .0) (r .result)) (now (a .table)) (now (a .s)) (l .loop .t) (l .loop .w) (l .loop .at) (l .loop .depth) (c .before .piece-at .result) (c .size-of .result)
+turn : (c : tie.After-size-of Inv-loop μ-loop) → let l = c .before .before .before .before in let a = start l .args in let r = l .before .before .before .put-row in Turn (whole (now (a .table)) (now (a .s)) (r .last .0) (r .result)) (now (a .table)) (now (a .s)) (l .loop .t) (l .loop .w) (l .loop .at) (l .loop .depth) (c .before .faultless-piece-at .result) (c .size-of .result)
 turn c =
     let l = c .before .before .before .before in
     let s = start l in
     let i = l .loop in
-    let p = c .before .piece-at in
+    let p = c .before .faultless-piece-at in
     turned _ (now (s .args .table)) (now (s .args .s)) (i .t) (i .w) (i .at) (i .depth) (s .pre .2 .legible) (i .inv .1) (c .before .before .before .loop-test .taken) (p .result) (p .ensures) (c .size-of .result) (c .size-of .ensures)
 
 add-to : tie.Need-add-to Inv-loop μ-loop
@@ -141,10 +145,10 @@ write-nodes-spec =
     cast-put-row-2
     put-row-requires
     loop-holds
-    sub-piece-at
-    part-piece-at-start
-    part-piece-at-end
-    piece-at-requires
+    sub-faultless-piece-at
+    part-faultless-piece-at-start
+    part-faultless-piece-at-end
+    faultless-piece-at-requires
     sub-size-of
     size-of-requires
     add-to

@@ -1,4 +1,4 @@
--- `pieces::marker_piece` meets its contract.
+-- `pieces::named_piece` meets its contract.
 -- Assumes nothing.
 use borrow.Author.Needs.{needs}
 use denote.Ref.{now}
@@ -8,11 +8,11 @@ use Rattle.table.specs.Names.{lookedUp, foundOf}
 use Rattle.cursor.specs.Names.{nameOf}
 use Rattle.cursor.proofs.Named.{name-cut}
 use Rattle.pieces.proofs.Answers.{marker-unknown, marker-missing, marker-known}
-use Rattle.pieces.proofs.marker_piece.Statement.{statement}
-use Rattle.pieces.proofs.marker_piece.Tie as tie
+use Rattle.pieces.proofs.named_piece.Statement.{statement}
+use Rattle.pieces.proofs.named_piece.Tie as tie
 
-name-span-requires : tie.Need-name-span-requires
-name-span-requires c κs = search needs
+name-start-requires : tie.Need-name-start-requires
+name-start-requires c κs = search needs
 
 sub-lookup : tie.Need-sub-lookup
 sub-lookup c = search needs
@@ -38,8 +38,10 @@ start k = k .before .before .before .before .before .before .before
 -- the name is looked up
 looked : (k : tie.After-lookup) → foundOf (k .lookup .result) ≡ lookedUp (now (start k .args .table)) (nameOf (now (start k .args .l)))
 looked k =
-    let at = k .before .before .name-span in
-    k .lookup .ensures ∙ ap (lookedUp (now (start k .args .table))) (name-cut (now (start k .args .l)) (at .result) (at .ensures))
+    let name = k .before .before .name-start in
+    let s = start k in
+    k .lookup .ensures
+    ∙ ap (lookedUp (now (s .args .table))) (name-cut (now (s .args .l)) (record { start = name .result; end = s .args .end }) (record { begins = name .ensures .is; stops = s .pre .2 .is; inside = s .pre .2 .inside }))
 
 returns : tie.Need-returns
 returns c =
@@ -77,11 +79,11 @@ returns-3 c =
     let entry = sym (f .info .ensures) ∙ ap infoOf (i .info2 .given .1) in
     marker-known (now (a .table)) (now (a .l)) (k .lookup .result) (looked k) (d .id .given .0 .0) (d .id .given .1) (i .info2 .given .0 .0) entry _ (c .known-piece .ensures (now (a .table)) entry)
 
-pub marker-piece-spec : {M : Type 1} → statement M
-marker-piece-spec =
+pub named-piece-spec : {M : Type 1} → statement M
+named-piece-spec =
     tie.close
     (tie.spec
-    name-span-requires
+    name-start-requires
     sub-lookup
     part-lookup-start
     part-lookup-end
