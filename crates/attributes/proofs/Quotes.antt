@@ -1,7 +1,7 @@
 -- A value between quotes: the scan of its characters, and the search for its closing quote among its bytes.
 -- Assumes nothing.
 use mathlib.Core.Path.{_≡_, refl, sym, _∙_}
-use mathlib.Core.Bool.{Bool, true, false, not, false≢true, _&&_, _||_, and-false}
+use mathlib.Core.Bool.{Bool, true, false, not, false≢true, _&&_, _||_, and-true, and-false}
 use mathlib.Core.List.{List, [], _∷_, _++_}
 use Prim.Native.Nat.{ℕ, zero, suc, _+_, _-_, _<_, _≤_}
 use native.Mathlib.Nat.{not-suc-le-zero, add-zero, le-refl}
@@ -9,7 +9,7 @@ use native.Mathlib.Omega.{arith}
 use lib.Dec.{eqb, ltb, leb·suc-suc}
 use lib.ListN.{length, getD, drop, length-drop, drop-of-length-le}
 use lib.Seq.{drop-drop}
-use borrow.Author.Tests.{lt-ltb, le-ltb, eq-eqb, ne-eqb, eqb-true}
+use borrow.Author.Tests.{lt-ltb, le-ltb, eq-eqb, ne-eqb, eqb-true, ltb-true}
 use Rattle.text.specs.Pick.{pick}
 use Rattle.text.specs.Utf8.{decode}
 use Rattle.text.specs.Characters.{chars, findByte}
@@ -111,48 +111,71 @@ same-test : (a n : ℕ) → eqb n 0 ≡ eqb (a + n) a
 same-test a zero = rw (add-zero a) (sym (eq-eqb a a refl))
 same-test a (suc n) = ne-eqb (suc n) 0 (λ e. omega arith) ∙ sym (ne-eqb (a + suc n) a (λ e. omega arith))
 
--- how far the search for the closing quote goes at a byte that is none
-jump : (l : List ℕ) (r : ℕ) → r ≡ pick (escapes l) 2 1 → leads 0x22 l ≡ false → 0 < length l → (0 < r) × (r ≤ length l) × (closingPlace false l ≡ r + closingPlace false (drop r l))
-unfolding closingPlace
-jump [] r e h g = absurd (not-suc-le-zero g)
-jump (b ∷ []) r e h g =
-    let z : r ≡ 1 = e ∙ rw (and-false (eqb b 0x5C)) in
-    rw (z, h) (omega arith, omega arith, omega arith)
-jump (b ∷ x ∷ s) r e h g = rw (e, h) (test (eqb b 0x5C) (eqb x 0x22) refl)
+-- a byte of a value is the quote that closes it, by the tests that the code takes
+abbrev closing : List ℕ → ℕ → ℕ → Bool
+closing s from j = leads 0x22 (drop j s) && not (ltb from j && escapes (drop (j - 1) s))
+
+module _ (s : List ℕ) (from j : ℕ) where
+  pub not-quote : leads 0x22 (drop j s) ≡ false → false ≡ closing s from j
+  not-quote h = rw h
+
+  pub first-quote : leads 0x22 (drop j s) ≡ true → j ≤ from → true ≡ closing s from j
+  first-quote h k = rw (h, le-ltb from j k)
+
+  -- a backslash before a quote escapes it
+  escaped : from < j → leads 0x22 (drop j s) ≡ true → escapes (drop (j - 1) s) ≡ leads 0x5C (drop (j - 1) s)
+  escaped k h =
+      let e : j - 1 + 1 ≡ j = omega arith in
+      rw (drop-drop 1 (j - 1) s, e, h) (and-true (leads 0x5C (drop (j - 1) s)))
+
+  pub later-quote : (x : Bool) → leads 0x22 (drop j s) ≡ true → from < j → x ≡ leads 0x5C (drop (j - 1) s) → not x ≡ closing s from j
+  later-quote x h k e = rw (h, lt-ltb from j k, escaped k h, ← e)
+
+-- a backslash stands before a byte of the value
+abbrev slashed : List ℕ → ℕ → ℕ → Bool
+slashed s from j = ltb from j && leads 0x5C (drop (j - 1) s)
+
+closing-is : (s : List ℕ) (from j : ℕ) → j < length s → closing s from j ≡ (eqb (getD s j 0) 0x22 && not (slashed s from j))
+closing-is s from j h = test (leads 0x22 (drop j s)) (ltb from j) refl refl
   where
-    test : (t u : Bool) → eqb x 0x22 ≡ u → (0 < pick (t && u) 2 1) × (pick (t && u) 2 1 ≤ suc (suc (length s))) × (suc (pick (u && not t) 0 (suc (closingPlace (eqb x 0x5C) s))) ≡ pick (t && u) 2 1 + closingPlace false (drop (pick (t && u) 2 1) (b ∷ x ∷ s)))
-    test true true q =
-        let z : x ≡ 0x22 = eqb-true x 0x22 q in
-        rw z (omega arith, omega arith, omega arith)
-    test true false q = rw q (omega arith, omega arith, omega arith)
-    test false true q = rw q (omega arith, omega arith, omega arith)
-    test false false q = rw q (omega arith, omega arith, omega arith)
+    test : (t u : Bool) → leads 0x22 (drop j s) ≡ t → ltb from j ≡ u → closing s from j ≡ (eqb (getD s j 0) 0x22 && not (slashed s from j))
+    test false u q p = rw (leads-at 0x22 s j h, q)
+    test true false q p = rw (leads-at 0x22 s j h, q, p)
+    test true true q p = rw (leads-at 0x22 s j h, q, p, escaped s from j (ltb-true from j p) q)
 
 -- The search for the quote that closes a value, from a place in it on, has come to another place: the quote lies as far from the one as from the other.
 pub record Seeking (s : List ℕ) (from j : ℕ) : Type 0 where
   pub past : from ≤ j
   pub inside : j ≤ length s
-  pub as-far : from + closingPlace false (drop from s) ≡ j + closingPlace false (drop j s)
+  pub as-far : from + closingPlace false (drop from s) ≡ j + closingPlace (slashed s from j) (drop j s)
 
 pub seeking-start : (s : List ℕ) (from : ℕ) → from ≤ length s → Seeking s from from
-seeking-start s from h = record { past = le-refl from; inside = h; as-far = refl }
+seeking-start s from h = record { past = le-refl from; inside = h; as-far = rw (le-ltb from from (le-refl from)) }
 
 module _ {s : List ℕ} {from j : ℕ} (g : Seeking s from j) where
-  -- at the end of the text, and at a quote
+  -- at the end of the text, and at the quote
   seeking-ends : length s ≤ j → j ≡ from + closingPlace false (drop from s)
   unfolding closingPlace
   seeking-ends h = sym (g .as-far ∙ rw (drop-of-length-le s h) (add-zero j))
 
-  seeking-here : j < length s → getD s j 0 ≡ 0x22 → j ≡ from + closingPlace false (drop from s)
+  seeking-here : j < length s → closing s from j ≡ true → j ≡ from + closingPlace false (drop from s)
   unfolding closingPlace
-  seeking-here h e = sym (g .as-far ∙ rw (place s j h, eq-eqb (getD s j 0) 0x22 e) (add-zero j))
+  seeking-here h e = sym (g .as-far ∙ rw (place s j h, sym (closing-is s from j h) ∙ e) (add-zero j))
 
-  -- past a byte that is none
-  pub seeking-on : (r : ℕ) → j < length s → (getD s j 0 ≡ 0x22 → ⊥) → r ≡ pick (escapes (drop j s)) 2 1 → (0 < r) × Seeking s from (j + r)
-  seeking-on r h q e =
-      let l = length-drop j s in
-      let n = jump (drop j s) r e (sym (leads-at 0x22 s j h) ∙ ne-eqb (getD s j 0) 0x22 q) (omega arith) in
-      (n .0, record { past = omega (arith, g .past); inside = omega (arith, n .1); as-far = g .as-far ∙ rw (← drop-drop r j s) (omega (arith, n .2)) })
+  -- past a byte that isn't that quote
+  one-further : j < length s → closing s from j ≡ false → closingPlace (slashed s from j) (drop j s) ≡ suc (closingPlace (eqb (getD s j 0) 0x5C) (drop (j + 1) s))
+  unfolding closingPlace
+  one-further h e = rw (place s j h, sym (closing-is s from j h) ∙ e)
+
+  slashed-next : j < length s → slashed s from (j + 1) ≡ eqb (getD s j 0) 0x5C
+  slashed-next h =
+      let d : j + 1 - 1 ≡ j = omega arith in
+      rw (lt-ltb from (j + 1) (omega (arith, g .past)), d) (sym (leads-at 0x5C s j h))
+
+  pub seeking-on : j < length s → closing s from j ≡ false → Seeking s from (j + 1)
+  seeking-on h e =
+      let f = one-further h e in
+      record { past = omega (arith, g .past); inside = omega arith; as-far = g .as-far ∙ rw (slashed-next h) (omega (arith, f)) }
 
 -- from the byte after a `=` on: a value whose quote is never closed, and one whose quote is
 module _ (s : List ℕ) (k j : ℕ) (quote : leads 0x22 (drop (k + 1) s) ≡ true) (g : Seeking s (k + 2) j) where
@@ -168,18 +191,10 @@ module _ (s : List ℕ) (k j : ℕ) (quote : leads 0x22 (drop (k + 1) s) ≡ tru
       let is = seeking-ends g h in
       opens ∙ opened-closes (drop (k + 2) s) ∙ rw (le-ltb (closingPlace false (drop (k + 2) s)) (length (drop (k + 2) s)) (omega arith))
 
-  pub closed : j < length s → getD s j 0 ≡ 0x22 → attributeScan value (chars (drop (k + 1) s)) ≡ pick (eqb j (k + 2)) (emptyValue ∷ []) [] ++ attributeScan between (chars (drop (j + 1) s))
+  pub closed : j < length s → closing s (k + 2) j ≡ true → attributeScan value (chars (drop (k + 1) s)) ≡ pick (eqb j (k + 2)) (emptyValue ∷ []) [] ++ attributeScan between (chars (drop (j + 1) s))
   closed h q =
       let l = length-drop (k + 2) s in
       let is = seeking-here g h q in
       let d : k + 2 + suc (closingPlace false (drop (k + 2) s)) ≡ j + 1 = omega arith in
       opens ∙ opened-closes (drop (k + 2) s)
       ∙ rw (lt-ltb (closingPlace false (drop (k + 2) s)) (length (drop (k + 2) s)) (omega arith), drop-drop (suc (closingPlace false (drop (k + 2) s))) (k + 2) s, d, is, same-test (k + 2) (closingPlace false (drop (k + 2) s)))
-
--- the bytes that the code goes on at once
-module _ (s : List ℕ) (k : ℕ) where
-  pub step-one : leads 0x5C (drop k s) ≡ false → 1 ≡ pick {A = ℕ} (escapes (drop k s)) 2 1
-  step-one h = rw h
-
-  pub step-by : (t : Bool) → leads 0x5C (drop k s) ≡ true → leads 0x22 (drop (k + 1) s) ≡ t → pick t 2 1 ≡ pick {A = ℕ} (escapes (drop k s)) 2 1
-  step-by t h q = rw (h, drop-drop 1 k s, q)

@@ -7,8 +7,10 @@ use findings::Severity;
 use findings::UNQUOTED_ATTRIBUTE_VALUE;
 use table::DefaultAttribute;
 ghost use mathlib.Core.Path.{_≡_};
+ghost use mathlib.Core.Bool.{not, _&&_};
 ghost use mathlib.Core.List.{[], _∷_};
-ghost use Prim.Native.Nat.{_<_, _≤_};
+ghost use Prim.Native.Nat.{_-_, _<_, _≤_};
+ghost use lib.Dec.{ltb};
 ghost use lib.ListN.{length, drop};
 ghost use Rattle.text.specs.Inner.{Ended};
 ghost use Rattle.text.specs.Characters.{chars, find};
@@ -21,7 +23,6 @@ ghost use Rattle.findings.specs.Written.{only};
 ghost use Rattle.table.specs.Names.{attributeName};
 ghost use Rattle.attributes.specs.Attributes.{hasDefault, kind, emptyValue, attributeScan, between, afterBar, attributeKinds, findingsAt, attributesFindings};
 ghost use Rattle.attributes.specs.Inner.{leads, endsKey, escapes, findingOfKind, ofNode};
-ghost use Rattle.text.specs.Pick.{pick};
 ghost use Rattle.findings.specs.Inner.{Wrote, Room};
 
 // The Attribute node that is checked, and the node that owns it.
@@ -92,15 +93,18 @@ fn key_end(s: &[u8], from: usize) -> usize
     i
 }
 
-// How many bytes the search for the closing quote goes on at a place: two for a backslash with a quote after it, else one.
-fn quote_step(s: &[u8], k: usize) -> usize
-    requires { ⌜ k < length (now s) ⌝ }
-    ensures { λ r. ⌜ r ≡ pick (escapes (drop k (now (s .entry)))) 2 1 ⌝ }
+// Whether a byte of a value, which begins at a place, is the quote that closes it: one without a backslash before it. So the search
+// for it goes on byte by byte, whatever the bytes are, and the processor need not wait for one to know the place of the next.
+fn closes(s: &[u8], from: usize, j: usize) -> bool
+    ensures { λ r. ⌜ r ≡ (leads 0x22 (drop j (now (s .entry))) && not (ltb from j && escapes (drop (j - 1) (now (s .entry))))) ⌝ }
 {
-    if !byte_is(s, k, 0x5C) {
-        return 1;
+    if !byte_is(s, j, b'"') {
+        return false;
     }
-    if byte_is(s, k + 1, b'"') { 2 } else { 1 }
+    if j <= from {
+        return true;
+    }
+    !byte_is(s, j - 1, 0x5C)
 }
 
 fn finding(w: Where, severity: Severity, code: u64, form: u64, first: u64) -> Finding
@@ -166,10 +170,10 @@ fn scan_list(body: &[u8], w: Where, list: &mut [u64], counts: Counts) -> Counts
                 c = push_error(list, c, w, INVALID_ATTRIBUTES, findings::UNTERMINATED_FORM);
                 break 'scan;
             }
-            if body[j] == b'"' {
+            if closes(body, key + 2, j) {
                 break j;
             }
-            j += quote_step(body, j);
+            j += 1;
         };
         c = push_empty(list, c, w, close == key + 2);
         i = text::find_from(body, close + 1, false);

@@ -3,17 +3,22 @@
 use mathlib.Core.Path.{_≡_, refl, sym, ap, _∙_}
 use mathlib.Core.Bool.{Bool, true, false}
 use mathlib.Core.List.{List, [], _∷_}
-use Prim.Native.Nat.{ℕ, zero, suc, _+_, _-_, _<_, _≤_}
+use Prim.Native.Nat.{ℕ, zero, suc, _+_, _-_, _*_, _%_, _<_, _≤_}
 use native.Mathlib.Decide.{decLt}
 use native.Mathlib.Omega.{arith}
 use lib.Dec.{eqb}
 use lib.ListN.{length, getD, take, drop, length-take, length-drop, List·getD-eq-default}
 use lib.Seq.{getD-take, getD-drop}
 use borrow.Author.Tests.{eq-eqb, ne-eqb, eqb-true}
-use Rattle.text.specs.Pick.{end, pick}
+use Rattle.text.specs.Pick.{end, pick, within}
+use Rattle.text.specs.Utf8.{widthOf}
+use Rattle.text.specs.declared.Decoded.{Decoded}
 use Rattle.text.specs.Blank.{blank}
 use Rattle.text.specs.Characters.{find}
-use Rattle.text.proofs.Blank.{ascii-not-blank}
+use Rattle.text.proofs.Blank.{ascii-not-blank, high-not-blank}
+use Rattle.text.proofs.Chars.{past}
+use Rattle.text.proofs.Decode.{decode-3}
+use Rattle.text.proofs.Rows.{within-lo, within-hi}
 use Rattle.text.proofs.Find.{past-ascii}
 use Rattle.text.proofs.Hits.{find-on}
 use Rattle.cursor.specs.declared.NameSpan.{NameSpan}
@@ -119,6 +124,22 @@ is-plain b h k n =
       ascii = omega arith;
       goes-on = rw (ascii-not-blank b (omega arith) (omega arith), ne-eqb b 0x2A (λ e. omega arith), ne-eqb b 0x7C (λ e. omega arith), ne-eqb b 0x5C n);
     }
+
+-- nor does a sequence of three bytes from E4 on
+high-goes-on : (c : ℕ) → 0x3000 < c → endsName c ≡ false
+high-goes-on c h = rw (high-not-blank c h, ne-eqb c 0x2A (λ e. omega arith), ne-eqb c 0x7C (λ e. omega arith), ne-eqb c 0x5C (λ e. omega arith))
+
+three-goes-on : (a b c : ℕ) → within 0xE4 0xEC a ≡ true → endsName (a % 16 * 4096 + b % 64 * 64 + c % 64) ≡ false
+three-goes-on a b c h =
+    let lo = within-lo 0xE4 0xEC a h in
+    let hi = within-hi 0xE4 0xEC a h in
+    let high : 0x3000 < a % 16 * 4096 + b % 64 * 64 + c % 64 = omega arith in
+    high-goes-on (a % 16 * 4096 + b % 64 * 64 + c % 64) high
+
+pub three-past : (s : List ℕ) (i : ℕ) → i < length s → within 0xE4 0xEC (getD s i 0) ≡ true → widthOf (drop i s) ≡ 3 → i + find endsName (drop i s) ≡ i + 3 + find endsName (drop (i + 3) s)
+three-past s i h e w =
+    let d = decode-3 s i h w in
+    past endsName s i 3 h (ap (λ (d : Decoded). d .width) d) (ap (λ (d : Decoded). endsName (d .cp)) (sym d) ∙ three-goes-on (getD s i 0) (getD s (i + 1) 0) (getD s (i + 2) 0) e)
 
 pub name-starts : (s : List ℕ) (a b : ℕ) → a ≡ pastOne 0x5C s 0 → b ≡ pastOne 0x2B s a → b ≡ namePart s .start
 unfolding namePart

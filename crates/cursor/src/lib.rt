@@ -93,7 +93,8 @@ fn is_plain(b: u8) -> bool
     if b < 0x7C { b != 0x5C } else { false }
 }
 
-// The place of the first character from a place on that ends a name, or the length.
+// The place of the first character from a place on that ends a name, or the length. A sequence of three bytes that begins with E4 to
+// EC needs no decoding: no blank lies above U+3000.
 fn name_end(s: &[u8], from: usize) -> usize
     requires { ⌜ from ≤ length (now s) ⌝ }
     ensures { λ r. ⌜ Ended (now (s .entry)) from (find endsName (drop from (now (s .entry)))) r ⌝ }
@@ -103,6 +104,12 @@ fn name_end(s: &[u8], from: usize) -> usize
         if is_plain(s[i]) {
             i += 1;
             continue;
+        }
+        if text::holds(s[i], 0xE4, 0xEC) {
+            if text::three_at(s, i) {
+                i += 3;
+                continue;
+            }
         }
         let d = text::decode_at(s, i);
         if ends_name(d.cp) {

@@ -12,7 +12,7 @@ use lib.Dec.{leb, eqb}
 use lib.ListN.{length, getD, take, drop, length-drop}
 use lib.Seq.{getD-take}
 use borrow.Author.Tests.{ne-eqb, lt-leb}
-use Rattle.text.specs.Pick.{Range, range, within, pick}
+use Rattle.text.specs.Pick.{Range, range, within, same, pick}
 use Rattle.text.specs.declared.Decoded.{Decoded}
 use Rattle.text.specs.Utf8.{begins, table3-7, widthOf, fits, decoded, decode}
 use Rattle.text.specs.Blank.{blank}
@@ -22,8 +22,8 @@ use Rattle.text.specs.Characters.{chars, bytesBefore, find, findByte}
 use Rattle.text.proofs.Rows.{within-lo, within-hi, row-short}
 use Rattle.text.proofs.Blank.{ascii-not-blank, blank-key}
 use Rattle.text.proofs.Scan.{ascii-one}
-use Rattle.text.proofs.Decode.{decode-1, decode-width}
-use Rattle.text.proofs.Chars.{chars-nil, chars-cons, tested-by, past, stops}
+use Rattle.text.proofs.Decode.{decode-1, decode-3, decode-width}
+use Rattle.text.proofs.Chars.{chars-nil, chars-cons, tested-by, tested, past, stops}
 use Rattle.text.proofs.Exact.{Found, found, begins-fits, fits-length}
 use Rattle.text.proofs.Shape.{row-further}
 use Rattle.text.proofs.Induction.{by-length}
@@ -144,6 +144,17 @@ module _ (s : List ℕ) (i : ℕ) (t : Bool) (some : i < length s) (byte : getD 
 
   pub stops-space : t ≡ true → i + find (blankIs t) (drop i s) ≡ i
   stops-space y = stops-ascii (blankIs t) s i some (omega arith) (rw (y, space))
+
+-- a sequence of three bytes, by the steps that the code takes
+module _ (s : List ℕ) (i : ℕ) (t : Bool) (some : i < length s) (wide : widthOf (drop i s) ≡ 3) (c : ℕ) (x y : Bool) (code : c ≡ getD s i 0 % 16 * 4096 + getD s (i + 1) 0 % 64 * 64 + getD s (i + 2) 0 % 64) (test : x ≡ blank c) (alike : y ≡ same t x) where
+  three : record { cp = c; width = 3 } ≡ decode (drop i s)
+  three = ap (λ (n : ℕ). record { cp = n; width = 3 }) code ∙ decode-3 s i some wide
+
+  pub past-three : y ≡ false → i + find (blankIs t) (drop i s) ≡ i + 3 + find (blankIs t) (drop (i + 3) s)
+  past-three v = past (blankIs t) s i 3 some (ap (λ (d : Decoded). d .width) three) (tested s i t _ x y false three test alike v)
+
+  pub stops-three : y ≡ true → i + find (blankIs t) (drop i s) ≡ i
+  stops-three v = stops (blankIs t) s i some (tested s i t _ x y true three test alike v)
 
 module _ (p : ℕ → Bool) (flat : (c d : ℕ) → 0x80 ≤ c → 0x80 ≤ d → p c ≡ p d) where
   -- bytes that do not pass are passed over

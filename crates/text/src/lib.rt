@@ -1,6 +1,6 @@
 // Bytes as text: UTF-8, blanks, words and numbers.
 ghost use mathlib.Core.Path.{_≡_};
-ghost use Prim.Native.Nat.{ℕ, _+_, _-_, _<_, _≤_};
+ghost use Prim.Native.Nat.{ℕ, _+_, _-_, _*_, _%_, _<_, _≤_};
 ghost use mathlib.Core.Bool.{true, not};
 ghost use mathlib.Core.List.{_∷_, []};
 ghost use lib.Dec.{eqb};
@@ -101,7 +101,7 @@ fn rows_of_four(first: u8, second: u8, third: u8, fourth: u8) -> bool
 }
 
 // Whether the first byte, from E0 to EF, begins a sequence of three bytes; one of no other length.
-fn three_at(s: &[u8], at: usize) -> bool
+pub fn three_at(s: &[u8], at: usize) -> bool
     requires { ⌜ Led (now s) at 0xE0 0xEF ⌝ }
     ensures { λ r. ⌜ widthOf (drop at (now (s .entry))) ≡ pick r 3 0 ⌝ }
 {
@@ -248,6 +248,16 @@ fn replaced() -> Decoded
     }
 }
 
+// The code point of the three bytes at a place.
+fn of_three(s: &[u8], at: usize) -> u32
+    requires { ⌜ at + 3 ≤ length (now s) ⌝ }
+    ensures { λ r. ⌜ r ≡ getD (now (s .entry)) at 0 % 16 * 4096 + getD (now (s .entry)) (at + 1) 0 % 64 * 64 + getD (now (s .entry)) (at + 2) 0 % 64 ⌝ }
+{
+    let b1 = (s[at + 1] % 64) as u32;
+    let b2 = (s[at + 2] % 64) as u32;
+    (s[at] % 16) as u32 * 4096 + b1 * 64 + b2
+}
+
 // The code point of a sequence that begins with a byte above ASCII.
 fn decode_wide(s: &[u8], at: usize) -> Decoded
     requires { ⌜ Led (now s) at 0x80 0xFF ⌝ }
@@ -268,10 +278,8 @@ fn decode_wide(s: &[u8], at: usize) -> Decoded
         if !three_at(s, at) {
             return replaced();
         }
-        let b1 = (s[at + 1] % 64) as u32;
-        let b2 = (s[at + 2] % 64) as u32;
         return Decoded {
-            cp: (b % 16) as u32 * 4096 + b1 * 64 + b2,
+            cp: of_three(s, at),
             width: 3,
         };
     }
@@ -373,8 +381,35 @@ fn agree(a: bool, b: bool) -> bool
     if a { b } else { !b }
 }
 
-// The place of the first character, from a place on, that is blank (t is true) or isn't (t is false), or the length. Most bytes
-// are ASCII above the space, which are no blanks, and most blanks are spaces: neither needs decoding.
+// The place of the first character, from a place on, that is blank (t is true) or isn't (t is false), or the length. The blanks of
+// three bytes begin with E1 to E3: a sequence that begins so can be of row 4 alone, and is decoded here.
+fn search_from(s: &[u8], from: usize, t: bool) -> usize
+    requires { ⌜ from ≤ length (now s) ⌝ }
+    ensures { λ r. ⌜ Ended (now (s .entry)) from (find (blankIs t) (drop from (now (s .entry)))) r ⌝ }
+{
+    let mut i = from;
+    while i < s.len() {
+        if holds(s[i], 0xE1, 0xE3) {
+            if three_at(s, i) {
+                if agree(t, is_blank(of_three(s, i))) {
+                    return i;
+                }
+                i += 3;
+                continue;
+            }
+        }
+        let d = decode_in(s, i);
+        if agree(t, is_blank(d.cp)) {
+            return i;
+        }
+        i += d.width;
+    }
+    i
+}
+
+// The same. Most bytes are ASCII above the space, which are no blanks, and most blanks are spaces: neither needs decoding. From any
+// other byte on `search_from` goes on. It has two calls so that it stays a function of its own: this one stays small enough to
+// become part of its callers.
 pub fn find_from(s: &[u8], from: usize, t: bool) -> usize
     requires { ⌜ from ≤ length (now s) ⌝ }
     ensures { λ r. ⌜ Ended (now (s .entry)) from (find (blankIs t) (drop from (now (s .entry)))) r ⌝ }
@@ -388,18 +423,16 @@ pub fn find_from(s: &[u8], from: usize, t: bool) -> usize
             i += 1;
             continue;
         }
-        if s[i] == b' ' {
+        if s[i] != b' ' {
             if t {
-                return i;
+                return search_from(s, i, true);
             }
-            i += 1;
-            continue;
+            return search_from(s, i, false);
         }
-        let d = decode_in(s, i);
-        if agree(t, is_blank(d.cp)) {
+        if t {
             return i;
         }
-        i += d.width;
+        i += 1;
     }
     i
 }

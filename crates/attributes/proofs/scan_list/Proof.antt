@@ -81,7 +81,7 @@ due-unclosed c =
 due-closed : (c : tie.Then4 Inv-loop μ-loop Inv-scan μ-scan) → Due (c .before .before .before .before .before .before .before .before .before) (pick (eqb (c .before .before .before .loop .j) (c .before .before .before .before .before .before .before .before .key-end .result + 2)) (emptyValue ∷ []) [] ++ attributeScan between (chars (drop (c .before .before .before .loop .j + 1) (text (c .before .before .before .before .before .before .before .before .before))))) (c .before .before .before .loop .list) (c .before .before .before .loop .c)
 due-closed c =
     let e = c .before .before .before .before in
-    owing-as (closed (text (c .before .before .before .before .before .before .before .before .before)) (c .before .before .before .before .before .before .before .before .key-end .result) (c .before .before .before .loop .j) (sym (e .before .byte-is2 .ensures) ∙ not-false _ (e .if2 .left)) (c .before .before .before .loop .inv .2) (omega arith) (c .if4 .taken)) (due-still (c .before .before .before))
+    owing-as (closed (text (c .before .before .before .before .before .before .before .before .before)) (c .before .before .before .before .before .before .before .before .key-end .result) (c .before .before .before .loop .j) (sym (e .before .byte-is2 .ensures) ∙ not-false _ (e .if2 .left)) (c .before .before .before .loop .inv .2) (omega arith) (sym (c .before .closes .ensures) ∙ c .if4 .taken)) (due-still (c .before .before .before))
 
 find-from-requires : tie.Need-find-from-requires Inv-loop μ-loop Inv-scan μ-scan
 find-from-requires c κs = search needs
@@ -140,24 +140,24 @@ loop-holds c = let h = quote-inside c in (refl, refl, seeking-start (text (c .be
 push-error-requires-3 : tie.Need-push-error-requires-3 Inv-loop μ-loop Inv-scan μ-scan
 push-error-requires-3 c κs = owing-room unterminated true [] (findingOfKind (c .before .before .before .before .before .before .before .before .before .before .before .before .before .args .w) unterminated 0) refl (due-unclosed (c .before))
 
-shared-slice-read-if4 : tie.Need-shared-slice-read-if4 Inv-loop μ-loop Inv-scan μ-scan
-shared-slice-read-if4 c = search needs
+add-closes : tie.Need-add-closes Inv-loop μ-loop Inv-scan μ-scan
+add-closes c = let h = quote-inside (c .before .before) in omega arith
 
-quote-step-requires : tie.Need-quote-step-requires Inv-loop μ-loop Inv-scan μ-scan
-quote-step-requires c κs = search needs
+closes-requires : tie.Need-closes-requires Inv-loop μ-loop Inv-scan μ-scan
+closes-requires c κs = search needs
 
 -- the next place of the search
-onward : (c : tie.After-quote-step Inv-loop μ-loop Inv-scan μ-scan) → (0 < c .quote-step .result) × Seeking (text (c .before .before .before .before .before .before .before .before .before .before)) (c .before .before .before .before .before .before .before .before .before .key-end .result + 2) (c .before .before .before .before .loop .j + c .quote-step .result)
-onward c = seeking-on (c .before .before .before .before .loop .inv .2) (c .quote-step .result) (omega arith) (c .before .if4 .left) (c .quote-step .ensures)
+onward : (c : tie.Else4 Inv-loop μ-loop Inv-scan μ-scan) → Seeking (text (c .before .before .before .before .before .before .before .before .before)) (c .before .before .before .before .before .before .before .before .key-end .result + 2) (c .before .before .before .loop .j + 1)
+onward c = seeking-on (c .before .before .before .loop .inv .2) (omega arith) (sym (c .before .closes .ensures) ∙ c .if4 .left)
 
 add-j-2 : tie.Need-add-j-2 Inv-loop μ-loop Inv-scan μ-scan
-add-j-2 c = omega (arith, onward c .1 .inside, short (c .before .before .before .before .before .before .before .before .before .before))
+add-j-2 c = omega (arith, onward c .inside, short (c .before .before .before .before .before .before .before .before .before))
 
 loop-less : tie.Need-loop-less Inv-loop μ-loop Inv-scan μ-scan
-loop-less c = let q = onward c in omega (arith, q .0, q .1 .inside)
+loop-less c = omega (arith, onward c .inside)
 
 loop-again : tie.Need-loop-again Inv-loop μ-loop Inv-scan μ-scan
-loop-again c = (c .before .before .before .before .loop .inv .0, c .before .before .before .before .loop .inv .1, onward c .1)
+loop-again c = (c .before .before .before .loop .inv .0, c .before .before .before .loop .inv .1, onward c)
 
 add-push-empty : tie.Need-add-push-empty Inv-loop μ-loop Inv-scan μ-scan
 add-push-empty c = let h = quote-inside (c .before .before .before .before .before) in omega arith
@@ -227,8 +227,8 @@ scan-list-spec =
     add-j
     loop-holds
     push-error-requires-3
-    shared-slice-read-if4
-    quote-step-requires
+    add-closes
+    closes-requires
     add-j-2
     loop-less
     loop-again

@@ -1,5 +1,6 @@
 -- `text::decode_wide` meets its contract.
 -- Assumes nothing.
+use Prim.Native.Nat.{ℕ}
 use borrow.Author.Needs.{needs}
 use denote.Ref.{now}
 use lib.ListN.{drop}
@@ -40,14 +41,14 @@ shared-slice-read-b1 c =
 cast-b1 : tie.Need-cast-b1
 cast-b1 c = search needs
 
-cast-t16 : tie.Need-cast-t16
-cast-t16 c = search needs
+cast-t14 : tie.Need-cast-t14
+cast-t14 c = search needs
 
-mul-t17 : tie.Need-mul-t17
-mul-t17 c = search needs
+mul-t15 : tie.Need-mul-t15
+mul-t15 c = search needs
 
-add-t18 : tie.Need-add-t18
-add-t18 c = search needs
+add-t16 : tie.Need-add-t16
+add-t16 c = search needs
 
 returns-2 : tie.Need-returns-2
 returns-2 c =
@@ -68,53 +69,19 @@ returns-3 c =
     let f = c .before .before .three-at in
     c .replaced2 .ensures ∙ decode-0 (now (a .s)) (a .at) (omega arith) (unpicked (widthOf (drop (a .at) (now (a .s)))) 3 (f .result) (f .ensures) (c .before .if4 .taken))
 
-add-b1-2 : tie.Need-add-b1-2
-add-b1-2 c = search needs
-
-shared-slice-read-b1-2 : tie.Need-shared-slice-read-b1-2
-shared-slice-read-b1-2 c =
-    let a = c .before .before .before .before .before .before .before .args in
-    let f = c .before .before .three-at in
-    let w = picked (widthOf (drop (a .at) (now (a .s)))) 3 (f .result) (f .ensures) (c .before .if4 .left) in
+of-three-requires : tie.Need-of-three-requires
+of-three-requires c κs =
+    let a = c .before .before .before .before .before .before .args in
+    let f = c .before .three-at in
+    let w = picked (widthOf (drop (a .at) (now (a .s)))) 3 (f .result) (f .ensures) (c .if4 .left) in
     omega (arith, w, within-text (now (a .s)) (a .at) (omega arith))
-
-cast-b1-2 : tie.Need-cast-b1-2
-cast-b1-2 c = search needs
-
-add-b2 : tie.Need-add-b2
-add-b2 c = search needs
-
-shared-slice-read-b2 : tie.Need-shared-slice-read-b2
-shared-slice-read-b2 c =
-    let a = c .before .before .before .before .before .before .before .before .args in
-    let f = c .before .before .before .three-at in
-    let w = picked (widthOf (drop (a .at) (now (a .s)))) 3 (f .result) (f .ensures) (c .before .before .if4 .left) in
-    omega (arith, w, within-text (now (a .s)) (a .at) (omega arith))
-
-cast-b2 : tie.Need-cast-b2
-cast-b2 c = search needs
-
-cast-t26 : tie.Need-cast-t26
-cast-t26 c = search needs
-
-mul-t27 : tie.Need-mul-t27
-mul-t27 c = search needs
-
-mul-t28 : tie.Need-mul-t28
-mul-t28 c = search needs
-
-add-t29 : tie.Need-add-t29
-add-t29 c = search needs
-
-add-t30 : tie.Need-add-t30
-add-t30 c = search needs
 
 returns-4 : tie.Need-returns-4
 returns-4 c =
-    let a = c .before .before .before .before .before .before .before .before .args in
-    let f = c .before .before .before .three-at in
-    let w = picked (widthOf (drop (a .at) (now (a .s)))) 3 (f .result) (f .ensures) (c .before .before .if4 .left) in
-    decode-3 (now (a .s)) (a .at) (omega arith) w
+    let a = c .before .before .before .before .before .before .before .args in
+    let f = c .before .before .three-at in
+    let w = picked (widthOf (drop (a .at) (now (a .s)))) 3 (f .result) (f .ensures) (c .before .if4 .left) in
+    ap (λ (n : ℕ). record { cp = n; width = 3 }) (c .of-three .ensures) ∙ decode-3 (now (a .s)) (a .at) (omega arith) w
 
 decode-four-requires : tie.Need-decode-four-requires
 decode-four-requires c κs = search needs
@@ -133,24 +100,14 @@ decode-wide-spec =
     add-b1
     shared-slice-read-b1
     cast-b1
-    cast-t16
-    mul-t17
-    add-t18
+    cast-t14
+    mul-t15
+    add-t16
     returns-2
     three-at-requires
     replaced-requires-2
     returns-3
-    add-b1-2
-    shared-slice-read-b1-2
-    cast-b1-2
-    add-b2
-    shared-slice-read-b2
-    cast-b2
-    cast-t26
-    mul-t27
-    mul-t28
-    add-t29
-    add-t30
+    of-three-requires
     returns-4
     decode-four-requires
     returns-5)

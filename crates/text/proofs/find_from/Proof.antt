@@ -4,13 +4,13 @@ use borrow.Author.Needs.{needs}
 use borrow.Author.Tests.{not-true, not-false}
 use denote.Ref.{now}
 use lib.ListN.{length, drop}
+use mathlib.Core.Bool.{Bool}
 use mathlib.Core.Path.{_≡_, refl, sym, ap, _∙_}
 use native.Mathlib.Omega.{arith}
-use Rattle.text.proofs.Chars.{past, stops, ends, in-text, tested}
+use Rattle.text.proofs.Chars.{ends}
 use Rattle.text.proofs.Find.{past-plain, stops-plain, past-space, stops-space}
 use Rattle.text.specs.Characters.{find}
 use Rattle.text.specs.Inner.{blankIs}
-use Rattle.text.specs.declared.Decoded.{Decoded}
 use Rattle.text.proofs.find_from.Statement.{statement}
 use Rattle.text.proofs.find_from.Tie as tie
 
@@ -53,11 +53,29 @@ loop-again c =
 shared-slice-read-if3 : tie.Need-shared-slice-read-if3 Inv-loop μ-loop
 shared-slice-read-if3 c = search needs
 
+search-from-requires : tie.Need-search-from-requires Inv-loop μ-loop
+search-from-requires c κs = search needs
+
 returns-2 : tie.Need-returns-2 Inv-loop μ-loop
 returns-2 c =
+    let s = c .before .before .before .before .before .before .before .before .before .before .args .s .now in
+    let l = c .before .before .before .before .before .before .before .before .loop in
+    record { is = c .search-from .ensures .is ∙ ap (λ (t : Bool). l .i + find (blankIs t) (drop (l .i) s)) (sym (c .before .if4 .taken)) ∙ sym (l .inv .1); inside = c .search-from .ensures .inside }
+
+search-from-requires-2 : tie.Need-search-from-requires-2 Inv-loop μ-loop
+search-from-requires-2 c κs = search needs
+
+returns-3 : tie.Need-returns-3 Inv-loop μ-loop
+returns-3 c =
+    let s = c .before .before .before .before .before .before .before .before .before .before .args .s .now in
+    let l = c .before .before .before .before .before .before .before .before .loop in
+    record { is = c .search-from2 .ensures .is ∙ ap (λ (t : Bool). l .i + find (blankIs t) (drop (l .i) s)) (sym (c .before .if4 .left)) ∙ sym (l .inv .1); inside = c .search-from2 .ensures .inside }
+
+returns-4 : tie.Need-returns-4 Inv-loop μ-loop
+returns-4 c =
     let a = c .before .before .before .before .before .before .before .before .before .args in
     let l = c .before .before .before .before .before .before .before .loop in
-    record { is = sym (l .inv .1 ∙ stops-space (now (a .s)) (l .i) (a .t) (omega arith) (c .before .if3 .taken) (c .if4 .taken)); inside = omega arith }
+    record { is = sym (l .inv .1 ∙ stops-space (now (a .s)) (l .i) (a .t) (omega arith) (omega (arith, c .before .if3 .left)) (c .if5 .taken)); inside = omega arith }
 
 add-i-2 : tie.Need-add-i-2 Inv-loop μ-loop
 add-i-2 c = search needs
@@ -69,54 +87,10 @@ loop-again-2 : tie.Need-loop-again-2 Inv-loop μ-loop
 loop-again-2 c =
     let a = c .before .before .before .before .before .before .before .before .before .args in
     let l = c .before .before .before .before .before .before .before .loop in
-    (omega arith, l .inv .1 ∙ past-space (a .s .now) (l .i) (a .t) (omega arith) (c .before .if3 .taken) (c .if4 .left))
+    (omega arith, l .inv .1 ∙ past-space (a .s .now) (l .i) (a .t) (omega arith) (omega (arith, c .before .if3 .left)) (c .if5 .left))
 
-decode-in-requires : tie.Need-decode-in-requires Inv-loop μ-loop
-decode-in-requires c κs = search needs
-
-is-blank-requires : tie.Need-is-blank-requires Inv-loop μ-loop
-is-blank-requires c κs = search needs
-
-agree-requires : tie.Need-agree-requires Inv-loop μ-loop
-agree-requires c κs = search needs
-
-returns-3 : tie.Need-returns-3 Inv-loop μ-loop
-returns-3 c =
-    let a = c .before .before .before .before .before .before .before .before .before .before .before .before .args in
-    let s = now (a .s) in
-    let l = c .before .before .before .before .before .before .before .before .before .before .loop in
-    let d = c .before .before .before .decode-in in
-    let b = c .before .before .is-blank in
-    let y = tested s (l .i) (a .t) (d .result) (b .result) (c .before .agree .result) _ (d .ensures) (b .ensures) (c .before .agree .ensures) (c .if5 .taken) in
-    record { is = sym (l .inv .1 ∙ stops (blankIs (a .t)) s (l .i) (omega arith) y); inside = omega arith }
-
-add-i-3 : tie.Need-add-i-3 Inv-loop μ-loop
-add-i-3 c =
-    let s = c .before .before .before .before .before .before .before .before .before .before .before .before .before .args .s .now in
-    let i = c .before .before .before .before .before .before .before .before .before .before .before .loop .i in
-    let w = ap (λ (d : Decoded). d .width) (c .before .before .before .before .decode-in .ensures) in
-    omega (arith, in-text s i (omega arith), w)
-
-loop-less-3 : tie.Need-loop-less-3 Inv-loop μ-loop
-loop-less-3 c =
-    let s = c .before .before .before .before .before .before .before .before .before .before .before .before .before .args .s .now in
-    let i = c .before .before .before .before .before .before .before .before .before .before .before .loop .i in
-    let w = ap (λ (d : Decoded). d .width) (c .before .before .before .before .decode-in .ensures) in
-    omega (arith, in-text s i (omega arith), w)
-
-loop-again-3 : tie.Need-loop-again-3 Inv-loop μ-loop
-loop-again-3 c =
-    let a = c .before .before .before .before .before .before .before .before .before .before .before .before .before .args in
-    let s = a .s .now in
-    let l = c .before .before .before .before .before .before .before .before .before .before .before .loop in
-    let d = c .before .before .before .before .decode-in in
-    let b = c .before .before .before .is-blank in
-    let w = ap (λ (d : Decoded). d .width) (d .ensures) in
-    let y = tested s (l .i) (a .t) (d .result) (b .result) (c .before .before .agree .result) _ (d .ensures) (b .ensures) (c .before .before .agree .ensures) (c .before .if5 .left) in
-    (omega (arith, in-text s (l .i) (omega arith), w), l .inv .1 ∙ past (blankIs (a .t)) s (l .i) (d .result .width) (omega arith) w y)
-
-returns-4 : tie.Need-returns-4 Inv-loop μ-loop
-returns-4 c =
+returns-5 : tie.Need-returns-5 Inv-loop μ-loop
+returns-5 c =
     let a = c .before .before .before .args in
     let l = c .before .loop in
     record { is = sym (l .inv .1 ∙ ends (blankIs (a .t)) (now (a .s)) (l .i) (omega arith)); inside = omega arith }
@@ -135,15 +109,12 @@ find-from-spec =
     loop-less
     loop-again
     shared-slice-read-if3
+    search-from-requires
     returns-2
+    search-from-requires-2
+    returns-3
+    returns-4
     add-i-2
     loop-less-2
     loop-again-2
-    decode-in-requires
-    is-blank-requires
-    agree-requires
-    returns-3
-    add-i-3
-    loop-less-3
-    loop-again-3
-    returns-4)
+    returns-5)
