@@ -27,7 +27,8 @@ static const char *const code_names[HARKOXIN_CODES] = {
     "MilestoneMismatch", "InvalidAttributes", "MissingChapterNumber", "MissingVerseNumber", "CharCrossesVerseBoundary",
     "EmptyFigure", "UnquotedAttributeValue", "MissingRequiredAttribute", "BodyParagraphBeforeChapter", "EmptyWordMarker",
     "MissingMilestoneSelfClose", "InvalidTableColumnSequence", "DeprecatedMarker", "ImplicitClose", "UnclosedNote",
-    "UnclosedAtEof", "DefaultAttributeNotDefined", "MisplacedNumberMarker", "MissingSpaceBeforeNumber"};
+    "UnclosedAtEof", "DefaultAttributeNotDefined", "MisplacedNumberMarker", "MissingSpaceBeforeNumber",
+    "UnreadableVerseNumber"};
 
 static void fail(const char *what, const char *which)
 {

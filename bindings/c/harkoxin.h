@@ -84,9 +84,10 @@ enum {
 };
 
 /*
- * Codes, named as in the published `DiagnosticCode`. The check gives no finding of 0 to 3, 26 and 28 to 31, which are a
- * parser's. The two numbers of a finding are 0 but for 9 and 27 (expected, found), 10 (the chapter), 11 (the expected number,
- * the byte of its letter or 0) and 32 (the node of the marker around it).
+ * Codes, named as in the published `DiagnosticCode`, which lacks 35. The check gives no finding of 0 to 3, 26 and 28 to 31, which
+ * are a parser's. The two numbers of a finding are 0 but for 9 and 27 (expected, found), 10 (the chapter), 11 (the expected
+ * number, the byte of its letter or 0) and 32 (the node of the marker around it). The form of 35 is 0 where a verse's label
+ * begins with no digit, 1 where its number is over 4,294,967,295.
  */
 enum {
     HARKOXIN_UNKNOWN_MARKER = 0,
@@ -124,7 +125,8 @@ enum {
     HARKOXIN_DEFAULT_ATTRIBUTE_NOT_DEFINED = 32,
     HARKOXIN_MISPLACED_NUMBER_MARKER = 33,
     HARKOXIN_MISSING_SPACE_BEFORE_NUMBER = 34,
-    HARKOXIN_CODES = 35
+    HARKOXIN_UNREADABLE_VERSE_NUMBER = 35,
+    HARKOXIN_CODES = 36
 };
 
 /* The answer of harkoxin_check. After a refusal the words from the total on are 0. */

@@ -1,13 +1,16 @@
 //! What a set of documents reached.
 
+use std::collections::BTreeMap;
 use std::fmt::Write;
 
 use crate::diagnostic::DiagnosticCode;
 use crate::document::{Document, kind};
 use crate::forms::{FORMS, form_and_numbers};
 use crate::parts::attached_at_top;
-use crate::published::{Found, Validated, try_validate};
+use crate::published::{Found, Validated};
 use crate::refusals::refusal;
+use crate::tallies::CODES;
+use crate::unreadable;
 
 /// Refusals by number run from 1 to this.
 const LAST_REFUSAL: usize = 10;
@@ -24,8 +27,8 @@ pub struct Coverage {
     /// By number, from 0, which nothing has.
     pub refused: [u64; LAST_REFUSAL + 1],
     pub severities: [u64; 3],
-    /// Beside `FORMS`.
-    pub forms: [u64; FORMS.len()],
+    /// Findings by code and form, of those in `FORMS`.
+    forms: BTreeMap<(u32, u64), u64>,
     /// Numbers attached to a chapter or verse among the root's children: they give no finding.
     pub attached: u64,
     /// Among the accepted.
@@ -34,7 +37,7 @@ pub struct Coverage {
 }
 
 impl Coverage {
-    /// Refuses a document or runs the published `validate` on it, and counts it. An unforeseen
+    /// Refuses a document or takes the list that is owed for it, and counts it. An unforeseen
     /// panic of the published code and a message that no form has are errors.
     pub fn add(&mut self, document: &Document, lengths: (usize, usize)) -> Result<(), String> {
         self.documents += 1;
@@ -46,7 +49,7 @@ impl Coverage {
         self.most_nodes = self.most_nodes.max(document.node_count());
         self.deepest = self.deepest.max(depth(document));
         self.attached += attached_at_top(document) as u64;
-        match try_validate(document)? {
+        match unreadable::owed(document)? {
             Validated::Overflowed => self.overflowed += 1,
             Validated::Findings(list) => self.add_findings(&list)?,
         }
@@ -60,10 +63,18 @@ impl Coverage {
         for found in list {
             let (form, _, _) = form_and_numbers(found.code, &found.message)?;
             self.severities[found.severity as usize] += 1;
-            let place = FORMS.iter().position(|&pair| pair == (found.code, form));
-            self.forms[place.ok_or("a form outside the list of forms")?] += 1;
+            let pair = (found.code, form);
+            if !FORMS.contains(&pair) {
+                return Err(format!("{pair:?} is outside the list of forms"));
+            }
+            *self.forms.entry(pair).or_default() += 1;
         }
         Ok(())
+    }
+
+    /// How many findings have a code and a form.
+    fn of_form(&self, pair: (u32, u64)) -> u64 {
+        self.forms.get(&pair).copied().unwrap_or(0)
     }
 
     /// A table of the counts that aren't 0.
@@ -85,10 +96,10 @@ impl Coverage {
         for (name, count) in ["error", "warning", "info"].iter().zip(self.severities) {
             line(&format!("  {name}"), count);
         }
-        for (&(code, form), count) in FORMS.iter().zip(self.forms) {
+        for (code, form) in FORMS {
             line(
                 &format!("  {code:>2} {} form {form}", code_name(code)),
-                count,
+                self.of_form((code, form)),
             );
         }
         line("attached numbers", self.attached);
@@ -104,8 +115,8 @@ impl Coverage {
     /// What was never reached.
     pub fn unreached(&self) -> Vec<String> {
         let mut unreached = Vec::new();
-        for (&(code, form), &count) in FORMS.iter().zip(&self.forms) {
-            if count == 0 {
+        for (code, form) in FORMS {
+            if self.of_form((code, form)) == 0 {
                 unreached.push(format!("code {code} {} form {form}", code_name(code)));
             }
         }
@@ -125,9 +136,9 @@ impl Coverage {
     }
 }
 
-/// The published name of a code.
+/// The name of a code: the published one, or document 02's.
 pub fn code_name(code: u32) -> &'static str {
-    const NAMED: [DiagnosticCode; 35] = {
+    const NAMED: [DiagnosticCode; CODES - 1] = {
         use DiagnosticCode::*;
         [
             UnknownMarker,
@@ -167,7 +178,10 @@ pub fn code_name(code: u32) -> &'static str {
             MissingSpaceBeforeNumber,
         ]
     };
-    NAMED[code as usize].as_str()
+    match code {
+        unreadable::CODE => unreadable::NAME,
+        published => NAMED[published as usize].as_str(),
+    }
 }
 
 /// The most opens that nest in an accepted document.
@@ -202,12 +216,13 @@ mod tests {
         let unreached = coverage.unreached();
         assert!(!unreached.contains(&"code 11 InvalidVerseSequence form 0".to_string()));
         assert!(!unreached.contains(&"refusal 10".to_string()));
-        assert_eq!(unreached.len(), 31 + 9 + 3);
+        assert_eq!(unreached.len(), 33 + 9 + 3);
     }
 
     #[test]
     fn code_names_stand_at_their_numbers() {
         assert_eq!(code_name(4), "MissingIdMarker");
         assert_eq!(code_name(34), "MissingSpaceBeforeNumber");
+        assert_eq!(code_name(35), "UnreadableVerseNumber");
     }
 }

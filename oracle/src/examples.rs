@@ -16,6 +16,8 @@ const EACH_CODE: &str = "text \\id gen\n\\p early\n\\c 01\n\\s \\v 1 a\n\\p \\nd
 
 /// A text as an author writes it, with the closes that the reader asks for and a verse left out.
 const OWN_TEXT: &str = "\\id GEN A text of one's own\n\\h Genesis\n\\mt1 Genesis\n\\c 1\n\\s1 The beginning\n\\p\n\\v 1 In the beginning\\f + \\fr 1:1 \\fr*\\ft A note and its parts are closed.\\ft*\\f* \\w God|lemma=\"Elohim\"\\w* created.\n\\v 3 And God said,\n\\q1 \\qt-s |who=\"God\"\\*Let there be light\\qt-e\\*\n\\b\n\\tr \\tc1 a row\\tc1*\\tc2 and its cells\\tc2*\n";
+/// Verses of which nobody can read the number, in both ways, and ranges of which nobody can read the end.
+const UNREADABLE_VERSES: &str = "\\id GEN Verse numbers nobody can read\n\\c 1\n\\p\n\\v 1 read\n\\v abc no digits\n\\v 4294967296 too large\n\\v 2-x the start serves\n\\v 3-4294967296 the start serves\n\\v 4 read\n\\v x-5 no digits where it begins\n\\v 4294967295-1 read, and large\n\\c 2\n\\p\n\\v +1 no digits\n\\v ١ no digits\n\\v 0004294967296-3 too large, with zeros before it\n\\v4294967297 too large, and glued\n\\v 1 read\n";
 const UNKNOWN_MARKER: &str = "\\id GEN\n\\c 1\n\\p\n\\v 1 In the \\begin beginning\\begin*\n";
 /// The note's close comes while its text is open.
 const UNMATCHED_MARKER: &str =
@@ -139,6 +141,7 @@ pub fn examples() -> Vec<(&'static str, Document)> {
         ("too-large", full(1)),
         ("empty", Document::default()),
         ("own-text", own_text(OWN_TEXT)),
+        ("unreadable-verses", own_text(UNREADABLE_VERSES)),
         (
             "clean",
             samples::read("\\id GEN\n\\c 1\n\\p \\v 1 a \\v 2 b\n"),

@@ -1,7 +1,9 @@
 //! Small documents, all of them.
 
+mod labels;
 mod pairs;
 
+pub use labels::every_label;
 pub use pairs::{
     every_pair_of_bases, every_pair_of_labels, every_pair_of_spans, every_row_of_milestones,
 };
@@ -101,13 +103,15 @@ const MARKERS: [(&str, usize, usize); 16] = [
 const PAST: u16 = MARKERS.len() as u16;
 
 /// The last token closes the innermost open; an open token leaves its marker open.
-const TOKENS: [&[Step]; 24] = [
+const TOKENS: [&[Step]; 26] = [
     &[Open(0, "\\id"), text(" GEN\n"), END],
     &[Leaf(kind::CHAPTER, 1, "\\c 1\n", 1)],
     &[Leaf(kind::CHAPTER, 1, "\\c 2\n", 2)],
     &[Leaf(kind::VERSE, 2, "\\v 1 ", 1)],
     &[Leaf(kind::VERSE, 2, "\\v 2 ", 2)],
     &[Leaf(kind::VERSE, 2, "\\v1a ", 1)],
+    &[Leaf(kind::VERSE, 2, "\\v x ", 0)],
+    &[Leaf(kind::VERSE, 2, "\\v04294967296 ", 0)],
     &[Open(3, "\\p")],
     &[Open(4, "\\b")],
     &[

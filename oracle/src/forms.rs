@@ -1,7 +1,7 @@
-//! Form and numbers of a finding, read back out of the published message.
+//! Form and numbers of a finding, read back out of its message.
 
-/// Every pair of code and form that the published validate.rs can give.
-pub const FORMS: [(u32, u64); 32] = [
+/// Every pair of code and form that the published validate.rs can give, and the two of document 02's code 35.
+pub const FORMS: [(u32, u64); 34] = [
     (4, 0),
     (5, 0),
     (5, 1),
@@ -34,6 +34,8 @@ pub const FORMS: [(u32, u64); 32] = [
     (32, 0),
     (33, 0),
     (34, 0),
+    (35, 0),
+    (35, 1),
 ];
 
 /// The messages without a filling, by code and form.
@@ -111,6 +113,7 @@ fn filled_form(code: u32, message: &str) -> Option<(u64, u64, u64)> {
         ),
         33 => misplaced_number(message),
         34 => glued_number(message),
+        35 => Some((unreadable_form(message)?, 0, 0)),
         _ => None,
     }
 }
@@ -209,6 +212,17 @@ fn glued_number(message: &str) -> Option<(u64, u64, u64)> {
         .then_some((0, 0, 0))
 }
 
+/// A label holds no blank, so that the text behind it says which form it is.
+fn unreadable_form(message: &str) -> Option<u64> {
+    let (label, text) = message.strip_prefix("verse label ")?.split_once(' ')?;
+    match text {
+        _ if label.is_empty() => None,
+        "has no number" => Some(0),
+        "is too large" => Some(1),
+        _ => None,
+    }
+}
+
 #[cfg(test)]
 mod tests {
     use super::*;
@@ -270,6 +284,9 @@ mod tests {
             r"\v3b needs a space before its number; read as \v 3b",
             (0, 0, 0),
         ),
+        (35, "verse label abc has no number", (0, 0, 0)),
+        (35, "verse label -3 has no number", (0, 0, 0)),
+        (35, "verse label 4294967296-3a is too large", (1, 0, 0)),
     ];
 
     #[test]
@@ -313,6 +330,10 @@ mod tests {
             ),
             (34, r"\v3b needs a space before its number; read as \v 3"),
             (35, "more than one \\id marker"),
+            (35, "verse label  has no number"),
+            (35, "verse label abc is large"),
+            (35, "verse number abc has no number"),
+            (36, "verse label abc has no number"),
         ] {
             assert!(form_and_numbers(code, message).is_err(), "{message}");
         }

@@ -97,7 +97,7 @@ mod tests {
         let sum = (1..=64).fold(0xCBF2_9CE4_8422_2325, |sum, seed| {
             hash(&generate(seed), sum)
         });
-        assert_eq!(sum, 17467806175069825444);
+        assert_eq!(sum, 5262487386829267998);
     }
 
     #[test]

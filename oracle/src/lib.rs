@@ -41,5 +41,6 @@ pub mod samples;
 pub mod tallies;
 pub mod texts;
 pub mod timed;
+pub mod unreadable;
 #[cfg(feature = "library")]
 pub mod whole;

@@ -6,6 +6,7 @@ use std::ffi::c_uchar;
 use harkoxin::raw::{self, OpenStart};
 
 use crate::document::Document;
+use crate::unreadable::Part;
 
 #[link(name = "oracle_exports", kind = "static")]
 unsafe extern "C" {
@@ -331,17 +332,26 @@ pub fn is_note_only_marker(name: &[u8]) -> bool {
     unsafe { compared_is_note_only_marker(name.as_ptr(), name.len()) }
 }
 
-/// A verse position: its number, and its letter's byte or 0.
-pub fn parse_verse_part(label: &[u8]) -> Option<(u32, u8)> {
-    let (s, n) = (label.as_ptr(), label.len());
-    let number = small(unsafe { compared_part_number(s, n) })?;
-    Some((number, unsafe { compared_part_letter(s, n) }))
+/// The answer of a part reading in words: number and letter where it is read; else one of two numbers that no label has, and 0.
+pub type PartWords = (u64, u8);
+
+/// These words of an answer.
+pub fn part_words(part: Part) -> PartWords {
+    match part {
+        Part::Read((number, letter)) => (number.into(), letter),
+        Part::NoDigits => (u64::MAX, 0),
+        Part::TooLarge => (u64::MAX - 1, 0),
+    }
 }
 
-pub fn parse_verse_range_end(label: &[u8]) -> Option<(u32, u8)> {
+pub fn parse_verse_part(label: &[u8]) -> PartWords {
     let (s, n) = (label.as_ptr(), label.len());
-    let number = small(unsafe { compared_end_number(s, n) })?;
-    Some((number, unsafe { compared_end_letter(s, n) }))
+    unsafe { (compared_part_number(s, n), compared_part_letter(s, n)) }
+}
+
+pub fn parse_verse_range_end(label: &[u8]) -> PartWords {
+    let (s, n) = (label.as_ptr(), label.len());
+    unsafe { (compared_end_number(s, n), compared_end_letter(s, n)) }
 }
 
 pub fn is_valid_verse_sequence(expected: (u32, u8), actual: (u32, u8)) -> bool {

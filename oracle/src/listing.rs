@@ -1,12 +1,13 @@
-//! The listing of document 01, with the column of document 02's K3, plainly: from the published findings and the refusals; and
-//! what other programs share with it.
+//! The listing of document 01, with the column of document 02's K3, plainly: from the owed findings and the refusals; and what
+//! other programs share with it.
 
 use std::fmt::Write;
 
 use crate::coverage::code_name;
 use crate::document::Document;
-use crate::published::{Found, Validated, validate};
+use crate::published::Found;
 use crate::refusals::refusal;
+use crate::unreadable::owed_findings;
 
 pub const LARGEST_FILE: usize = 65_536;
 const MOST_FINDINGS: usize = 1_024;
@@ -58,10 +59,7 @@ pub fn printed(document: &Document, lines: impl FnOnce(&[Found]) -> String) -> S
     if let Some((number, place)) = refusal(document, usize::MAX, usize::MAX) {
         return refused_lines(number.into(), place);
     }
-    match validate(document) {
-        Validated::Findings(list) => lines(&list),
-        Validated::Overflowed => panic!("no sum of an example leaves 32 bits"),
-    }
+    lines(&owed_findings(document))
 }
 
 fn checked_lines(source: &[u8], list: &[Found]) -> String {

@@ -13,7 +13,7 @@ use crate::tape::{self, NodeKind, Tape};
 
 pub use crate::forms::form_and_numbers;
 
-/// A finding as the published code gives it. It doesn't say which node it is about.
+/// A finding as the published code gives it, or one of code 35, which it doesn't have. It doesn't say which node it is about.
 #[derive(Clone, Debug, PartialEq, Eq)]
 pub struct Found {
     /// 0 error, 1 warning, 2 info.

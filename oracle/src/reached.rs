@@ -5,6 +5,7 @@ use std::fmt::Write;
 
 use crate::coverage::code_name;
 use crate::forms::FORMS;
+use crate::tallies::CODES;
 
 /// The functions that turn a call back.
 #[derive(Clone, Copy, PartialEq, Eq, Debug)]
@@ -24,7 +25,6 @@ pub enum Function {
 
 const FUNCTIONS: usize = 8;
 const LAST_REFUSAL: usize = 18;
-const CODES: usize = 35;
 const ROOMS: [&str; 3] = ["too short", "exact", "longer"];
 
 impl Function {

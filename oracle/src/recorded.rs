@@ -2,8 +2,9 @@
 
 use crate::document::Document;
 use crate::forms::form_and_numbers;
-use crate::published::{Validated, try_validate};
+use crate::published::Validated;
 use crate::refusals::refusal;
+use crate::unreadable::owed;
 
 pub const MAGIC: &[u8; 8] = b"USFM3ANS";
 
@@ -41,7 +42,7 @@ pub fn answer(document: &Document) -> Result<Option<Answer>, String> {
         let place = u32::try_from(place).map_err(|_| "a place past 32 bits")?;
         return Ok(Some(Answer::Refused(number, place)));
     }
-    let Validated::Findings(list) = try_validate(document)? else {
+    let Validated::Findings(list) = owed(document)? else {
         return Ok(None);
     };
     let mut findings = Vec::new();

@@ -178,22 +178,28 @@ pub fn working_list_refusal(n: usize, seen_len: usize, open_len: usize) -> Optio
     (seen_len < n || open_len < n).then_some((10, n as u64))
 }
 
-/// The Verse nodes that the check visits: those below no MarkerOpen without a table entry.
-pub fn verses_visited(document: &Document) -> u64 {
+/// The Verse nodes that the check visits, in its order, which is that of the tape: those below no MarkerOpen without a table
+/// entry.
+pub fn visited_verses(document: &Document) -> Vec<usize> {
     let markers = entries(&document.table).map_or(0, |entries| entries.len());
     let n = document.node_count();
-    let mut verses = 0;
+    let mut verses = Vec::new();
     let mut place = 1;
     while place < n {
         let node = document.node(place);
         if node.kind == kind::MARKER_OPEN && node.marker as usize >= markers {
             place = node.link as usize;
         } else if node.kind == kind::VERSE {
-            verses += 1;
+            verses.push(place);
         }
         place += 1;
     }
     verses
+}
+
+/// How many Verse nodes the check visits.
+pub fn verses_visited(document: &Document) -> u64 {
+    visited_verses(document).len() as u64
 }
 
 #[cfg(test)]

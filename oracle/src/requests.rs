@@ -3,6 +3,7 @@
 
 use crate::marks::MOST_COUNTED;
 use crate::rng::Rng;
+use crate::tallies::CODES;
 use crate::texts::Request;
 
 const WORDS: usize = 8;
@@ -18,10 +19,10 @@ const BORDERS: [u64; 26] = [
     3,
     4,
     5,
-    33,
     34,
     35,
     36,
+    37,
     63,
     64,
     97,
@@ -77,11 +78,17 @@ pub fn damaged(rng: &mut Rng, request: Request, n: u64) -> Request {
     request
 }
 
+/// A code at either side of the last one.
+fn last_code(rng: &mut Rng) -> u64 {
+    (CODES - 2 + rng.below(4)) as u64
+}
+
 /// A request of any code that is known, or just isn't, about any node.
 pub fn any(rng: &mut Rng, n: u64) -> Request {
-    let code = match rng.percent(60) {
-        true => rng.pick(&[5, 11, 13, 15, 16, 24, 32, 33, 34]),
-        false => rng.below(37) as u64,
+    let code = match rng.below(10) {
+        0..6 => rng.pick(&[5, 11, 13, 15, 16, 24, 32, 33, 34, 35, 35]),
+        6 => last_code(rng),
+        _ => rng.below(CODES + 2) as u64,
     };
     let node = |rng: &mut Rng| rng.below(n as usize + 1) as u64;
     Request {
@@ -116,6 +123,10 @@ pub fn damaged_list(rng: &mut Rng, list: &[u64], n: u64) -> Vec<u64> {
         let end = (first + rng.from_to(1, MOST_RECORDS)).min(records);
         list[WORDS * first..WORDS * end].to_vec()
     };
+    let records = made.len() / WORDS;
+    if records > 0 && rng.one_in(4) {
+        made[WORDS * rng.below(records) + 1] = last_code(rng);
+    }
     for _ in 0..rng.below(3) {
         if !made.is_empty() {
             let place = rng.below(made.len());
@@ -204,6 +215,12 @@ mod tests {
         assert!((200..800).contains(&good), "{good}");
         let most = lists.iter().map(|list| requests(list).count()).max();
         assert!(most.unwrap() >= 4);
+        let with_code = |code| {
+            let has = |list: &&Vec<u64>| requests(list).any(|request| request.code == code);
+            lists.iter().filter(has).count()
+        };
+        let counts = [34, 35, 36, 37].map(with_code);
+        assert!(counts.iter().all(|&count| count > 40), "{counts:?}");
         assert!(lists.contains(&Vec::new()));
     }
 

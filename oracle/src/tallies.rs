@@ -1,7 +1,8 @@
-//! Document 01's tally with number 11, plainly.
+//! Document 01's tally with number 11, plainly, with the counts of document 02.
 
 const WORDS: usize = 8;
-pub const CODES: usize = 35;
+/// "Tally has 36 counts, number 11 starts above code 35"
+pub const CODES: usize = 36;
 
 /// The counts by code of a list of findings, or the place that number 11 gives.
 pub fn tally(list: &[u64]) -> Result<[u64; CODES], u64> {
@@ -30,15 +31,15 @@ mod tests {
     #[test]
     fn good_lists_are_counted() {
         assert_eq!(tally(&[]), Ok([0; CODES]));
-        let counts = tally(&list(&[[0, 34], [2, 0], [1, 34]])).unwrap();
-        assert_eq!((counts[0], counts[34]), (1, 2));
-        assert_eq!(counts.iter().sum::<u64>(), 3);
+        let counts = tally(&list(&[[0, 34], [2, 0], [1, 35], [1, 34]])).unwrap();
+        assert_eq!([counts[0], counts[34], counts[35]], [1, 2, 1]);
+        assert_eq!(counts.iter().sum::<u64>(), 4);
     }
 
     #[test]
     fn the_first_bad_record_is_the_place() {
         let good = [1, 11];
-        for bad in [[3, 11], [1, 35], [u64::MAX, 0], [0, u64::MAX]] {
+        for bad in [[3, 11], [1, 36], [u64::MAX, 0], [0, u64::MAX]] {
             assert_eq!(tally(&list(&[good, bad, good, bad])), Err(1));
         }
         let two = list(&[good, good]);

@@ -1,5 +1,5 @@
-//! Document 01's module 10 with number 12, written from that document for reading: the text of a finding, or none. And what
-//! follows for the texts of a whole list.
+//! Document 01's module 10 with number 12, and document 02's texts of code 35, written from these documents for reading: the text
+//! of a finding, or none. And what follows for the texts of a whole list.
 
 use crate::document::{Document, Entry, Node, entries, kind};
 use crate::forms::CONSTANT;
@@ -93,6 +93,8 @@ impl<'a> Reader<'a> {
             (32, 0) => no_default(self.name(first)?),
             (33, 0) => misplaced(self.name(node)?)?,
             (34, 0) => self.glued(node)?,
+            (35, 0) => format!("verse label {} has no number", self.label(node)?),
+            (35, 1) => format!("verse label {} is too large", self.label(node)?),
             _ => return None,
         })
     }
@@ -131,7 +133,7 @@ impl<'a> Reader<'a> {
     }
 
     /// The label of a Chapter or Verse, if it isn't empty.
-    fn label(&self, place: u64) -> Option<&'a str> {
+    pub fn label(&self, place: u64) -> Option<&'a str> {
         let numbered = matches!(self.node(place)?.kind, kind::CHAPTER | kind::VERSE);
         let second_word = || words(self.part(place)?).nth(1);
         self.glued_label(place)

@@ -15,6 +15,7 @@ mod workers;
 use harkoxin::raw::OpenStart;
 use harkoxin::{Checker, Report, Table, Tape};
 
+use crate::coverage::code_name;
 use crate::differ::agree;
 use crate::document::Document;
 use crate::faults;
@@ -26,11 +27,15 @@ use crate::texts::{Reader, requests};
 
 use accounts::same_account;
 pub use counts::Counts;
-use findings::{same_counts, same_findings, same_nodes, same_positions, severities, words_of};
+use findings::{
+    between_its_own, same_counts, same_findings, same_nodes, same_positions, same_unreadable,
+    severities, words_of,
+};
 use marks::same_mark;
 use slots::Slots;
 pub use workers::{
-    Source, all_threads, compare_seeds, expect_all_reached, failure_message, share_out,
+    Source, all_threads, compare_lists, compare_seeds, expect_all_reached, failure_message,
+    share_out,
 };
 
 /// Words of an answer: verdict, number, place, total, written, verses, errors, warnings, infos.
@@ -96,6 +101,29 @@ impl Comparison {
         self.slots.expect_document()
     }
 
+    /// Compares the list of an accepted document alone: without code 35 it is the published one, texts included, and the findings
+    /// of code 35 are the plain ones in their order, each in its place among those of its node. What is refused isn't looked at.
+    pub fn compare_list(&mut self, document: &Document, seed: u64) -> Result<(), String> {
+        faults::at_seed(seed);
+        self.counts.documents += 1;
+        if refusal(document, usize::MAX, usize::MAX).is_some() {
+            return Ok(());
+        }
+        let table = Table::new(&document.table);
+        let tape = Tape::from_bytes(&document.tape);
+        let report = self.checker.check_bytes(&table, &document.source, &tape);
+        let report = report.map_err(|refusal| refusal.to_string())?;
+        let list = words_of(&report);
+        match try_validate(document)? {
+            Validated::Findings(found) => same_findings(&report, &found)?,
+            Validated::Overflowed => self.counts.past_32_bits += 1,
+        }
+        same_unreadable(document, &list, false)?;
+        between_its_own(&list)?;
+        self.counts.accepted(document.node_count(), &list);
+        Ok(())
+    }
+
     fn refused(
         &mut self,
         document: &Document,
@@ -153,8 +181,9 @@ impl Comparison {
         self.checker.check_bytes(&table, source, &tape)
     }
 
-    /// The report of an accepted document beside the published findings. Where a sum of the published code leaves 32 bits,
-    /// the texts are those that document 01 has for the report's findings.
+    /// The report of an accepted document: without code 35 its findings are the published ones, and those of code 35 the plain
+    /// ones in their places. Where a sum of the published code leaves 32 bits, the texts are those that the documents have for
+    /// the report's findings.
     fn reported<'a>(&mut self, document: &'a Document) -> Result<Expected<'a>, String> {
         let report = self.report().map_err(|refusal| refusal.to_string())?;
         self.counts.reached.answer(Function::Checker, 0);
@@ -162,12 +191,16 @@ impl Comparison {
         let plain = requests(&list).map(|request| reader.text(request));
         let plain: Option<Vec<String>> = plain.collect();
         let texts = plain.ok_or("a finding has no text")?;
-        match try_validate(document)? {
-            Validated::Findings(found) => same_findings(&report, &list, &found)?,
+        let published = try_validate(document)?;
+        match &published {
+            Validated::Findings(found) => same_findings(&report, found)?,
             Validated::Overflowed => self.counts.past_32_bits += 1,
         }
+        same_unreadable(document, &list, published != Validated::Overflowed)?;
         for (finding, text) in report.findings().zip(&texts) {
+            let code = finding.code();
             agree("a text", finding.message(), text)?;
+            agree("a code", code.as_str(), code_name(code.index() as u32))?;
         }
         same_nodes(document, &list)?;
         same_positions(&report, &document.source)?;

@@ -1,19 +1,17 @@
-//! What `crates/trial_limits` prints of trial items 13 to 15, by the published code and the plain refusals.
+//! What `crates/trial_limits` prints of trial items 13 to 15, by the published code, the plain rule of code 35 and the plain
+//! refusals.
 
 use oracle::document::{Document, kind};
-use oracle::published::{Validated, validate};
 use oracle::refusals::{refusal, verses_visited};
 use oracle::samples::{Builder, entry, node};
+use oracle::unreadable::owed_findings;
 
 /// Total and verses of an accepted document, or number and place.
 fn outcome(document: &Document) -> Result<(usize, u64), (u32, u64)> {
     if let Some(refused) = refusal(document, usize::MAX, usize::MAX) {
         return Err(refused);
     }
-    match validate(document) {
-        Validated::Findings(list) => Ok((list.len(), verses_visited(document))),
-        Validated::Overflowed => panic!("no sum leaves 32 bits here"),
-    }
+    Ok((owed_findings(document).len(), verses_visited(document)))
 }
 
 fn flat(n: usize) -> Document {

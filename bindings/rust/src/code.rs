@@ -1,4 +1,4 @@
-//! Severities and codes, with the names of the published `Severity` and `DiagnosticCode`.
+//! Severities and codes, with the names of the published `Severity` and `DiagnosticCode`; the last code isn't published.
 
 use std::fmt;
 
@@ -144,6 +144,8 @@ codes! {
     MisplacedNumberMarker,
     /// A number glued to `\c` or `\v`.
     MissingSpaceBeforeNumber,
+    /// A verse's label that begins with no digit, or whose number is over 4,294,967,295.
+    UnreadableVerseNumber,
 }
 
 impl Code {

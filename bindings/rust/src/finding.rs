@@ -80,7 +80,8 @@ impl<'a> Finding<'a> {
         self.record.node
     }
 
-    /// Which of the texts of its code it has, from 0.
+    /// Which of the texts of its code it has, from 0. `UnreadableVerseNumber`: 0 where the label has no number, 1 where its number
+    /// is too large.
     pub fn form(&self) -> usize {
         self.record.form
     }
@@ -94,7 +95,7 @@ impl<'a> Finding<'a> {
         self.record.numbers
     }
 
-    /// Its text, the published one.
+    /// Its text; the published one, where its code is.
     pub fn message(&self) -> &'a str {
         self.message
     }
@@ -114,10 +115,10 @@ mod tests {
 
     #[test]
     fn words_are_read_in_their_order() {
-        let record = Record::read(&[2, 34, 3, 4, 5, 6, 7, 8]).unwrap();
+        let record = Record::read(&[2, 35, 3, 4, 5, 6, 7, 8]).unwrap();
         let finding = Finding::new(&record, "text");
         assert_eq!(finding.severity(), Severity::Info);
-        assert_eq!(finding.code(), Code::MissingSpaceBeforeNumber);
+        assert_eq!(finding.code(), Code::UnreadableVerseNumber);
         assert_eq!(finding.span(), 3..7);
         assert_eq!((finding.node(), finding.form()), (5, 6));
         assert_eq!(finding.numbers(), [7, 8]);
@@ -127,7 +128,7 @@ mod tests {
     #[test]
     fn unknown_severities_and_codes_are_no_finding() {
         assert_eq!(Record::read(&[3, 0, 0, 0, 0, 0, 0, 0]), None);
-        assert_eq!(Record::read(&[0, 35, 0, 0, 0, 0, 0, 0]), None);
+        assert_eq!(Record::read(&[0, 36, 0, 0, 0, 0, 0, 0]), None);
         assert_eq!(Record::read(&[u64::MAX; 8]), None);
     }
 

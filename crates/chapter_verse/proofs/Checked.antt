@@ -13,13 +13,13 @@ use Rattle.cursor.specs.Names.{nameOf}
 use Rattle.numbers.specs.declared.LabelSpan.{LabelSpan}
 use Rattle.numbers.specs.Label.{isGlued, labelOf}
 use Rattle.numbers.specs.Inner.{Labelled}
-use Rattle.numbers.specs.Verse.{versePart}
+use Rattle.numbers.specs.Verse.{PartReading, versePart}
 use Rattle.attachment.specs.Attached.{among}
 use Rattle.definition.specs.State.{WalkState, WalkContext}
-use Rattle.definition.specs.Checks.{Check, when, about, error, warning, isEmpty, breaks, letterByte}
+use Rattle.definition.specs.Checks.{Check, when, about, error, warning, isEmpty, breaks, unread, unreadForm, letterByte}
 use Rattle.chapter_verse.specs.Inner.{LabelRead}
 use Rattle.findings.specs.Finding.{warningSeverity}
-use Rattle.findings.specs.Codes.{missingSpaceBeforeNumber, leadingZeros, missingChapterNumber, verseOutsideParagraph, charCrossesVerseBoundary, missingVerseNumber, duplicateChapter, invalidChapterSequence, invalidVerseSequence}
+use Rattle.findings.specs.Codes.{missingSpaceBeforeNumber, leadingZeros, missingChapterNumber, verseOutsideParagraph, charCrossesVerseBoundary, missingVerseNumber, duplicateChapter, invalidChapterSequence, invalidVerseSequence, unreadableVerseNumber}
 
 abbrev pub label : Option Entry → Node → List ℕ
 label e x = labelOf e (x .text)
@@ -55,6 +55,9 @@ bareVerse e x = when (isEmpty (label e x)) (error x missingVerseNumber 0)
 abbrev pub amiss : Option Entry → WalkState → Node → Check
 amiss e st x = when (breaks (versePart (label e x)) (st .expectedVerse)) (about x warningSeverity invalidVerseSequence 0 (st .expectedVerse .number) (letterByte (st .expectedVerse .letter)))
 
+abbrev pub unreadable : Option Entry → Node → Check
+unreadable e x = when (not (isEmpty (label e x)) && unread (versePart (label e x))) (warning x unreadableVerseNumber (unreadForm (versePart (label e x))))
+
 -- the label by its places in the node's text
 pub label-read : (e : Option Entry) (x : Node) (text : List ℕ) (at : LabelSpan) → text ≡ x .text → Labelled e text at → LabelRead e x (take (at .end - at .start) (drop (at .start) text)) (at .glued)
 label-read e x text at is-text h = record { is-label = h .is-label ∙ ap (labelOf e) is-text; is-glued = h .is-glued ∙ ap (λ (s : List ℕ). isGlued e (nameOf s)) is-text }
@@ -69,6 +72,13 @@ module _ (e : Option Entry) (x : Node) (l : List ℕ) (is-label : l ≡ label e 
 
   pub is-amiss : (st : WalkState) (b : Bool) → b ≡ breaks (versePart l) (st .expectedVerse) → b ≡ amiss e st x .holds
   is-amiss st b h = h ∙ ap (λ (s : List ℕ). breaks (versePart s) (st .expectedVerse)) is-label
+
+  module _ (r : PartReading) (is-read : r ≡ versePart l) where
+    pub is-unreadable : (not (isEmpty l) && unread r) ≡ unreadable e x .holds
+    is-unreadable = rw is-read (ap (λ (s : List ℕ). not (isEmpty s) && unread (versePart s)) is-label)
+
+    pub says-unreadable : warning x unreadableVerseNumber (unreadForm r) ≡ unreadable e x .finding
+    says-unreadable = rw is-read (ap (λ (s : List ℕ). warning x unreadableVerseNumber (unreadForm (versePart s))) is-label)
 
 -- the chapter's number as the code has it
 module _ (st : WalkState) (x : Node) (n : ℕ) (is : n ≡ x .link) where

@@ -19,7 +19,8 @@ use Rattle.state.specs.declared.State.{State}
 -- a number that a verse position can have, if one is read
 abbrev pub LowRead : PartRead → Type 0
 LowRead (read.Is p) = p .num ≤ 4294967296
-LowRead read.NotRead = Unit {0}
+LowRead read.NoDigits = Unit {0}
+LowRead read.TooLarge = Unit {0}
 
 -- the label of a node, and whether it stands in the marker's name
 pub record LabelRead (e : Option Entry) (x : Node) (label : List ℕ) (glued : Bool) : Type 0 where

@@ -9,6 +9,7 @@ use findings::MISSING_CHAPTER_NUMBER;
 use findings::MISSING_SPACE_BEFORE_NUMBER;
 use findings::MISSING_VERSE_NUMBER;
 use findings::Severity;
+use findings::UNREADABLE_VERSE_NUMBER;
 use findings::VERSE_OUTSIDE_PARAGRAPH;
 use numbers::PartRead;
 use numbers::Suffix;
@@ -26,11 +27,12 @@ ghost use Rattle.tape.specs.Nodes.{count, nodeAt};
 ghost use Rattle.table.specs.Entries.{infoOf};
 ghost use Rattle.cursor.specs.Inner.{Spanned};
 ghost use Rattle.findings.specs.Written.{only};
+ghost use Rattle.findings.specs.Codes.{unreadableVerseNumber};
 ghost use Rattle.numbers.specs.Label.{labelOf};
 ghost use Rattle.numbers.specs.Verse.{positionOf, readOf, suffixOf, versePart, verseEnd};
 ghost use Rattle.attachment.specs.Attached.{among};
 ghost use Rattle.definition.specs.Checks;
-ghost use Rattle.definition.specs.Checks.{about, error, given, numberForm, chapterChecks, verseChecks, letterByte, expectedAfter, leafChecked};
+ghost use Rattle.definition.specs.Checks.{about, error, warning, given, numberForm, chapterChecks, verseChecks, letterByte, unread, unreadForm, endOr, expectedAfter, leafChecked};
 ghost use Rattle.state.specs.Inner.{latest, stateOf, contextOf, countsOf, VerseBounded};
 ghost use Rattle.chapter_verse.specs.Inner.{LowRead, LabelRead, PassedChapter, PassedVerse};
 ghost use Rattle.chapter_verse.specs.InnerVisit.{LeafVisited};
@@ -203,8 +205,60 @@ fn breaks(read: PartRead, v: VersePart) -> bool
 {
     match read {
         PartRead::Is(p) => !numbers::is_valid_verse_sequence(v, p),
-        PartRead::NotRead => false,
+        PartRead::NoDigits => false,
+        PartRead::TooLarge => false,
     }
+}
+
+// Whether a label has something and nothing is read of its start.
+fn is_unread(bare: bool, read: PartRead) -> bool
+    ensures { λ r. ⌜ r ≡ (not bare && unread (readOf read)) ⌝ }
+{
+    if bare {
+        return false;
+    }
+    match read {
+        PartRead::Is(_) => false,
+        PartRead::NoDigits => true,
+        PartRead::TooLarge => true,
+    }
+}
+
+// Why nothing is read, as a form of UnreadableVerseNumber.
+fn unread_form(read: PartRead) -> u64
+    ensures { λ r. ⌜ r ≡ unreadForm (readOf read) ⌝ }
+{
+    match read {
+        PartRead::Is(_) => findings::NO_DIGITS_FORM,
+        PartRead::NoDigits => findings::NO_DIGITS_FORM,
+        PartRead::TooLarge => findings::TOO_LARGE_FORM,
+    }
+}
+
+// UnreadableVerseNumber, by whether the label is empty and what is read of its start.
+fn unread_finding(
+    bare: bool,
+    read: PartRead,
+    tape: &[u8],
+    i: usize,
+    list: &mut [u64],
+    c: Counts,
+) -> Counts
+    requires { ⌜ (i < count (now tape)) × Room c (only (not bare && unread (readOf read)) (warning (nodeAt [] (now tape) i) unreadableVerseNumber (unreadForm (readOf read)))) ⌝ }
+    ensures { λ r. ⌜ Wrote (only (not bare && unread (readOf read)) (warning (nodeAt [] (now (tape .entry)) i) unreadableVerseNumber (unreadForm (readOf read)))) (now (list .entry)) c (now (list .exit)) r ⌝ }
+{
+    let there = is_unread(bare, read);
+    let form = unread_form(read);
+    let f = state::about(
+        tape,
+        i,
+        Severity::Warning,
+        UNREADABLE_VERSE_NUMBER,
+        form,
+        0,
+        0,
+    );
+    findings::push_if(list, c, there, f)
 }
 
 // The byte of a position's letter, or 0.
@@ -246,6 +300,7 @@ fn verse_findings(
     let e = error_if(tape, i, CHAR_CROSSES_VERSE_BOUNDARY, 0, crosses, list, d);
     let g = error_if(tape, i, MISSING_VERSE_NUMBER, 0, bare, list, e);
     let h = warn_if(tape, i, INVALID_VERSE_SEQUENCE, n, letter, amiss, list, g);
+    let k = unread_finding(bare, read, tape, i, list, h);
     check_number_form(
         findings::VERSE_FORM,
         info,
@@ -255,7 +310,7 @@ fn verse_findings(
         tape,
         i,
         list,
-        h,
+        k,
     )
 }
 
@@ -290,17 +345,26 @@ fn end_read(label: &[u8], start: PartRead) -> PartRead
     start
 }
 
+// The position that a label ends with: an end that isn't read lets the start serve.
+fn end_or(end: PartRead, start: VersePart) -> VersePart
+    ensures { λ r. ⌜ positionOf r ≡ endOr (readOf end) (positionOf start) ⌝ }
+{
+    match end {
+        PartRead::Is(p) => p,
+        PartRead::NoDigits => start,
+        PartRead::TooLarge => start,
+    }
+}
+
 // The position expected after a label, by what is read of its start. A label that isn't read doesn't change it.
 fn verse_after(label: &[u8], read: PartRead, v: VersePart) -> VersePart
     requires { ⌜ (v .num ≤ 4294967296) × (readOf read ≡ versePart (now label)) ⌝ }
     ensures { λ r. ⌜ (positionOf r ≡ expectedAfter (versePart (now (label .entry))) (now (label .entry)) (positionOf v)) × (r .num ≤ 4294967296) ⌝ }
 {
     match read {
-        PartRead::NotRead => v,
-        PartRead::Is(start) => match end_read(label, read) {
-            PartRead::Is(end) => numbers::next_expected(end),
-            PartRead::NotRead => numbers::next_expected(start),
-        },
+        PartRead::Is(start) => numbers::next_expected(end_or(end_read(label, read), start)),
+        PartRead::NoDigits => v,
+        PartRead::TooLarge => v,
     }
 }
 

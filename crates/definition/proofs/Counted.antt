@@ -32,7 +32,7 @@ use Rattle.definition.proofs.Demand3.{checked-accepted}
 use Rattle.findings.specs.Codes.{codeCount}
 use Rattle.text.specs.Bytes.{all}
 
--- "severity (0 error, 1 warning, 2 info)"; of the codes "the last is 34"
+-- "severity (0 error, 1 warning, 2 info)"; the last code is that of document 02, K6
 abbrev pub Listed : ℕ → ℕ → Type 0
 Listed severity code = (severity ≤ 2) × (code < codeCount)
 
@@ -56,7 +56,7 @@ given-listed (suc (suc (suc n))) code form h = (absurd (false≢true (none-among
 
 -- the whole list
 pub graded : (table : List ℕ) (f : Forest) → Graded (findings table f)
-graded table f = each-finding (λ severity code form. Listed severity code) given-listed (omega arith) (omega arith) table f
+graded table f = each-finding (λ severity code form. Listed severity code) given-listed (λ form. (omega arith, omega arith)) (omega arith) (omega arith) table f
 
 severities : (fs : List Finding) → Graded fs → ofSeverity 0 fs + ofSeverity 1 fs + ofSeverity 2 fs ≡ length fs
 unfolding ofSeverity

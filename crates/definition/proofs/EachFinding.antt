@@ -1,4 +1,4 @@
--- What holds of every severity and code that a check of a node gives, and of the two forms of a milestone's finding, holds of every finding of a document.
+-- What holds of every severity and code that a check of a node gives, of UnreadableVerseNumber, and of the two forms of a milestone's finding, holds of every finding of a document.
 -- Assumes nothing.
 use Prim.Native.Nat.{ℕ, zero, suc, _+_}
 use mathlib.Core.Path.{_≡_, refl}
@@ -17,7 +17,7 @@ use Rattle.tape.specs.Nodes.{Node, chapterKind, verseKind, textKind, attributeK
 use Rattle.tape.specs.Forest.{Forest, end, leaf, node}
 use Rattle.table.specs.Entries.{Entry}
 use Rattle.cursor.specs.Names.{nameOf}
-use Rattle.findings.specs.Finding.{Finding, Kind, errorSeverity, infoSeverity}
+use Rattle.findings.specs.Finding.{Finding, Kind, errorSeverity, warningSeverity, infoSeverity}
 use Rattle.findings.specs.Codes as codes
 use Rattle.findings.specs.Written.{only}
 use Rattle.attachment.specs.Attached.{among}
@@ -26,11 +26,11 @@ use Rattle.rows.specs.Cells.{ColumnRange}
 use Rattle.rows.specs.Row.{cellIn, outOfOrder, byColumns, rowFrom, rowFindings}
 use Rattle.definition.specs.State.{Milestone, milestoneOf, nodeOf, WalkState, WalkContext, Anchor, past, initial, outside}
 use Rattle.definition.specs.Checks.{error, warning, Check, when, given, entryOf, chapterChecks, verseChecks, leafChecked, bookCode, idName, trName, idChecks, afterId, placeChecks, contentChecks}
-use Rattle.definition.specs.Milestones.{milestoneChecks}
+use Rattle.definition.specs.Milestones.{Fits, pairing, milestoneChecksBy}
 use Rattle.definition.specs.Walk.{leafAnchor, openCheckedBy, openChecked, inside, afterNode, thenWalk, byEntry, walkBy, walk}
 use Rattle.definition.specs.Document.{textBefore, ofDocument, unclosed, closing, walked, running, findings}
 
--- the codes of the errors, the warnings and the infos, but for MilestoneMismatch
+-- the codes of the errors, the warnings and the infos, but for MilestoneMismatch and UnreadableVerseNumber
 unfoldable pub codesOf : ℕ → List ℕ
 codesOf zero =
     codes.missingIdMarker
@@ -77,20 +77,19 @@ among-all p n (x ∷ xs) h k = test (eqb x n) refl k (λ l. among-all p n xs (an
     test true e l later = rw (eqb-true x n e) at (and-left (p x) (all p xs) h)
     test false e l later = later l
 
+-- a test that all of them pass
+pub given-passes : (p : ℕ → Bool) → all p (codesOf 0) ≡ true → all p (codesOf 1) ≡ true → all p (codesOf 2) ≡ true → (severity code : ℕ) → isGiven severity code ≡ true → p code ≡ true
+unfolding codesOf all
+given-passes p h₀ h₁ h₂ zero code k = among-all p code (codesOf 0) h₀ k
+given-passes p h₀ h₁ h₂ (suc zero) code k = among-all p code (codesOf 1) h₁ k
+given-passes p h₀ h₁ h₂ (suc (suc zero)) code k = among-all p code (codesOf 2) h₂ k
+given-passes p h₀ h₁ h₂ (suc (suc (suc n))) code k = among-all p code [] refl k
+
 -- MilestoneMismatch is none of them
 pub given-other : (severity code form : ℕ) → isGiven severity code ≡ true → eqb code codes.milestoneMismatch ≡ false
 unfolding codesOf all
-given-other severity code form h = test (eqb code codes.milestoneMismatch) (other severity h)
+given-other severity code form h = test (eqb code codes.milestoneMismatch) (given-passes (λ (c : ℕ). not (eqb c codes.milestoneMismatch)) refl refl refl severity code h)
   where
-    isOther : ℕ → Bool
-    isOther c = not (eqb c codes.milestoneMismatch)
-
-    other : (n : ℕ) → isGiven n code ≡ true → isOther code ≡ true
-    other zero k = among-all isOther code (codesOf 0) refl k
-    other (suc zero) k = among-all isOther code (codesOf 1) refl k
-    other (suc (suc zero)) k = among-all isOther code (codesOf 2) refl k
-    other (suc (suc (suc n))) k = among-all isOther code [] refl k
-
     test : (b : Bool) → not b ≡ true → b ≡ false
     test true e = absurd (false≢true e)
     test false e = refl
@@ -170,13 +169,13 @@ module _ (P : ℕ → ℕ → ℕ → Type 0) where
         (each-attributes owner marker r)
     each-attributes owner marker (node x c r) = each-attributes owner marker r
 
-    pub each-leaf : (table : List ℕ) (o : WalkContext) (st : WalkState) (x : Node) → EachFinding P (leafChecked table o st x .findings)
+    pub each-leaf : ((form : ℕ) → P warningSeverity codes.unreadableVerseNumber form) → (table : List ℕ) (o : WalkContext) (st : WalkState) (x : Node) → EachFinding P (leafChecked table o st x .findings)
     unfolding leafChecked codesOf among
-    each-leaf table o st x = each-given _ (test (eqb (x .kind) chapterKind) (eqb (x .kind) verseKind))
+    each-leaf unread table o st x = each-given _ (test (eqb (x .kind) chapterKind) (eqb (x .kind) verseKind))
       where
         test : (b v : Bool) → EachCheck P (pick b (chapterChecks (entryOf table x) st x) (pick v (verseChecks (entryOf table x) o st x) []))
         test true v = (h 0 _ _ refl, (h 1 _ _ refl, (h 1 _ _ refl, (h 1 _ _ refl, (h 0 _ _ refl, tt)))))
-        test false true = (h 1 _ _ refl, (h 0 _ _ refl, (h 0 _ _ refl, (h 1 _ _ refl, (h 1 _ _ refl, (h 0 _ _ refl, tt))))))
+        test false true = (h 1 _ _ refl, (h 0 _ _ refl, (h 0 _ _ refl, (h 1 _ _ refl, (unread _, (h 1 _ _ refl, (h 0 _ _ refl, tt)))))))
         test false false = tt
 
     -- the checks of a marker but its milestone's
@@ -204,19 +203,29 @@ module _ (P : ℕ → ℕ → ℕ → Type 0) where
         (each-append (given checks) row (each-given checks (each-check (equal name idName) name (bookCode c) e o a st st₁ x c f)) (each-pick (equal name trName) (rowFindings c) (each-row 1 c)))
         (each-attributes (x .number) (nameOf (x .text)) c)
 
-    module _ (alone : P errorSeverity codes.milestoneMismatch codes.endAlone) where
-      each-open : (table : List ℕ) (o : WalkContext) (a : Option Anchor) (st : WalkState) (e : Entry) (x : Node) (c f : Forest) → EachFinding P (openChecked table o a st e x c f .findings)
-      unfolding openCheckedBy
-      each-open table o a st e x c f =
-          let name = cut (e .name) table in
-          let st₁ = afterId (equal name idName) st c in
-          each-append (ownFindings name e o a st st₁ x c f) (given (milestoneChecks e st₁ (milestoneOf x c))) (each-own name e o a st st₁ x c f) (each-given (milestoneChecks e st₁ (milestoneOf x c)) (alone, tt))
+    pub each-open : P errorSeverity codes.milestoneMismatch codes.endAlone → (fits : Fits) (table : List ℕ) (o : WalkContext) (a : Option Anchor) (st : WalkState) (e : Entry) (x : Node) (c f : Forest) → EachFinding P (openCheckedBy fits table o a st e x c f .findings)
+    unfolding openCheckedBy
+    each-open alone fits table o a st e x c f =
+        let name = cut (e .name) table in
+        let st₁ = afterId (equal name idName) st c in
+        each-append (ownFindings name e o a st st₁ x c f) (given (milestoneChecksBy fits e st₁ (milestoneOf x c))) (each-own name e o a st st₁ x c f) (each-given (milestoneChecksBy fits e st₁ (milestoneOf x c)) (alone, tt))
 
+    module _ (start : P errorSeverity codes.milestoneMismatch codes.unclosedStart) where
+      each-unclosed : (xs : List Milestone) → EachFinding P (unclosed xs)
+      unfolding unclosed
+      each-unclosed [] = tt
+      each-unclosed (x ∷ xs) = each-append (unclosed xs) (error (nodeOf x) codes.milestoneMismatch codes.unclosedStart ∷ []) (each-unclosed xs) (start, tt)
+
+      pub each-closing : (st : WalkState) → EachFinding P (closing st)
+      unfolding closing
+      each-closing st = each-append (unclosed (st .openStarts)) (given _) (each-unclosed (st .openStarts)) (each-missing _ _)
+
+    module _ (unread : (form : ℕ) → P warningSeverity codes.unreadableVerseNumber form) (alone : P errorSeverity codes.milestoneMismatch codes.endAlone) where
       pub each-walk : (table : List ℕ) (o : WalkContext) (a : Option Anchor) (f : Forest) (st : WalkState) → EachFinding P (walk table o a f st .findings)
       unfolding walkBy
       each-walk table o a end st = tt
       each-walk table o a (leaf x r) st =
-          each-append (leafChecked table o st x .findings) (walk table o (leafAnchor a x) r (leafChecked table o st x .state) .findings) (each-leaf table o st x) (each-walk table o (leafAnchor a x) r (leafChecked table o st x .state))
+          each-append (leafChecked table o st x .findings) (walk table o (leafAnchor a x) r (leafChecked table o st x .state) .findings) (each-leaf unread table o st x) (each-walk table o (leafAnchor a x) r (leafChecked table o st x .state))
       each-walk table o a (node x c r) st = test (entryOf table x) (λ p s. each-walk table p none c s) (λ s. each-walk table o (past a (node x c end)) r s)
         where
           test : (q : Option Entry) → ((p : WalkContext) (s : WalkState) → EachFinding P (walk table p none c s .findings)) → ((s : WalkState) → EachFinding P (walk table o (past a (node x c end)) r s .findings)) → EachFinding P (byEntry q (walk table o (past a (node x c end)) r st) (λ e. afterNode (openChecked table o a st e x c (node x c r)) (λ st₁. thenWalk (walk table (inside o e) none c st₁) (walk table o (past a (node x c end)) r))) .findings)
@@ -224,22 +233,12 @@ module _ (P : ℕ → ℕ → ℕ → Type 0) where
           test (some e) below later =
               let t = openChecked table o a st e x c (node x c r) in
               let w = walk table (inside o e) none c (t .state) in
-              each-append (t .findings) (w .findings ++ walk table o (past a (node x c end)) r (w .state) .findings) (each-open table o a st e x c (node x c r))
+              each-append (t .findings) (w .findings ++ walk table o (past a (node x c end)) r (w .state) .findings) (each-open alone pairing table o a st e x c (node x c r))
               (each-append (w .findings) (walk table o (past a (node x c end)) r (w .state) .findings) (below (inside o e) (t .state)) (later (w .state)))
 
       pub each-running : (table : List ℕ) (f : Forest) → EachFinding P (running table f)
       each-running table f = each-append (textBefore f) (walked table f .findings) (each-text f) (each-walk table outside none f initial)
 
-      module _ (start : P errorSeverity codes.milestoneMismatch codes.unclosedStart) where
-        each-unclosed : (xs : List Milestone) → EachFinding P (unclosed xs)
-        unfolding unclosed
-        each-unclosed [] = tt
-        each-unclosed (x ∷ xs) = each-append (unclosed xs) (error (nodeOf x) codes.milestoneMismatch codes.unclosedStart ∷ []) (each-unclosed xs) (start, tt)
-
-        each-closing : (st : WalkState) → EachFinding P (closing st)
-        unfolding closing
-        each-closing st = each-append (unclosed (st .openStarts)) (given _) (each-unclosed (st .openStarts)) (each-missing _ _)
-
-        -- the whole list
-        pub each-finding : (table : List ℕ) (f : Forest) → EachFinding P (findings table f)
-        each-finding table f = each-append (running table f) (closing (walked table f .state)) (each-running table f) (each-closing (walked table f .state))
+      -- the whole list
+      pub each-finding : P errorSeverity codes.milestoneMismatch codes.unclosedStart → (table : List ℕ) (f : Forest) → EachFinding P (findings table f)
+      each-finding start table f = each-append (running table f) (closing (walked table f .state)) (each-running table f) (each-closing start (walked table f .state))

@@ -39,11 +39,11 @@ given-few (c ∷ cs) = go (c .holds) (given-few cs)
     go true h = omega arith
     go false h = omega arith
 
-leaf-few : (table : List ℕ) (o : WalkContext) (st : WalkState) (x : Node) → length (leafChecked table o st x .findings) ≤ 6
+leaf-few : (table : List ℕ) (o : WalkContext) (st : WalkState) (x : Node) → length (leafChecked table o st x .findings) ≤ 7
 unfolding leafChecked
 leaf-few table o st x = go (eqb (x .kind) chapterKind) (eqb (x .kind) verseKind)
   where
-    go : (b v : Bool) → length (given (pick b (chapterChecks (entryOf table x) st x) (pick v (verseChecks (entryOf table x) o st x) []))) ≤ 6
+    go : (b v : Bool) → length (given (pick b (chapterChecks (entryOf table x) st x) (pick v (verseChecks (entryOf table x) o st x) []))) ≤ 7
     go true v = let h = given-few (chapterChecks (entryOf table x) st x) in omega arith
     go false true = given-few (verseChecks (entryOf table x) o st x)
     go false false = let h = given-few [] in omega arith

@@ -5,6 +5,7 @@ pub mod Untaken
 pub mod Longer
 pub mod Demand3
 pub mod Counted
+pub mod Unreadable
 pub mod Worked
 pub mod Few
 pub mod Givens

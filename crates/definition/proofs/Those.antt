@@ -30,3 +30,8 @@ pub those-none : {A : Type 0} (p : A → Bool) (xs : List A) → AllOf (λ (x : 
 unfolding those
 those-none p [] h = refl
 those-none p (x ∷ xs) h = rw (h .0) (those-none p xs (h .1))
+
+pub those-all : {A : Type 0} (p : A → Bool) (xs : List A) → AllOf (λ (x : A). p x ≡ true) xs → those p xs ≡ xs
+unfolding those
+those-all p [] h = refl
+those-all p (x ∷ xs) h = rw (h .0) (ap (x ∷_) (those-all p xs (h .1)))

@@ -119,7 +119,7 @@ module _ (fits : Fits) where
   leaf-matches table o st x ms h =
       record {
         open-starts = leaf-open table o st x ∙ h;
-        mismatches = those-none isMismatch _ (each-leaf (λ severity code form. eqb code milestoneMismatch ≡ false) given-other table o st x);
+        mismatches = those-none isMismatch _ (each-leaf (λ severity code form. eqb code milestoneMismatch ≡ false) given-other (λ form. refl) table o st x);
       }
 
   -- a marker is visited as a milestone, or not

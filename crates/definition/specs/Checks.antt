@@ -17,11 +17,11 @@ use Rattle.cursor.specs.Info.{hasMarker, onlyFor}
 use Rattle.findings.specs.Finding.{Finding, warningSeverity, errorSeverity}
 use Rattle.findings.specs.Written.{only}
 use Rattle.numbers.specs.Label.{isGlued, labelOf, numbered}
-use Rattle.numbers.specs.Verse.{Position, versePart, verseEnd, next, inSequence}
+use Rattle.numbers.specs.Verse.{Position, PartReading, position, noDigits, tooLarge, versePart, verseEnd, next, inSequence}
 use Rattle.attachment.specs.Attached.{among, isAttached}
 use Rattle.definition.specs.Setters.{setHasId, setHasChapter, setHasVerse, setFrontMatter, setVerseOutsideWarned, setExpectedChapter, setExpectedVerse, setSeen, setVerses}
 use Rattle.definition.specs.State.{WalkState, firstVerse, WalkContext, Anchor, NodeChecked}
-use Rattle.findings.specs.Codes.{missingSpaceBeforeNumber, leadingZeros, missingChapterNumber, verseOutsideParagraph, charCrossesVerseBoundary, missingVerseNumber, duplicateId, invalidBookCode, noteSubmarkerOutsideNote, nonEmptyBlankLine, bodyParagraphBeforeChapter, misplacedNumberMarker, emptyFigure, emptyWordMarker, missingRequiredAttribute, duplicateChapter, invalidChapterSequence, invalidVerseSequence, chapterForm, verseForm, shouldBeUppercase, notValid}
+use Rattle.findings.specs.Codes.{missingSpaceBeforeNumber, leadingZeros, missingChapterNumber, verseOutsideParagraph, charCrossesVerseBoundary, missingVerseNumber, duplicateId, invalidBookCode, noteSubmarkerOutsideNote, nonEmptyBlankLine, bodyParagraphBeforeChapter, misplacedNumberMarker, emptyFigure, emptyWordMarker, missingRequiredAttribute, duplicateChapter, invalidChapterSequence, invalidVerseSequence, unreadableVerseNumber, noDigitsForm, tooLargeForm, chapterForm, verseForm, shouldBeUppercase, notValid}
 use Rattle.text.specs.Literal.{ascii}
 use Rattle.text.specs.Bytes.{equal, oneOf, upper}
 
@@ -87,27 +87,42 @@ letterByte none = 0
 letterByte (some b) = b
 
 -- a start that is read and breaks the sequence
-abbrev pub breaks : Option Position → Position → Bool
-breaks none expected = false
-breaks (some p) expected = not (inSequence expected p)
+abbrev pub breaks : PartReading → Position → Bool
+breaks (position p) expected = not (inSequence expected p)
+breaks noDigits expected = false
+breaks tooLarge expected = false
+
+-- document 02, K6: a start that "isn't read"; "Form is 0 for no digits and 1 for too large." A start that is read has no such finding
+abbrev pub unread : PartReading → Bool
+unread (position p) = false
+unread noDigits = true
+unread tooLarge = true
+
+abbrev pub unreadForm : PartReading → ℕ
+unreadForm (position p) = noDigitsForm
+unreadForm noDigits = noDigitsForm
+unreadForm tooLarge = tooLargeForm
 
 -- "The end is read after the first `-`, else the start serves."
-abbrev pub endOr : Option Position → Position → Position
-endOr none start = start
-endOr (some e) start = e
+abbrev pub endOr : PartReading → Position → Position
+endOr (position e) start = e
+endOr noDigits start = start
+endOr tooLarge start = start
 
 -- a label that isn't read leaves the expected verse
-abbrev pub expectedAfter : Option Position → List ℕ → Position → Position
-expectedAfter none label expected = expected
-expectedAfter (some p) label expected = next (endOr (verseEnd label) p)
+abbrev pub expectedAfter : PartReading → List ℕ → Position → Position
+expectedAfter (position p) label expected = next (endOr (verseEnd label) p)
+expectedAfter noDigits label expected = expected
+expectedAfter tooLarge label expected = expected
 
--- VerseOutsideParagraph once, CharCrossesVerseBoundary, MissingVerseNumber, InvalidVerseSequence ("expected number, letter byte or 0")
+-- VerseOutsideParagraph once, CharCrossesVerseBoundary, MissingVerseNumber, InvalidVerseSequence ("expected number, letter byte or 0"); document 02, K6: "For a visited Verse with a nonempty label whose start isn't read, the marker gives a warning with new code 35, UnreadableVerseNumber, where InvalidVerseSequence would stand"
 abbrev pub verseChecks : Option Entry → WalkContext → WalkState → Node → List Check
 verseChecks e o st x =
     when (not (o .inBodyPara) && not (st .verseOutsideWarned)) (warning x verseOutsideParagraph 0)
     ∷ when (o .inChar) (error x charCrossesVerseBoundary 0)
     ∷ when (isEmpty (labelOf e (x .text))) (error x missingVerseNumber 0)
     ∷ when (breaks (versePart (labelOf e (x .text))) (st .expectedVerse)) (about x warningSeverity invalidVerseSequence 0 (st .expectedVerse .number) (letterByte (st .expectedVerse .letter)))
+    ∷ when (not (isEmpty (labelOf e (x .text))) && unread (versePart (labelOf e (x .text)))) (warning x unreadableVerseNumber (unreadForm (versePart (labelOf e (x .text)))))
     ∷ numberForm verseForm e x
 
 unfoldable pub afterVerse : Option Entry → WalkContext → WalkState → Node → WalkState

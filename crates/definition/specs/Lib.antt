@@ -4,6 +4,7 @@ pub mod Checks
 pub mod Walk
 pub mod Milestones
 pub mod Document
+pub mod Base
 pub mod Account
 pub mod Outcome
 pub mod Examples

@@ -1,9 +1,9 @@
 -- Document 01, "A finding": "code (position in `DiagnosticCode` from 0; the three reserved ones at its end get no number, so the last is 34)". The codes that the check gives, in this order, with their forms: "Form is the message's position among that code's messages in validate.rs, from 0".
 use Prim.Native.Nat.{ℕ}
 
--- how many codes there are
+-- how many codes there are: document 02, K6, "Tally has 36 counts"
 abbrev pub codeCount : ℕ
-codeCount = 35
+codeCount = 36
 
 abbrev pub missingIdMarker : ℕ
 missingIdMarker = 4
@@ -116,3 +116,14 @@ misplacedNumberMarker = 33
 
 abbrev pub missingSpaceBeforeNumber : ℕ
 missingSpaceBeforeNumber = 34
+
+-- document 02, K6: "new code 35, UnreadableVerseNumber"
+abbrev pub unreadableVerseNumber : ℕ
+unreadableVerseNumber = 35
+
+-- "Form is 0 for no digits and 1 for too large."
+abbrev pub noDigitsForm : ℕ
+noDigitsForm = 0
+
+abbrev pub tooLargeForm : ℕ
+tooLargeForm = 1

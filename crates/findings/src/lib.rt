@@ -59,8 +59,11 @@ pub const MISPLACED_NUMBER_MARKER: u64 = 33;
 
 pub const MISSING_SPACE_BEFORE_NUMBER: u64 = 34;
 
+// Document 02, K6: the Rust has no such code.
+pub const UNREADABLE_VERSE_NUMBER: u64 = 35;
+
 // How many codes there are.
-pub const CODES: u64 = 35;
+pub const CODES: u64 = 36;
 
 // The forms of INVALID_BOOK_CODE.
 pub const SHOULD_BE_UPPERCASE: u64 = 0;
@@ -76,6 +79,11 @@ pub const VERSE_FORM: u64 = 1;
 pub const UNCLOSED_START: u64 = 0;
 
 pub const END_ALONE: u64 = 1;
+
+// The forms of UNREADABLE_VERSE_NUMBER.
+pub const NO_DIGITS_FORM: u64 = 0;
+
+pub const TOO_LARGE_FORM: u64 = 1;
 
 // The forms of INVALID_ATTRIBUTES.
 pub const EMPTY_LIST_FORM: u64 = 0;

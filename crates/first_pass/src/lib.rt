@@ -217,7 +217,7 @@ fn number_of(s: &[u8], at: usize, p: Piece, depth: usize, window: &[u32]) -> u64
     }
 }
 
-// The bytes of a close of the innermost open marker at a place, or 0 where none stands there or the window doesn't have that marker.
+// The bytes of a close of the innermost open marker at a place, if the window has that marker, else 0, which says nothing.
 fn innermost_close(s: &[u8], at: usize, depth: usize, low: usize, window: &[u32]) -> usize
     requires { ⌜ (at ≤ length (now s)) × (length (now window) ≡ InnerSteps.window) × (low < depth → innermostPlace (now window) depth ≤ length (now s)) ⌝ }
     ensures { λ r. ⌜ (0 < r → InnermostClosed (now (s .entry)) at (now (window .entry)) depth low r) ⌝ }

@@ -24,7 +24,7 @@ checkedLines errors warnings infos total =
     line "verdict" (ascii "checked")
     ++ (line "errors" (decimal errors) ++ (line "warnings" (decimal warnings) ++ (line "infos" (decimal infos) ++ line "findings" (decimal total))))
 
--- the Rust's names, in its order
+-- the Rust's names, in its order, and behind them the name of document 02, K6
 unfoldable pub severityNames : List (List ℕ)
 severityNames = ascii "error" ∷ ascii "warning" ∷ ascii "info" ∷ []
 
@@ -65,6 +65,7 @@ codeNames =
     ∷ ascii "DefaultAttributeNotDefined"
     ∷ ascii "MisplacedNumberMarker"
     ∷ ascii "MissingSpaceBeforeNumber"
+    ∷ ascii "UnreadableVerseNumber"
     ∷ []
 
 -- the k-th name, empty past the last

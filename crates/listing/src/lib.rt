@@ -29,7 +29,7 @@ ghost use Rattle.messages.specs.Answer.{requestBy};
 // The names by number, each ended by byte 10.
 const SEVERITY_NAMES: [u8; 19] = *b"error\nwarning\ninfo\n";
 
-const CODE_NAMES: [u8; 667] =
+const CODE_NAMES: [u8; 689] =
     *b"UnknownMarker\nUnclosedMarker\nStrayCloseMarker\nStrayBackslash\nMissingIdMarker\n\
     InvalidBookCode\nDuplicateId\nTextBeforeId\nMissingChapterMarker\nInvalidChapterSequence\n\
     DuplicateChapter\nInvalidVerseSequence\nVerseOutsideParagraph\nNoteSubmarkerOutsideNote\n\
@@ -38,7 +38,7 @@ const CODE_NAMES: [u8; 667] =
     UnquotedAttributeValue\nMissingRequiredAttribute\nBodyParagraphBeforeChapter\n\
     EmptyWordMarker\nMissingMilestoneSelfClose\nInvalidTableColumnSequence\nDeprecatedMarker\n\
     ImplicitClose\nUnclosedNote\nUnclosedAtEof\nDefaultAttributeNotDefined\n\
-    MisplacedNumberMarker\nMissingSpaceBeforeNumber\n";
+    MisplacedNumberMarker\nMissingSpaceBeforeNumber\nUnreadableVerseNumber\n";
 
 // Writes a key, `=`, a value and byte 10.
 fn put_line(out: &mut [u8], at: usize, key: &[u8], value: &[u8]) -> usize

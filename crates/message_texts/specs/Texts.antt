@@ -1,9 +1,9 @@
--- Document 01, module 10: "The Rust's texts". Each text once, with the values that it shows; a text's form is "the message's position among that code's messages in validate.rs, from 0".
+-- Document 01, module 10: "The Rust's texts"; document 02, K6, has those of UnreadableVerseNumber. Each text once, with the values that it shows; a text's form is "the message's position among that code's messages in validate.rs, from 0".
 use Prim.Native.Nat.{ℕ}
 use Prim.Native.String.{String}
 use mathlib.Core.List.{List, [], _∷_}
 use Rattle.text.specs.Literal.{ascii}
-use Rattle.findings.specs.Codes.{missingIdMarker, invalidBookCode, duplicateId, textBeforeId, missingChapterMarker, invalidChapterSequence, duplicateChapter, invalidVerseSequence, verseOutsideParagraph, noteSubmarkerOutsideNote, nonEmptyBlankLine, leadingZeros, milestoneMismatch, invalidAttributes, missingChapterNumber, missingVerseNumber, charCrossesVerseBoundary, emptyFigure, unquotedAttributeValue, missingRequiredAttribute, bodyParagraphBeforeChapter, emptyWordMarker, invalidTableColumnSequence, defaultAttributeNotDefined, misplacedNumberMarker, missingSpaceBeforeNumber}
+use Rattle.findings.specs.Codes.{missingIdMarker, invalidBookCode, duplicateId, textBeforeId, missingChapterMarker, invalidChapterSequence, duplicateChapter, invalidVerseSequence, verseOutsideParagraph, noteSubmarkerOutsideNote, nonEmptyBlankLine, leadingZeros, milestoneMismatch, invalidAttributes, missingChapterNumber, missingVerseNumber, charCrossesVerseBoundary, emptyFigure, unquotedAttributeValue, missingRequiredAttribute, bodyParagraphBeforeChapter, emptyWordMarker, invalidTableColumnSequence, defaultAttributeNotDefined, misplacedNumberMarker, missingSpaceBeforeNumber, unreadableVerseNumber}
 
 -- what a text can show beside its own bytes
 pub data Hole : Type 0 where
@@ -79,6 +79,7 @@ numberTexts =
     ∷ of missingVerseNumber empty empty empty ((say "\\v is missing its verse number" ∷ []) ∷ [])
     ∷ of charCrossesVerseBoundary empty empty empty ((say "a character marker spans a verse boundary (\\v inside a \\char span)" ∷ []) ∷ [])
     ∷ of missingSpaceBeforeNumber gluedName bareName gluedLabel ((say "\\" ∷ v1 ∷ say " needs a space before its number; read as \\" ∷ v2 ∷ say " " ∷ v3 ∷ []) ∷ [])
+    ∷ of unreadableVerseNumber label empty empty ((say "verse label " ∷ v1 ∷ say " has no number" ∷ []) ∷ (say "verse label " ∷ v1 ∷ say " is too large" ∷ []) ∷ [])
     ∷ []
 
 unfoldable pub markerTexts : List Code

@@ -217,6 +217,11 @@ fn more_number_text(code: u64, form: u64, a: &[u8], b: &[u8], c: &[u8], out: &mu
             let text = *b"\\\x01 needs a space before its number; read as \\\x02 \x03";
             one(form, &text, a, b, c, out)
         }
+        findings::UNREADABLE_VERSE_NUMBER => {
+            let text0 = *b"verse label \x01 has no number";
+            let text1 = *b"verse label \x01 is too large";
+            two(form, &text0, &text1, a, b, c, out)
+        }
         _ => marker_text(code, form, a, b, c, out),
     }
 }

@@ -21,11 +21,12 @@ use Rattle.cursor.proofs.Runs.{run-top}
 use Rattle.findings.specs.Finding.{Finding, Kind, warningSeverity}
 use Rattle.findings.specs.Written.{only}
 use Rattle.numbers.specs.Label.{labelOf, numbered}
+use Rattle.numbers.specs.Verse.{PartReading, position, noDigits, tooLarge, versePart}
 use Rattle.attributes.specs.Attributes.{attributeKinds, findingsAt, attributeFindings, attributesFindings}
 use Rattle.rows.specs.Cells.{ColumnRange}
 use Rattle.rows.specs.Row.{cellIn, outOfOrder, byColumns, rowFrom, rowFindings}
 use Rattle.definition.specs.State.{WalkState, initial, outside, WalkContext, Anchor, past}
-use Rattle.definition.specs.Checks.{about, error, warning, given, entryOf, letterByte, afterChapter, afterVerse, numberForm, chapterChecks, verseChecks, leafChecked, bookCode, isBook, numberMarkers, idName, trName, idChecks, afterId, attachedTo, placeChecks, contentChecks}
+use Rattle.definition.specs.Checks.{about, error, warning, given, entryOf, letterByte, unreadForm, afterChapter, afterVerse, numberForm, chapterChecks, verseChecks, leafChecked, bookCode, isBook, numberMarkers, idName, trName, idChecks, afterId, attachedTo, placeChecks, contentChecks}
 use Rattle.definition.specs.Milestones.{pairing, isStart, isEnd, isMilestone, waits, startsAfter, milestoneChecks, afterMilestoneBy}
 use Rattle.definition.specs.Walk.{Walked, leafAnchor, openCheckedBy, openChecked, inside, withFindings, afterNode, thenWalk, byEntry, walkBy, walk}
 use Rattle.definition.specs.Document.{textBefore, unclosed, closing, walked, running}
@@ -40,7 +41,7 @@ use Rattle.text.proofs.Every.{all-append}
 use Rattle.messages.proofs.LowLetters.{next-low, breaks-some}
 use Rattle.attributes.proofs.EachKind.{OfAttributes, all-kinds}
 use Rattle.text.proofs.Bool.{and-left, and-right}
-use Rattle.findings.specs.Codes.{milestoneMismatch, unclosedStart, leadingZeros, textBeforeId, endAlone, invalidBookCode, misplacedNumberMarker, invalidVerseSequence}
+use Rattle.findings.specs.Codes.{milestoneMismatch, unclosedStart, leadingZeros, textBeforeId, endAlone, invalidBookCode, misplacedNumberMarker, invalidVerseSequence, unreadableVerseNumber}
 use Rattle.text.specs.Bytes.{equal, oneOf, upper}
 
 -- the text of the finding is there, so that number 12 does not turn it back
@@ -107,10 +108,15 @@ module _ (table s t : List ℕ) where
     verse-checks : numbered (kindAt t i) ≡ true → (o : WalkContext) (st : WalkState) → letterByte (st .expectedVerse .letter) ≤ 127 → AllOf (WhenHeld Has) (verseChecks e o st x)
     unfolding allTexts documentTexts numberTexts codeOf formOf shownOf
     verse-checks k o st l =
-        (λ h. said 12 0 0 0 refl, (λ h. said 20 0 0 0 refl, (λ h. said 19 0 0 0 refl, (λ h. sequence (breaks-some label (st .expectedVerse) h), number-checks k false))))
+        (λ h. said 12 0 0 0 refl, (λ h. said 20 0 0 0 refl, (λ h. said 19 0 0 0 refl, (λ h. sequence (breaks-some label (st .expectedVerse) h), (λ h. unreadable (versePart label) (and-left (not (eqb (length label) 0)) _ h), number-checks k false)))))
       where
         sequence : not (eqb (length label) 0) ≡ true → Has (about x warningSeverity invalidVerseSequence 0 (st .expectedVerse .number) (letterByte (st .expectedVerse .letter)))
         sequence h = said 11 0 (st .expectedVerse .number) (letterByte (st .expectedVerse .letter)) (rw (le-leb (letterByte (st .expectedVerse .letter)) 127 l, k, h))
+
+        unreadable : (r : PartReading) → not (eqb (length label) 0) ≡ true → Has (warning x unreadableVerseNumber (unreadForm r))
+        unreadable (position p) h = said 35 0 0 0 (rw (k, h))
+        unreadable noDigits h = said 35 0 0 0 (rw (k, h))
+        unreadable tooLarge h = said 35 1 0 0 (rw (k, h))
 
     text-said : Has (warning x textBeforeId 0)
     unfolding allTexts documentTexts codeOf formOf shownOf

@@ -14,14 +14,15 @@ use Rattle.text.specs.Characters.{findByte, charsPast, bytesBefore}
 use Rattle.text.specs.Words.{trimStart}
 use Rattle.text.specs.Number.{digits}
 use Rattle.text.proofs.Rows.{within-hi}
-use Rattle.numbers.specs.Verse.{Position, letterOf, withLetter, digitsEnd, partOf, versePart, endStart, verseEnd, next}
+use Rattle.numbers.specs.Verse.{Position, PartReading, position, noDigits, tooLarge, letterOf, withLetter, digitsEnd, partOf, versePart, endStart, verseEnd, next}
 use Rattle.numbers.specs.Verse as verse
 use Rattle.definition.specs.Checks.{letterByte, breaks, endOr, expectedAfter}
 
 -- a letter that is read is no higher than `z`
-abbrev UpToZ : Option Position → Type 0
-UpToZ none = Unit {0}
-UpToZ (some p) = letterByte (p .letter) ≤ 0x7A
+abbrev UpToZ : PartReading → Type 0
+UpToZ (position p) = letterByte (p .letter) ≤ 0x7A
+UpToZ noDigits = Unit {0}
+UpToZ tooLarge = Unit {0}
 
 letter-low : (s : List ℕ) → letterByte (letterOf s) ≤ 0x7A
 letter-low [] = omega arith
@@ -31,26 +32,28 @@ letter-low (b ∷ s) = go (within 0x61 0x7A b) refl
     go true h = within-hi 0x61 0x7A b h
     go false h = omega arith
 
-with-low : (o l : Option ℕ) → letterByte l ≤ 0x7A → UpToZ (withLetter o l)
-with-low none l h = tt
-with-low (some n) l h = h
-
 start-low : (s : List ℕ) → UpToZ (versePart s)
 unfolding versePart partOf
 start-low s =
     let text = cut (trimStart s) s in
-    with-low (digits (take (digitsEnd text) text)) (letterOf (drop (digitsEnd text) text)) (letter-low (drop (digitsEnd text) text))
+    go (eqb (digitsEnd text) 0) (digits (take (digitsEnd text) text)) (letterOf (drop (digitsEnd text) text)) (letter-low (drop (digitsEnd text) text))
+  where
+    go : (b : Bool) (o l : Option ℕ) → letterByte l ≤ 0x7A → UpToZ (pick b noDigits (withLetter o l))
+    go true o l h = tt
+    go false none l h = tt
+    go false (some n) l h = h
 
 end-low : (s : List ℕ) → UpToZ (verseEnd s)
 unfolding verseEnd
 end-low s = start-low (drop (endStart s) s)
 
-end-or-low : (e : Option Position) (p : Position) → UpToZ e → UpToZ (some p) → UpToZ (some (endOr e p))
-end-or-low none p h k = k
-end-or-low (some e) p h k = h
+end-or-low : (e : PartReading) (p : Position) → UpToZ e → UpToZ (position p) → UpToZ (position (endOr e p))
+end-or-low (position e) p h k = h
+end-or-low noDigits p h k = k
+end-or-low tooLarge p h k = k
 
 -- the letter after it
-after-low : (p : Position) → UpToZ (some p) → letterByte (next p .letter) ≤ 127
+after-low : (p : Position) → UpToZ (position p) → letterByte (next p .letter) ≤ 127
 unfolding next
 after-low p h = go (p .letter) h
   where
@@ -62,9 +65,10 @@ after-low p h = go (p .letter) h
 pub next-low : (label : List ℕ) (expected : Position) → letterByte (expected .letter) ≤ 127 → letterByte (expectedAfter (versePart label) label expected .letter) ≤ 127
 next-low label expected h = go (versePart label) (start-low label)
   where
-    go : (o : Option Position) → UpToZ o → letterByte (expectedAfter o label expected .letter) ≤ 127
-    go none k = h
-    go (some p) k = after-low (endOr (verseEnd label) p) (end-or-low (verseEnd label) p (end-low label) k)
+    go : (r : PartReading) → UpToZ r → letterByte (expectedAfter r label expected .letter) ≤ 127
+    go noDigits k = h
+    go tooLarge k = h
+    go (position p) k = after-low (endOr (verseEnd label) p) (end-or-low (verseEnd label) p (end-low label) k)
 
 -- of an empty label nothing is read
 pub breaks-some : (label : List ℕ) (expected : Position) → breaks (versePart label) expected ≡ true → not (eqb (length label) 0) ≡ true

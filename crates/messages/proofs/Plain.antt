@@ -18,7 +18,7 @@ use Rattle.messages.specs.Inner.{WrittenBy, WrittenWith}
 use Rattle.text.specs.Pick.{pick}
 
 abbrev others : List ℕ
-others = 9 ∷ 10 ∷ 11 ∷ 13 ∷ 15 ∷ 16 ∷ 23 ∷ 24 ∷ 27 ∷ 32 ∷ 33 ∷ 34 ∷ []
+others = 9 ∷ 10 ∷ 11 ∷ 13 ∷ 15 ∷ 16 ∷ 23 ∷ 24 ∷ 27 ∷ 32 ∷ 33 ∷ 34 ∷ 35 ∷ []
 
 -- the codes whose texts show something
 abbrev pub special : List ℕ
@@ -34,7 +34,7 @@ AllPlain (c ∷ cs) = Plain c × AllPlain cs
 all-plain : AllPlain allTexts
 unfolding allTexts documentTexts numberTexts markerTexts attributeTexts
 all-plain =
-    (inr (refl, (refl, refl)), (inl (inl refl), (inr (refl, (refl, refl)), (inr (refl, (refl, refl)), (inr (refl, (refl, refl)), (inl (inr (inl refl)), (inl (inr (inr (inl refl))), (inl (inr (inr (inr (inl refl)))), (inr (refl, (refl, refl)), (inl (inr (inr (inr (inr (inr (inl refl)))))), (inr (refl, (refl, refl)), (inr (refl, (refl, refl)), (inr (refl, (refl, refl)), (inl (inr (inr (inr (inr (inr (inr (inr (inr (inr (inr (inr (inr refl)))))))))))), (inl (inr (inr (inr (inr (inl refl))))), (inr (refl, (refl, refl)), (inl (inr (inr (inr (inr (inr (inr (inl refl))))))), (inr (refl, (refl, refl)), (inl (inr (inr (inr (inr (inr (inr (inr (inl refl)))))))), (inl (inr (inr (inr (inr (inr (inr (inr (inr (inl refl))))))))), (inr (refl, (refl, refl)), (inl (inr (inr (inr (inr (inr (inr (inr (inr (inr (inl refl)))))))))), (inl (inr (inr (inr (inr (inr (inr (inr (inr (inr (inr (inr (inl refl)))))))))))), (inr (refl, (refl, refl)), (inr (refl, (refl, refl)), (inl (inr (inr (inr (inr (inr (inr (inr (inr (inr (inr (inl refl))))))))))), tt))))))))))))))))))))))))))
+    (inr (refl, (refl, refl)), (inl (inl refl), (inr (refl, (refl, refl)), (inr (refl, (refl, refl)), (inr (refl, (refl, refl)), (inl (inr (inl refl)), (inl (inr (inr (inl refl))), (inl (inr (inr (inr (inl refl)))), (inr (refl, (refl, refl)), (inl (inr (inr (inr (inr (inr (inl refl)))))), (inr (refl, (refl, refl)), (inr (refl, (refl, refl)), (inr (refl, (refl, refl)), (inl (inr (inr (inr (inr (inr (inr (inr (inr (inr (inr (inr (inr (inl refl))))))))))))), (inl (inr (inr (inr (inr (inr (inr (inr (inr (inr (inr (inr (inr (inr refl))))))))))))), (inl (inr (inr (inr (inr (inl refl))))), (inr (refl, (refl, refl)), (inl (inr (inr (inr (inr (inr (inr (inl refl))))))), (inr (refl, (refl, refl)), (inl (inr (inr (inr (inr (inr (inr (inr (inl refl)))))))), (inl (inr (inr (inr (inr (inr (inr (inr (inr (inl refl))))))))), (inr (refl, (refl, refl)), (inl (inr (inr (inr (inr (inr (inr (inr (inr (inr (inl refl)))))))))), (inl (inr (inr (inr (inr (inr (inr (inr (inr (inr (inr (inr (inl refl)))))))))))), (inr (refl, (refl, refl)), (inr (refl, (refl, refl)), (inl (inr (inr (inr (inr (inr (inr (inr (inr (inr (inr (inl refl))))))))))), tt)))))))))))))))))))))))))))
 
 module _ (sh : Hole → Option (List ℕ)) (nothing : sh texts.empty ≡ some []) (n form : ℕ) (other : OneOf special n → ⊥) where
   found : (cs : List Code) → AllPlain cs → textBy sh (codeOf cs n) form ≡ filledBy (formIn (codeOf cs n) form) (some (values [] [] []))

@@ -12,7 +12,7 @@ use Rattle.message_texts.specs.Texts as texts
 use Rattle.message_texts.specs.Filled.{Values, allTexts, codeOf, textIn, filledBy}
 use Rattle.message_texts.specs.Inner.{values}
 use Rattle.messages.specs.Message.{Request, shown, three, textBy}
-use Rattle.messages.specs.Inner.{WrittenBy, WrittenWith, isTables}
+use Rattle.messages.specs.Inner.{WrittenBy, WrittenWith, isTables, isLabels}
 
 unfilled : (f : Option (List ℕ)) → filledBy f none ≡ none
 unfilled none = refl
@@ -60,7 +60,7 @@ holes-13 : (n : ℕ) → n ≡ 13 → Holes n texts.entryName texts.empty texts.
 unfolding allTexts documentTexts numberTexts markerTexts attributeTexts codeOf
 holes-13 n e = rw e (record { text = _; is = refl; one = refl; two = refl; third = refl })
 
-pub holes-15 : (n : ℕ) → n ≡ 15 → Holes n texts.label texts.empty texts.empty
+holes-15 : (n : ℕ) → n ≡ 15 → Holes n texts.label texts.empty texts.empty
 unfolding allTexts documentTexts numberTexts markerTexts attributeTexts codeOf
 holes-15 n e = rw e (record { text = _; is = refl; one = refl; two = refl; third = refl })
 
@@ -101,3 +101,15 @@ holes-33 n e = rw e (record { text = _; is = refl; one = refl; two = refl; third
 pub holes-34 : (n : ℕ) → n ≡ 34 → Holes n texts.gluedName texts.bareName texts.gluedLabel
 unfolding allTexts documentTexts numberTexts markerTexts attributeTexts codeOf
 holes-34 n e = rw e (record { text = _; is = refl; one = refl; two = refl; third = refl })
+
+holes-35 : (n : ℕ) → n ≡ 35 → Holes n texts.label texts.empty texts.empty
+unfolding allTexts documentTexts numberTexts markerTexts attributeTexts codeOf
+holes-35 n e = rw e (record { text = _; is = refl; one = refl; two = refl; third = refl })
+
+-- the codes whose texts show a label alone
+pub holes-label : (n : ℕ) → isLabels n ≡ true → Holes n texts.label texts.empty texts.empty
+holes-label n h = go (eqb n 15) refl h
+  where
+    go : (b : Bool) → eqb n 15 ≡ b → (b || eqb n 35) ≡ true → Holes n texts.label texts.empty texts.empty
+    go true e k = holes-15 n (eqb-true n 15 e)
+    go false e k = holes-35 n (eqb-true n 35 k)

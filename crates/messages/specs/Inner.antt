@@ -9,7 +9,7 @@ use Rattle.text.specs.Pick.{cut}
 use Rattle.tape.specs.Nodes.{count}
 use Rattle.tape.specs.Forest.{Accepted}
 use Rattle.table.specs.Entries.{Entry}
-use Rattle.findings.specs.Codes.{noteSubmarkerOutsideNote, missingRequiredAttribute, bodyParagraphBeforeChapter}
+use Rattle.findings.specs.Codes.{noteSubmarkerOutsideNote, missingRequiredAttribute, bodyParagraphBeforeChapter, leadingZeros, unreadableVerseNumber}
 use Rattle.message_texts.specs.Filled.{allTexts, codeOf}
 use Rattle.message_texts.specs.Inner.{WrittenAs, WrittenFrom}
 use Rattle.messages.specs.Message as message
@@ -34,6 +34,10 @@ WrittenWith q a b c l l′ r = WrittenFrom allTexts (q .code) (q .form) a b c l 
 -- "`\fr` outside a note shows the table's name"
 abbrev pub isTables : ℕ → Bool
 isTables code = eqb code noteSubmarkerOutsideNote || (eqb code missingRequiredAttribute || eqb code bodyParagraphBeforeChapter)
+
+-- the codes whose texts show a label alone
+abbrev pub isLabels : ℕ → Bool
+isLabels code = eqb code leadingZeros || eqb code unreadableVerseNumber
 
 -- the name in the table, empty where there is no entry
 abbrev pub nameOr : List ℕ → Option Entry → List ℕ

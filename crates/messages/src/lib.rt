@@ -13,6 +13,7 @@ use findings::MISPLACED_NUMBER_MARKER;
 use findings::MISSING_REQUIRED_ATTRIBUTE;
 use findings::MISSING_SPACE_BEFORE_NUMBER;
 use findings::NOTE_SUBMARKER_OUTSIDE_NOTE;
+use findings::UNREADABLE_VERSE_NUMBER;
 use table::Info;
 use validate::InputCheck;
 ghost use mathlib.Core.Bool.{true, _||_};
@@ -32,13 +33,13 @@ ghost use Rattle.numbers.specs.Label.{labelOf, numbered};
 ghost use Rattle.definition.specs.Milestones.{endsIn};
 ghost use Rattle.buffer.specs.Over.{over};
 ghost use Rattle.buffer.specs.Decimal.{decimal};
-ghost use Rattle.findings.specs.Codes.{defaultAttributeNotDefined, invalidBookCode, invalidVerseSequence, leadingZeros, milestoneMismatch, misplacedNumberMarker, missingSpaceBeforeNumber};
+ghost use Rattle.findings.specs.Codes.{defaultAttributeNotDefined, invalidBookCode, invalidVerseSequence, milestoneMismatch, misplacedNumberMarker, missingSpaceBeforeNumber};
 ghost use Rattle.findings.specs.Written.{wholeRecords};
 ghost use Rattle.message_texts.specs.Filled.{joined, allTexts};
 ghost use Rattle.messages.specs.Message.{letterBytes, unitOf, messageText};
 ghost use Rattle.messages.specs.Answer.{byRoom, bytesBy, messageAnswer, messageAfter};
 ghost use Rattle.messages.specs.Messages.{requestAt, textAt, textsOf, endsFrom, answerByTexts, messagesAnswer, messagesAnswerOf, messagesAfter, endsAfter};
-ghost use Rattle.messages.specs.Inner.{DocumentNode, WrittenBy, nameOr, isTables};
+ghost use Rattle.messages.specs.Inner.{DocumentNode, WrittenBy, nameOr, isTables, isLabels};
 ghost use Rattle.message_texts.specs.Inner.{WrittenFrom};
 ghost use Rattle.table.specs.Inner.{Indexed};
 ghost use Rattle.messages.specs.Answer.{requestBy, messageAnswerOf};
@@ -177,7 +178,7 @@ fn write_verse(
     write_position(q.code, q.form, q.first, q.second, label, out)
 }
 
-// LeadingZeros.
+// LeadingZeros and UnreadableVerseNumber.
 fn write_label(
     table: &[u8],
     index: &[u64],
@@ -187,7 +188,7 @@ fn write_label(
     q: MessageRequest,
     out: &mut [u8],
 ) -> usize
-    requires { ⌜ (DocumentNode (now table) (now index) entries (now source) (now tape) (q .node)) × (q .code ≡ leadingZeros) ⌝ }
+    requires { ⌜ (DocumentNode (now table) (now index) entries (now source) (now tape) (q .node)) × (isLabels (q .code) ≡ true) ⌝ }
     ensures { λ r. ⌜ WrittenBy (now (table .entry)) (now (source .entry)) (now (tape .entry)) (requestBy q) (now (out .entry)) (now (out .exit)) r ⌝ }
 {
     let label = label_shown(table, index, entries, source, tape, q.node as usize);
@@ -401,6 +402,7 @@ fn write_message<'a>(
         DEFAULT_ATTRIBUTE_NOT_DEFINED => write_owner(table, index, entries, source, tape, q, out),
         MISPLACED_NUMBER_MARKER => write_number(table, index, entries, source, tape, q, out),
         MISSING_SPACE_BEFORE_NUMBER => write_glued(table, index, entries, source, tape, q, out),
+        UNREADABLE_VERSE_NUMBER => write_label(table, index, entries, source, tape, q, out),
         _ => message_texts::write_text(q.code, q.form, b"", b"", b"", out),
     }
 }

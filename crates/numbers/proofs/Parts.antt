@@ -6,7 +6,7 @@ use mathlib.Core.Bool.{Bool, true, false, not, false≢true, _&&_}
 use mathlib.Core.List.{List, [], _∷_}
 use mathlib.Core.Option.{Option, some, none}
 use native.Mathlib.Omega.{arith}
-use borrow.Author.Tests.{lt-ltb, le-ltb, ltb-true, ne-eqb}
+use borrow.Author.Tests.{lt-ltb, le-ltb, ltb-true, eq-eqb, ne-eqb}
 use lib.Dec.{leb, eqb}
 use lib.ListN.{length, take, drop, getD}
 use Rattle.text.specs.Pick.{within, cut, pick}
@@ -20,7 +20,7 @@ use Rattle.text.proofs.Cuts.{rest-all}
 use Rattle.numbers.specs.declared.Suffix.{Suffix}
 use Rattle.numbers.specs.declared.Suffix.the-variants.{Letter, None}
 use Rattle.numbers.specs.declared.VersePart.{VersePart}
-use Rattle.numbers.specs.Verse.{Position, Readable, letterOf, withLetter, digitsEnd, partOf, versePart, verseEnd, next, nextPosition, noEarlier, otherNumber, inSequence, suffixOf, positionOf, letterLow}
+use Rattle.numbers.specs.Verse.{Position, PartReading, position, noDigits, tooLarge, Readable, letterOf, withLetter, digitsEnd, partOf, versePart, verseEnd, next, nextPosition, noEarlier, otherNumber, inSequence, suffixOf, positionOf, letterLow}
 
 -- the order of letters
 pub letters : (e a : Suffix) (x y : ℕ) → e ≡ Letter x → a ≡ Letter y → leb x y ≡ noEarlier (suffixOf e) (suffixOf a)
@@ -68,28 +68,33 @@ digits-parsed (b ∷ t) = go (digit b) refl
     go true h = rw (no-plus b h) refl
     go false h = refl
 
-module _ (s t : List ℕ) (e : ℕ) (r : Parsed) (cut-is : t ≡ cut (trimStart s) s) (end-is : e ≡ digitsEnd t) (read : numberOf r ≡ number.parsed (take e t)) where
-  read-digits : number.parsed (take e t) ≡ digits (take e t)
-  read-digits = rw end-is (digits-parsed t)
-
-  part-cut : withLetter (digits (take e t)) (letterOf (drop e t)) ≡ versePart s
+-- the part that a label begins with, cut into its digits and what follows
+module _ (s t : List ℕ) (e : ℕ) (cut-is : t ≡ cut (trimStart s) s) (end-is : e ≡ digitsEnd t) where
+  part-cut : pick (eqb e 0) noDigits (withLetter (digits (take e t)) (letterOf (drop e t))) ≡ versePart s
   unfolding versePart partOf
   part-cut = rw end-is (ap partOf cut-is)
 
-  chain : withLetter (numberOf r) (letterOf (drop e t)) ≡ versePart s
-  chain = ap (λ (o : Option ℕ). withLetter o (letterOf (drop e t))) (read ∙ read-digits) ∙ part-cut
+  pub part-none : e ≡ 0 → noDigits ≡ versePart s
+  part-none h = rw (eq-eqb e 0 h) at part-cut
 
-  pub part-read : (n : ℕ) (l : Suffix) → r ≡ parsed.Value n → suffixOf l ≡ letterOf (take (length t - e) (drop e t)) → some (record { number = n; letter = suffixOf l }) ≡ versePart s
-  part-read n l h g = ap (λ (o : Parsed). withLetter (numberOf o) (suffixOf l)) (sym h) ∙ ap (withLetter (numberOf r)) (g ∙ ap letterOf (rest-all t e)) ∙ chain
+  module _ (some-digit : e ≡ 0 → ⊥) (r : Parsed) (read : numberOf r ≡ number.parsed (take e t)) where
+    read-digits : number.parsed (take e t) ≡ digits (take e t)
+    read-digits = rw end-is (digits-parsed t)
 
-  pub part-missing : r ≡ parsed.NotANumber → none ≡ versePart s
-  part-missing h = ap (λ (o : Parsed). withLetter (numberOf o) (letterOf (drop e t))) (sym h) ∙ chain
+    chain : withLetter (numberOf r) (letterOf (drop e t)) ≡ versePart s
+    chain = ap (λ (o : Option ℕ). withLetter o (letterOf (drop e t))) (read ∙ read-digits) ∙ (rw (ne-eqb e 0 some-digit) at part-cut)
+
+    pub part-read : (n : ℕ) (l : Suffix) → r ≡ parsed.Value n → suffixOf l ≡ letterOf (take (length t - e) (drop e t)) → position (record { number = n; letter = suffixOf l }) ≡ versePart s
+    part-read n l h g = ap (λ (o : Parsed). withLetter (numberOf o) (suffixOf l)) (sym h) ∙ ap (withLetter (numberOf r)) (g ∙ ap letterOf (rest-all t e)) ∙ chain
+
+    pub part-large : r ≡ parsed.NotANumber → tooLarge ≡ versePart s
+    part-large h = ap (λ (o : Parsed). withLetter (numberOf o) (letterOf (drop e t))) (sym h) ∙ chain
 
 -- the end of a range
-pub end-after : (s : List ℕ) (at : ℕ) (x : Option Position) → at ≡ findByte (eqb 0x2D) s → at < length s → x ≡ versePart (take (length s - (at + 1)) (drop (at + 1) s)) → x ≡ verseEnd s
+pub end-after : (s : List ℕ) (at : ℕ) (x : PartReading) → at ≡ findByte (eqb 0x2D) s → at < length s → x ≡ versePart (take (length s - (at + 1)) (drop (at + 1) s)) → x ≡ verseEnd s
 unfolding verseEnd
 end-after s at x e l h = rw (sym e) (rw (lt-ltb at (length s) l) (h ∙ ap versePart (rest-all s (at + 1))))
 
-pub end-start : (s : List ℕ) (at : ℕ) (x : Option Position) → at ≡ findByte (eqb 0x2D) s → length s ≤ at → x ≡ versePart s → x ≡ verseEnd s
+pub end-start : (s : List ℕ) (at : ℕ) (x : PartReading) → at ≡ findByte (eqb 0x2D) s → length s ≤ at → x ≡ versePart s → x ≡ verseEnd s
 unfolding verseEnd
 end-start s at x e l h = rw (sym e) (rw (le-ltb at (length s) l) h)

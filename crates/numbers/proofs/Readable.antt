@@ -7,13 +7,13 @@ use mathlib.Core.List.{List, [], _∷_}
 use mathlib.Core.Option.{Option, some, none, Option·none-ne-some, Option·some-injective}
 use native.Mathlib.Omega.{arith}
 use borrow.Author.Tests.{lt-ltb, leb-true}
-use lib.Dec.{leb}
+use lib.Dec.{leb, eqb}
 use lib.ListN.{take, drop}
 use Rattle.text.specs.Pick.{within, cut, pick}
 use Rattle.text.specs.Words.{trimStart}
 use Rattle.text.specs.Number.{allDigits, valueFrom, digits, digitsFrom}
 use Rattle.text.proofs.Rows.{within-hi}
-use Rattle.numbers.specs.Verse.{Position, Readable, letterOf, letterLow, withLetter, digitsEnd, partOf, versePart, endStart, verseEnd}
+use Rattle.numbers.specs.Verse.{Position, PartReading, position, noDigits, tooLarge, Readable, letterOf, letterLow, withLetter, digitsEnd, partOf, versePart, endStart, verseEnd}
 use Rattle.text.proofs.Bool.{and-right}
 
 picked : (c : Bool) (v n : ℕ) → pick c (some v) none ≡ some n → (c ≡ true) × (v ≡ n)
@@ -36,20 +36,25 @@ low-letter (b ∷ s) = go (within 0x61 0x7A b) refl
     go true h = let l = within-hi 0x61 0x7A b h in lt-ltb b 255 (omega arith)
     go false h = refl
 
-part-readable : (s : List ℕ) (p : Position) → partOf s ≡ some p → Readable p
+-- what a reading says where it is a position
+abbrev ReadableIf : PartReading → Type 0
+ReadableIf (position p) = Readable p
+ReadableIf noDigits = Unit {0}
+ReadableIf tooLarge = Unit {0}
+
+part-readable : (s : List ℕ) → ReadableIf (partOf s)
 unfolding partOf
-part-readable s p h = go (digits (take (digitsEnd s) s)) refl h
+part-readable s = go (eqb (digitsEnd s) 0) (digits (take (digitsEnd s) s)) refl
   where
-    go : (o : Option ℕ) → digits (take (digitsEnd s) s) ≡ o → withLetter o (letterOf (drop (digitsEnd s) s)) ≡ some p → Readable p
-    go none e g = absurd (Option·none-ne-some p g)
-    go (some n) e g =
-        let q : Position = record { number = n; letter = letterOf (drop (digitsEnd s) s) } in
-        rw (sym (Option·some-injective q p g)) record { number-low = limited (take (digitsEnd s) s) n e; letter-low = low-letter (drop (digitsEnd s) s) }
+    go : (b : Bool) (o : Option ℕ) → digits (take (digitsEnd s) s) ≡ o → ReadableIf (pick b noDigits (withLetter o (letterOf (drop (digitsEnd s) s))))
+    go true o e = tt
+    go false none e = tt
+    go false (some n) e = record { number-low = limited (take (digitsEnd s) s) n e; letter-low = low-letter (drop (digitsEnd s) s) }
 
-pub start-readable : (s : List ℕ) (p : Position) → versePart s ≡ some p → Readable p
+pub start-readable : (s : List ℕ) (p : Position) → versePart s ≡ position p → Readable p
 unfolding versePart
-start-readable s p h = part-readable (cut (trimStart s) s) p h
+start-readable s p h = rw h at (part-readable (cut (trimStart s) s))
 
-pub end-readable : (s : List ℕ) (p : Position) → verseEnd s ≡ some p → Readable p
+pub end-readable : (s : List ℕ) (p : Position) → verseEnd s ≡ position p → Readable p
 unfolding verseEnd
 end-readable s p h = start-readable (drop (endStart s) s) p h

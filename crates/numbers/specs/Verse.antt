@@ -25,20 +25,27 @@ abbrev pub letterOf : List ℕ → Option ℕ
 letterOf [] = none
 letterOf (b ∷ s) = pick (within 0x61 0x7A b) (some b) none
 
-abbrev pub withLetter : Option ℕ → Option ℕ → Option Position
-withLetter none l = none
-withLetter (some n) l = some (record { number = n; letter = l })
+-- Document 02, K6: "The part reading shall answer three ways: read, no digits, too large."
+pub data PartReading : Type 0 where
+  position : Position → PartReading
+  noDigits : PartReading
+  tooLarge : PartReading
+
+-- digits whose value is no u32 are too large
+abbrev pub withLetter : Option ℕ → Option ℕ → PartReading
+withLetter none l = tooLarge
+withLetter (some n) l = position (record { number = n; letter = l })
 
 -- where the digits end that the text begins with
 abbrev pub digitsEnd : List ℕ → ℕ
 digitsEnd s = findByte (λ b. not (digit b)) s
 
 -- "digits, then one ASCII lower-case letter if next; without a digit, or with a value over 4,294,967,295, it is not read"
-unfoldable pub partOf : List ℕ → Option Position
-partOf s = withLetter (digits (take (digitsEnd s) s)) (letterOf (drop (digitsEnd s) s))
+unfoldable pub partOf : List ℕ → PartReading
+partOf s = pick (eqb (digitsEnd s) 0) noDigits (withLetter (digits (take (digitsEnd s) s)) (letterOf (drop (digitsEnd s) s)))
 
 -- "A part: skip blanks"
-unfoldable pub versePart : List ℕ → Option Position
+unfoldable pub versePart : List ℕ → PartReading
 versePart s = partOf (cut (trimStart s) s)
 
 -- the byte after the first `-`, or the start
@@ -46,7 +53,7 @@ abbrev pub endStart : List ℕ → ℕ
 endStart s = pick (ltb (findByte (eqb 0x2D) s) (length s)) (findByte (eqb 0x2D) s + 1) 0
 
 -- "The end is read after the first `-`, else the start serves."
-unfoldable pub verseEnd : List ℕ → Option Position
+unfoldable pub verseEnd : List ℕ → PartReading
 verseEnd s = versePart (drop (endStart s) s)
 
 abbrev pub nextPosition : ℕ → Option ℕ → Position
@@ -81,9 +88,10 @@ suffixOf suffix.None = none
 abbrev pub positionOf : VersePart → Position
 positionOf p = record { number = p .num; letter = suffixOf (p .suffix) }
 
-abbrev pub readOf : PartRead → Option Position
-readOf (read.Is p) = some (positionOf p)
-readOf read.NotRead = none
+abbrev pub readOf : PartRead → PartReading
+readOf (read.Is p) = position (positionOf p)
+readOf read.NoDigits = noDigits
+readOf read.TooLarge = tooLarge
 
 -- the letter is a byte that has another after it
 abbrev pub letterLow : Option ℕ → Bool

@@ -30,9 +30,11 @@ pub struct VersePart {
     pub suffix: Suffix,
 }
 
+// What is read of a part of a label: a position, or nothing, for want of a digit or since the number is over 4,294,967,295.
 pub enum PartRead {
     Is(VersePart),
-    NotRead,
+    NoDigits,
+    TooLarge,
 }
 
 // Where a label stands in its node's text, and whether that is in the marker's name.
@@ -312,12 +314,15 @@ pub fn parse_verse_part(s: &[u8]) -> PartRead
 {
     let rest = text::trim_start(s);
     let end = text::find_non_digit(rest);
+    if end == 0 {
+        return PartRead::NoDigits;
+    }
     match text::parse(&rest[..end]) {
         Parsed::Value(n) => PartRead::Is(VersePart {
             num: n as u64,
             suffix: letter(&rest[end..]),
         }),
-        Parsed::NotANumber => PartRead::NotRead,
+        Parsed::NotANumber => PartRead::TooLarge,
     }
 }
 

@@ -4,7 +4,7 @@ use mathlib.Core.Bool.{Bool, true, false, _&&_}
 use mathlib.Core.Option.{Option, some, none}
 use lib.Dec.{leb, ltb}
 use Rattle.text.specs.Pick.{pick}
-use Rattle.numbers.specs.Verse.{Position, next}
+use Rattle.numbers.specs.Verse.{Position, PartReading, position, noDigits, tooLarge, next}
 use Rattle.rows.specs.Cells.{ColumnRange}
 
 -- the number, or another that stands for none
@@ -12,14 +12,16 @@ abbrev pub numberOr : ℕ → Option ℕ → ℕ
 numberOr other (some n) = n
 numberOr other none = other
 
--- the number of a position, and the byte of its letter or 0
-abbrev pub numberWord : Option Position → ℕ
-numberWord (some p) = p .number
-numberWord none = 18446744073709551615
+-- the number of a position that is read, or one of two that stand for no digits and for too large; the byte of its letter or 0
+abbrev pub numberWord : PartReading → ℕ
+numberWord (position p) = p .number
+numberWord noDigits = 18446744073709551615
+numberWord tooLarge = 18446744073709551614
 
-abbrev pub letterWord : Option Position → ℕ
-letterWord (some p) = numberOr 0 (p .letter)
-letterWord none = 0
+abbrev pub letterWord : PartReading → ℕ
+letterWord (position p) = numberOr 0 (p .letter)
+letterWord noDigits = 0
+letterWord tooLarge = 0
 
 -- the position of a number and the byte of a letter, or 0 for none
 abbrev pub positionFrom : ℕ → ℕ → Position

@@ -387,7 +387,8 @@ fn part_number(read: PartRead) -> u64
 {
     match read {
         PartRead::Is(p) => p.num,
-        PartRead::NotRead => 18446744073709551615,
+        PartRead::NoDigits => 18446744073709551615,
+        PartRead::TooLarge => 18446744073709551614,
     }
 }
 
@@ -399,7 +400,8 @@ fn part_letter(read: PartRead) -> u8
             let suffix = p.suffix;
             letter_byte(suffix)
         }
-        PartRead::NotRead => 0,
+        PartRead::NoDigits => 0,
+        PartRead::TooLarge => 0,
     }
 }
 

@@ -212,8 +212,8 @@ pub fn faultless_piece_at(
     named_piece(table, index, entries, chains, l, end)
 }
 
-// The bytes of a close with the name of the character or note marker that another text begins with, or 0 where the text begins
-// with no such close. The table has that name, so that it need not be looked up again.
+// The bytes of a close with the name of the character or note marker that another text begins with, else 0, which says nothing:
+// the piece is found then as any other. The table has that name, so that it need not be looked up again.
 pub fn own_close(opened: &[u8], l: &[u8]) -> usize
     ensures { λ r. ⌜ ((t : List ℕ) → isInline (pieceAt t (now (opened .entry))) ≡ true → 0 < r → OwnClose t (now (opened .entry)) (now (l .entry)) r) ⌝ }
 {
@@ -281,6 +281,7 @@ pub fn number_link(table: &[u8], index: &[u64], entries: usize, m: u16, l: &[u8]
     };
     match numbers::parse_verse_part(numbers::number_label(Info::Known(info), l)) {
         PartRead::Is(p) => p.num as u32,
-        PartRead::NotRead => 0,
+        PartRead::NoDigits => 0,
+        PartRead::TooLarge => 0,
     }
 }

@@ -22,7 +22,7 @@ use Rattle.table.specs.Lines.{badTable}
 use Rattle.table.specs.Names.{lookedUp}
 use Rattle.cursor.specs.Names.{pastOne, endsName, namePart, nameOf}
 use Rattle.numbers.specs.Label.{isGlued, labelOf, splits}
-use Rattle.numbers.specs.Verse.{Position, versePart}
+use Rattle.numbers.specs.Verse.{PartReading, position, noDigits, tooLarge, versePart}
 use Rattle.numbers.proofs.Readable.{start-readable}
 use Rattle.reader_spec.specs.Pieces.{backslash, byteIs, nameEnd, blanksAt, endsWord, withWord, numberSize, numberOr0, numberLink}
 use Rattle.reader_spec.proofs.Sound.{Numbered, Edge}
@@ -147,9 +147,10 @@ module _ (l : List ℕ) (made : Made l) (slash : byteIs backslash l 0 ≡ true) 
         (take-take (find endsName (drop a l)) (n - a) (drop a l) (omega (arith, a-le)))
 
   -- a number node
-  number-low : (o : Option Position) (s : List ℕ) → versePart s ≡ o → numberOr0 o < 4294967296
-  number-low none s e = omega arith
-  number-low (some p) s e = let r = start-readable s p e .number-low in omega arith
+  number-low : (r : PartReading) (s : List ℕ) → versePart s ≡ r → numberOr0 r < 4294967296
+  number-low (position p) s e = let h = start-readable s p e .number-low in omega arith
+  number-low noDigits s e = omega arith
+  number-low tooLarge s e = omega arith
 
   pub number-node : (t : List ℕ) (m : ℕ) (e : Entry) → lookedUp t (nameOf l) ≡ some m → nth (entries t) m ≡ some e → Numbered t m (numberLink e l) (take (numberSize e l) l)
   unfolding numberLink splits

@@ -16,7 +16,7 @@ use Rattle.table.specs.declared.Category.{Category}
 use Rattle.table.specs.declared.Category.the-variants as category
 use Rattle.cursor.specs.Names.{namePart, nameOf}
 use Rattle.numbers.specs.Label.{isGlued, labelOf}
-use Rattle.numbers.specs.Verse.{Position, versePart}
+use Rattle.numbers.specs.Verse.{PartReading, position, noDigits, tooLarge, versePart}
 use Rattle.refusals.specs.Refusal.{unknownMarker, unmatchedMarker}
 
 -- a piece, with the numbers of bytes that belong to it
@@ -87,9 +87,10 @@ withWord at (suc k) l = at + suc k + find endsWord (drop (at + suc k) l)
 unfoldable pub numberSize : Entry → List ℕ → ℕ
 numberSize e l = pick (isGlued (some e) (nameOf l)) (nameEnd l) (withWord (nameEnd l) (blanksAt l (nameEnd l)) l)
 
-abbrev pub numberOr0 : Option Position → ℕ
-numberOr0 none = 0
-numberOr0 (some p) = p .number
+abbrev pub numberOr0 : PartReading → ℕ
+numberOr0 (position p) = p .number
+numberOr0 noDigits = 0
+numberOr0 tooLarge = 0
 
 -- "Its link is the label's leading number, or 0 if none can be read.": of the label that the check reads off the node's text
 unfoldable pub numberLink : Entry → List ℕ → ℕ

@@ -44,11 +44,11 @@ splitLabel = 9
 abbrev pub workingListTooShort : ℕ
 workingListTooShort = 10
 
--- "Tally: length no multiple of 8, severity over 2 or code over 34"
+-- "Tally: length no multiple of 8, severity over 2 or code over 34"; document 02, K6: "number 11 starts above code 35"
 abbrev pub badTallyList : ℕ
 badTallyList = 11
 
--- "Message (after 1 to 9): code and form unknown to validate.rs, .. or the node lacks what the text needs"
+-- "Message (after 1 to 9): code and form unknown to validate.rs, .. or the node lacks what the text needs"; document 02, K6: "number 12 knows both forms"
 abbrev pub noMessage : ℕ
 noMessage = 12
 

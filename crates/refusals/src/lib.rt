@@ -29,10 +29,11 @@ pub const SPLIT_LABEL: u64 = 9;
 // "A working list has fewer than n entries."
 pub const WORKING_LIST_TOO_SHORT: u64 = 10;
 
-// "Tally: length no multiple of 8, severity over 2 or code over 34."
+// "Tally: length no multiple of 8, severity over 2 or code over 34."; document 02, K6: "number 11 starts above code 35".
 pub const BAD_TALLY_LIST: u64 = 11;
 
-// "Message (after 1 to 9): code and form unknown to validate.rs, .. or the node lacks what the text needs."
+// "Message (after 1 to 9): code and form unknown to validate.rs, .. or the node lacks what the text needs."; document 02, K6: "number 12
+// knows both forms".
 pub const NO_MESSAGE: u64 = 12;
 
 // "Message list too short."

@@ -1,4 +1,4 @@
--- Document 01: "Tally gives 35 counts by code", and number 11 of its refusals.
+-- Document 01: "Tally gives 35 counts by code", of which document 02, K6, makes 36, and number 11 of its refusals.
 use Prim.Native.Nat.{ℕ, zero, suc, _+_, _*_, _/_, _%_}
 use mathlib.Core.Bool.{Bool, not, _||_}
 use mathlib.Core.List.{List, [], _∷_}
@@ -20,11 +20,11 @@ severityAt l k = getD l (8 * k) 0
 abbrev pub codeAt : List ℕ → ℕ → ℕ
 codeAt l k = getD l (8 * k + 1) 0
 
--- "severity over 2 or code over 34"
+-- "severity over 2 or code over 34"; document 02, K6: "number 11 starts above code 35"
 abbrev pub badRecord : List ℕ → ℕ → Bool
 badRecord l k = ltb 2 (severityAt l k) || not (ltb (codeAt l k) codeCount)
 
--- 11: "length no multiple of 8, severity over 2 or code over 34; place: that record, or the number of whole records for the length, the smaller first."
+-- 11: "length no multiple of 8, severity over 2 or code over 34; place: that record, or the number of whole records for the length, the smaller first."; document 02, K6: "number 11 starts above code 35"
 unfoldable pub tallyRefusal : List ℕ → Option Refusal
 tallyRefusal l = orElse (firstBad badTallyList (badRecord l) 0 (wholeRecords l)) (onlyIf (not (eqb (length l % 8) 0)) (refuse badTallyList (wholeRecords l)))
 

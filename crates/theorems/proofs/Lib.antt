@@ -1,4 +1,5 @@
 pub mod Composed
 pub mod Printed
+pub mod Readings
 pub mod Theorems
 pub mod WrongResults

@@ -41,7 +41,7 @@ use Rattle.messages.specs.Answer.{firstNine}
 use Rattle.listing.specs.Lines.{nameAt, severityNames, codeNames, refusedLines, checkedLines, findingLines, placeFrom, lineAndColumn}
 use Rattle.listing.specs.Columns.{lineStart, beginnings, countBetween, columnAt}
 use Rattle.listing.specs.Listing.{listedFinding, listedEach, checkedListing, listing}
-use Rattle.theorems.specs.ListingExample.{tableFile, output, logos, phos, greekSource, greekNodes, greekOutput}
+use Rattle.theorems.specs.ListingExample.{tableFile, output, logos, phos, greekSource, greekNodes, greekOutput, unreadableSource, unreadableNodes, unreadableOutput}
 
 pub listing-example : listing tableFile (worked.example1 .source) (worked.tapeOf (worked.example1 .nodes)) ≡ output
 unfolding ascii worked.tapeOf worked.example1 utf8.table3-7 utf8.begins utf8.widthBy utf8.widthOf utf8.decoded utf8.decode inAny blankRanges blank charsPast bytesBefore findByte trimStart kept trim blankText wordFrom allDigits valueFrom digitsFrom digits parsed half word nodes followed runs equal all oneOf lines.lines lines.categories lines.roles entries.position entries.entriesOf entries.entries entries.nth names.lemmaNames names.defaultName names.frontMatter names.noteOnly books.bookCodes books.codeFrom books.bookOf attributes.scanStep attributes.attributeScan attributes.attributeKinds attributes.findingsAt attributes.attributesFindings namePart partOf versePart verseEnd next inSequence labelOf columnsIn cellColumns rowFrom isAlternate isPublished plain runOf startOffsets among checks.given checks.afterChapter checks.afterVerse checks.leafChecked checks.bookCode upper checks.afterId checks.inlineContent checks.hasLeaf checks.hasMarkers checks.numberMarkers waitsBy withoutBy afterMilestoneBy openCheckedBy walkBy textBefore unclosed closing refusal repeated utf8.scan utf8.afterWidth utf8.firstIllFormed lines.badFrom lines.badTable reading.step reading.read reading.tapeRefusal firstBad label.splits label.labelRefusal infoAt decimal decimalFuel firstNine messageText allTexts documentTexts numberTexts markerTexts attributeTexts codeOf formOf joined filled shownOf nameAt severityNames codeNames refusedLines checkedLines findingLines placeFrom lineStart beginnings countBetween columnAt listedFinding listedEach checkedListing listing ofSeverity tableFile output
@@ -50,6 +50,10 @@ listing-example = refl
 pub listing-greek : listing tableFile greekSource (worked.tapeOf greekNodes) ≡ greekOutput
 unfolding ascii worked.tapeOf utf8.table3-7 utf8.begins utf8.widthBy utf8.widthOf utf8.decoded utf8.decode inAny blankRanges blank charsPast bytesBefore findByte trimStart kept trim blankText wordFrom allDigits valueFrom digitsFrom digits parsed half word nodes followed runs equal all oneOf lines.lines lines.categories lines.roles entries.position entries.entriesOf entries.entries entries.nth names.lemmaNames names.defaultName names.frontMatter names.noteOnly books.bookCodes books.codeFrom books.bookOf attributes.scanStep attributes.attributeScan attributes.attributeKinds attributes.findingsAt attributes.attributesFindings namePart partOf versePart verseEnd next inSequence labelOf columnsIn cellColumns rowFrom isAlternate isPublished plain runOf startOffsets among checks.given checks.afterChapter checks.afterVerse checks.leafChecked checks.bookCode upper checks.afterId checks.inlineContent checks.hasLeaf checks.hasMarkers checks.numberMarkers waitsBy withoutBy afterMilestoneBy openCheckedBy walkBy textBefore unclosed closing refusal repeated utf8.scan utf8.afterWidth utf8.firstIllFormed lines.badFrom lines.badTable reading.step reading.read reading.tapeRefusal firstBad label.splits label.labelRefusal infoAt decimal decimalFuel firstNine messageText allTexts documentTexts numberTexts markerTexts attributeTexts codeOf formOf joined filled shownOf nameAt severityNames codeNames refusedLines checkedLines findingLines placeFrom lineStart beginnings countBetween columnAt listedFinding listedEach checkedListing listing ofSeverity tableFile logos phos greekSource greekNodes greekOutput
 listing-greek = refl
+
+pub listing-unreadable : listing tableFile unreadableSource (worked.tapeOf unreadableNodes) ≡ unreadableOutput
+unfolding ascii worked.tapeOf utf8.table3-7 utf8.begins utf8.widthBy utf8.widthOf utf8.decoded utf8.decode inAny blankRanges blank charsPast bytesBefore findByte trimStart kept trim blankText wordFrom allDigits valueFrom digitsFrom digits parsed half word nodes followed runs equal all oneOf lines.lines lines.categories lines.roles entries.position entries.entriesOf entries.entries entries.nth names.lemmaNames names.defaultName names.frontMatter names.noteOnly books.bookCodes books.codeFrom books.bookOf attributes.scanStep attributes.attributeScan attributes.attributeKinds attributes.findingsAt attributes.attributesFindings namePart partOf versePart verseEnd next inSequence labelOf columnsIn cellColumns rowFrom isAlternate isPublished plain runOf startOffsets among checks.given checks.afterChapter checks.afterVerse checks.leafChecked checks.bookCode upper checks.afterId checks.inlineContent checks.hasLeaf checks.hasMarkers checks.numberMarkers waitsBy withoutBy afterMilestoneBy openCheckedBy walkBy textBefore unclosed closing refusal repeated utf8.scan utf8.afterWidth utf8.firstIllFormed lines.badFrom lines.badTable reading.step reading.read reading.tapeRefusal firstBad label.splits label.labelRefusal infoAt decimal decimalFuel firstNine messageText allTexts documentTexts numberTexts markerTexts attributeTexts codeOf formOf joined filled shownOf nameAt severityNames codeNames refusedLines checkedLines findingLines placeFrom lineStart beginnings countBetween columnAt listedFinding listedEach checkedListing listing ofSeverity tableFile unreadableSource unreadableNodes unreadableOutput
+listing-unreadable = refl
 
 -- line and column in bytes of the finding, its column, and the columns of the line's start, of the byte behind the first `λ` and of the source's end
 pub greek-places : (lineAndColumn greekSource 32 ≡ record { line = 4; column = 17 }) × (columnAt greekSource 32 ≡ 12) × (columnAt greekSource 16 ≡ 1) × (columnAt greekSource 23 ≡ 7) × (columnAt greekSource 44 ≡ 20)

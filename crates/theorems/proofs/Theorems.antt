@@ -1,7 +1,7 @@
 -- The main theorems. Each group has the sentence of document 01 or 02 that it answers; each theorem has its full type, and a proof that cites the crate which proves it. Numbers 11 to 13 are given by `tally` and `message`, whose contracts say when (docs/PROMISES.md).
 -- Assumes nothing.
 use Prim.Native.Nat.{ℕ, suc, _+_, _*_, _<_, _≤_}
-use mathlib.Core.Path.{_≡_, refl, _∙_}
+use mathlib.Core.Path.{_≡_, refl, ap, _∙_}
 use mathlib.Core.Bool.{true, false, not, _&&_, _||_}
 use mathlib.Core.List.{List, [], _∷_, _++_}
 use mathlib.Core.Logic.{_↔_}
@@ -27,6 +27,7 @@ use Rattle.text.proofs.Exact as exact
 use Rattle.text.proofs.Boundary as characters
 use Rattle.text.proofs.WellFormed as decoding
 use Rattle.text.specs.Number.{parsed}
+use Rattle.text.specs.Words.{trimStart}
 use Rattle.buffer.specs.Decimal.{decimal}
 use Rattle.message_texts.proofs.Decimals as decimals
 use Rattle.tape.specs.Nodes.{Node, count, nodeAt, kindAt, startAt, lenAt, linkAt}
@@ -38,12 +39,14 @@ use Rattle.table.specs.Entries.{Entry}
 use Rattle.cursor.specs.Names.{nameOf}
 use Rattle.cursor.specs.Info.{infoAt}
 use Rattle.numbers.specs.Label.{baseLen, isGlued, labelOf, splits, numbered}
+use Rattle.numbers.specs.Verse.{versePart}
 use Rattle.numbers.proofs.WellFormed as labels
 use Rattle.findings.specs.Finding.{Finding}
 use Rattle.findings.specs.Written.{wholeRecords, room, encode, findingsIn}
 use Rattle.definition.specs.State.{Milestone, nodeOf}
 use Rattle.definition.specs.Milestones.{Fits, baseOf, visits, marksBy, marks, freeStarts, takenFrom}
 use Rattle.definition.specs.Document.{walked, running, findingsBy, findings, unclosedOf, isUnclosed, those, Beginning}
+use Rattle.definition.specs.Base.{baseFindings, isReadable}
 use Rattle.definition.specs.Account.{visitedStarts, visitedEnds, pairsOf, mismatchesOf}
 use Rattle.definition.specs.Outcome.{Lent, refusal, listOf, checkedOf, answer, listAfter, seenAfter, openAfter, cleared, noStart, repeated}
 use Rattle.definition.specs.declared.OpenStart.{OpenStart}
@@ -55,6 +58,7 @@ use Rattle.definition.proofs.Unclosed as unclosed
 use Rattle.definition.proofs.Pair as pair
 use Rattle.definition.proofs.Untaken as untaken
 use Rattle.definition.proofs.Paired as paired
+use Rattle.definition.proofs.Unreadable as unreadable
 use Rattle.definition.proofs.Counted as counted
 use Rattle.definition.proofs.Worked as worked
 use Rattle.validate.specs.Entry.{answerOf}
@@ -63,7 +67,7 @@ use Rattle.validate.proofs.Answer as answers
 use Rattle.validate.proofs.check as entry
 use Rattle.validate.proofs.Lists as lists
 use Rattle.messages.specs.Message.{requestOf, messageText}
-use Rattle.text.specs.Pick.{AllOf}
+use Rattle.text.specs.Pick.{AllOf, cut}
 use Rattle.messages.proofs.HasMessage as message
 use Rattle.listing.specs.Lines.{lineAndColumn}
 use Rattle.listing.specs.Columns.{columnAt, lineBefore, outside80BF, howMany}
@@ -92,9 +96,11 @@ use Rattle.tally.proofs.Total as totals
 use Rattle.trial_items.specs.Items as items
 use Rattle.trial_items.proofs.Settled as settled
 use Rattle.theorems.specs.Conditions.{Condition}
-use Rattle.theorems.specs.ListingExample.{tableFile, output, greekSource, greekNodes, greekOutput}
+use Rattle.theorems.specs.ListingExample.{tableFile, output, greekSource, greekNodes, greekOutput, unreadableSource, unreadableNodes, unreadableOutput}
+use Rattle.theorems.specs.Readings.{ReadingIs}
 use Rattle.theorems.proofs.Composed as composed
 use Rattle.theorems.proofs.Printed as printed
+use Rattle.theorems.proofs.Readings as readings
 use Rattle.refusals.specs.Refusal.{Refusal, refuse, nodeListTooShort}
 
 -- ---- What `validate::check` promises
@@ -309,7 +315,7 @@ written-words l none-given = lists.written-words l none-given
 pub finding-has-message : (l : Lent) → refusal l ≡ none → AllOf (λ (f : Finding). (text : List ℕ) × (messageText (l .table) (l .source) (l .tape) (requestOf f) ≡ some text)) (listOf l)
 finding-has-message l none-given = message.finding-has-message l none-given
 
--- "Tally gives 35 counts by code."
+-- "Tally gives 35 counts by code."; document 02, K6: "Tally has 36 counts".
 -- The counts of a list that number 11 does not turn back sum to its number of records.
 pub tally-sums : (words : List ℕ) → tallyRefusal words ≡ none → sum (tallyOf words) ≡ wholeRecords words
 tally-sums words none-given = sums.tally-sums words none-given
@@ -423,6 +429,26 @@ read-has-room t s nodes place small room given = outputs.has-room t s nodes plac
 -- Each of 53 texts gives the rows, or the refusal, that is written beside it.
 pub read-examples : reader-examples.resultsOf reader-examples.readExamples ≡ reader-examples.wantedResults reader-examples.readExamples
 read-examples = reader-settled.read-examples
+
+-- ---- Verse numbers that can't be read (document 02, K6)
+
+-- "The part reading shall answer three ways: read, no digits, too large."
+-- Each answer is given exactly where it says so: the three exclude each other.
+pub part-readings : (s : List ℕ) → ReadingIs (cut (trimStart s) s) (versePart s)
+part-readings s = readings.part-readings s
+
+-- "Against the Rust, lists are compared without code 35".
+-- Without it the list is the one by document 01's rules.
+pub without-unreadable : (table : List ℕ) (f : Forest) → those isReadable (findings table f) ≡ baseFindings table f
+without-unreadable table f = unreadable.without-unreadable table f
+
+-- So are the words that the check writes, where the list isn't cut.
+pub without-unreadable-words : (l : Lent) → refusal l ≡ none → checkedOf l .cut ≡ false → those isReadable (findingsIn (take (8 * checkedOf l .total) (listAfter l))) ≡ baseFindings (l .table) (top (l .source) (l .tape))
+without-unreadable-words l none-given whole = ap (those isReadable) (lists.uncut-words l none-given whole) ∙ without-unreadable (l .table) (top (l .source) (l .tape))
+
+-- A document with both forms, by computation.
+pub listing-unreadable : listing tableFile unreadableSource (examples.tapeOf unreadableNodes) ≡ unreadableOutput
+listing-unreadable = printed.listing-unreadable
 
 -- ---- Examples
 

@@ -719,30 +719,30 @@ messages-no-end e = eqb-false 0 37 refl (ap (wordIn 0) (e ∙ messages-right .3)
 
 -- ---- tally::tally
 
--- a record whose severity is over 2, and one whose code is over 34
+-- a record whose severity is over 2, and one whose code is over 35
 abbrev badSeverity : List ℕ
 badSeverity = 3 ∷ 16 ∷ 13 ∷ 5 ∷ 5 ∷ 0 ∷ 0 ∷ 0 ∷ []
 
 abbrev badCode : List ℕ
-badCode = 0 ∷ 35 ∷ 13 ∷ 5 ∷ 5 ∷ 0 ∷ 0 ∷ 0 ∷ []
+badCode = 0 ∷ 36 ∷ 13 ∷ 5 ∷ 5 ∷ 0 ∷ 0 ∷ 0 ∷ []
 
 -- the right counts of a record with the code 16: its count stands at 16
-tally-right : countsAfter words5 (repeated 9 35) ≡ set (repeated 0 35) 16 1
+tally-right : countsAfter words5 (repeated 9 36) ≡ set (repeated 0 36) 16 1
 unfolding tallyRefusal firstBad withCode countsFrom over repeated
 tally-right = refl
 
 -- a finding that is not counted
-tally-nothing : repeated 0 35 ≡ countsAfter words5 (repeated 9 35) → ⊥
+tally-nothing : repeated 0 36 ≡ countsAfter words5 (repeated 9 36) → ⊥
 unfolding repeated
 tally-nothing e = eqb-false 0 1 refl (ap (wordIn 16) (e ∙ tally-right))
 
 -- a count in the wrong place
-tally-elsewhere : set (repeated 0 35) 15 1 ≡ countsAfter words5 (repeated 9 35) → ⊥
+tally-elsewhere : set (repeated 0 36) 15 1 ≡ countsAfter words5 (repeated 9 36) → ⊥
 unfolding repeated
 tally-elsewhere e = eqb-false 1 0 refl (ap (wordIn 15) (e ∙ tally-right))
 
 -- counts that are added to what the list held
-tally-added : set (repeated 9 35) 16 10 ≡ countsAfter words5 (repeated 9 35) → ⊥
+tally-added : set (repeated 9 36) 16 10 ≡ countsAfter words5 (repeated 9 36) → ⊥
 unfolding repeated
 tally-added e = eqb-false 10 1 refl (ap (wordIn 16) (e ∙ tally-right))
 
@@ -766,7 +766,7 @@ unfolding tallyRefusal firstBad
 tally-bad-length e = eqb-false 0 1 refl (ap turnedBack e)
 
 -- a refusal that writes
-tally-refused-writes : repeated 0 35 ≡ countsAfter badCode (repeated 9 35) → ⊥
+tally-refused-writes : repeated 0 36 ≡ countsAfter badCode (repeated 9 36) → ⊥
 unfolding tallyRefusal firstBad repeated
 tally-refused-writes e = eqb-false 0 9 refl (ap (wordIn 0) e)
 

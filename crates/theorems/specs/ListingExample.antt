@@ -1,4 +1,4 @@
--- Document 01, "Listing": the example's table and its whole output. Source and nodes are those of `example1`. And a document with Greek, whose column is document 02's (K3).
+-- Document 01, "Listing": the example's table and its whole output. Source and nodes are those of `example1`. And two documents of document 02's: one with Greek (K3), one with verse numbers that can't be read (K6).
 use mathlib.Core.List.{List, [], _∷_, _++_}
 use Prim.Native.Nat.{ℕ}
 use Rattle.text.specs.Literal.{ascii}
@@ -49,3 +49,28 @@ unfoldable pub greekOutput : List ℕ
 greekOutput =
     ascii "verdict=checked\nerrors=0\nwarnings=1\ninfos=0\nfindings=1\n"
     ++ ascii "severity=warning\ncode=InvalidVerseSequence\nline=4\ncolumn=12\nmessage=expected verse 2 but found 3\n"
+
+-- `abc` has no number and 4294967296 is too large; the end of `1-x` isn't read and lets its start serve
+unfoldable pub unreadableSource : List ℕ
+unreadableSource = ascii "\\id GEN\n\\c 1\n\\p\n\\v abc\n\\v 4294967296\n\\v 1-x\n\\v 2"
+
+unfoldable pub unreadableNodes : List Row
+unreadableNodes =
+    row rootKind 0 0 48 11
+    ∷ row markerOpenKind 0 0 3 3
+    ∷ row textKind 0 3 5 0
+    ∷ row blockEndKind 0 8 0 0
+    ∷ row chapterKind 1 8 5 1
+    ∷ row markerOpenKind 3 13 2 10
+    ∷ row verseKind 2 16 7 0
+    ∷ row verseKind 2 23 14 0
+    ∷ row verseKind 2 37 7 1
+    ∷ row verseKind 2 44 4 2
+    ∷ row blockEndKind 3 48 0 0
+    ∷ []
+
+unfoldable pub unreadableOutput : List ℕ
+unreadableOutput =
+    ascii "verdict=checked\nerrors=0\nwarnings=2\ninfos=0\nfindings=2\n"
+    ++ ascii "severity=warning\ncode=UnreadableVerseNumber\nline=4\ncolumn=1\nmessage=verse label abc has no number\n"
+    ++ ascii "severity=warning\ncode=UnreadableVerseNumber\nline=5\ncolumn=1\nmessage=verse label 4294967296 is too large\n"

@@ -5,7 +5,8 @@ use mathlib.Core.List.{List, [], _∷_}
 use mathlib.Core.Option.{Option, some, none}
 use Rattle.text.specs.Literal.{ascii}
 use Rattle.text.specs.Pick.{pick}
-use Rattle.numbers.specs.Verse.{Position, versePart}
+use Rattle.numbers.specs.Verse.{Position, PartReading, versePart}
+use Rattle.numbers.specs.Verse as reading
 use Rattle.rows.specs.Cells.{ColumnRange, cellColumns}
 use Rattle.findings.specs.Finding.{Kind, infoSeverity}
 use Rattle.findings.specs.Codes.{invalidAttributes, emptyValueForm}
@@ -27,9 +28,10 @@ abbrev pub verse : ℕ → Option ℕ → Position
 verse n letter = record { number = n; letter = letter }
 
 -- a label where a position is expected: the check of a verse gives InvalidVerseSequence exactly if the label breaks the sequence; a label that can't be read is neither in order nor out of it
-abbrev pub orderBy : Option Position → Position → Outcome
-orderBy none expected = unread
-orderBy (some p) expected = pick (breaks (some p) expected) finding passes
+abbrev pub orderBy : PartReading → Position → Outcome
+orderBy (reading.position p) expected = pick (breaks (reading.position p) expected) finding passes
+orderBy reading.noDigits expected = unread
+orderBy reading.tooLarge expected = unread
 
 abbrev pub order : Position → List ℕ → Outcome
 order expected label = orderBy (versePart label) expected

@@ -1,7 +1,7 @@
-//! Compares the whole check, its texts, its tally and its mark with the published `validate` and
-//! with the documents' refusals, on generated documents, every small document and the documents by
-//! hand: answers, findings, texts and every element of every lent list. Exit status 1 at the first
-//! difference, and where a form or a refusal was never reached.
+//! Compares the whole check, its texts, its tally and its mark with the published `validate`, with
+//! the documents' refusals and with document 02's findings of code 35, on generated documents, every
+//! small document and the documents by hand: answers, findings, texts and every element of every lent
+//! list. Exit status 1 at the first difference, and where a form or a refusal was never reached.
 
 use std::process::ExitCode;
 use std::thread;
@@ -10,7 +10,7 @@ use std::time::Instant;
 use oracle::arguments::numbers;
 use oracle::document::{Document, kind};
 use oracle::exhaustive::{
-    every_nesting, every_pair_of_bases, every_pair_of_labels, every_pair_of_spans,
+    every_label, every_nesting, every_pair_of_bases, every_pair_of_labels, every_pair_of_spans,
     every_row_of_milestones, every_tape,
 };
 use oracle::faults;
@@ -19,7 +19,8 @@ use oracle::published::overflow_is_noticed;
 use oracle::refusals::DEEPEST;
 use oracle::samples::{self, Builder, entry};
 use oracle::whole::{
-    Comparison, Counts, Source, all_threads, compare_seeds, expect_all_reached, failure_message,
+    Comparison, Counts, Source, all_threads, compare_lists, compare_seeds, expect_all_reached,
+    failure_message,
 };
 
 /// Stack of the thread that checks the deepest document.
@@ -31,6 +32,8 @@ const LONGEST_BASE: usize = 34;
 const LABELLED: usize = 130;
 /// The longest row of milestones of which there are all.
 const LONGEST_ROW: usize = 5;
+/// The most symbols of a verse's label of which there are all.
+const SYMBOLS: usize = 4;
 /// For so many generated documents there is one more of many milestones.
 const PER_QUOTED: u64 = 100;
 /// So many generated documents reach every form and every refusal.
@@ -91,6 +94,11 @@ fn milestones() -> Result<Counts, String> {
     each(|visit| every_row_of_milestones(LONGEST_ROW, visit))
 }
 
+/// A verse of every short label.
+fn labels() -> Result<Counts, String> {
+    each(|visit| every_label(SYMBOLS, visit))
+}
+
 /// A verse inside as many markers as may nest, checked on a small stack.
 fn deepest() -> Result<Counts, String> {
     let check = || {
@@ -111,12 +119,23 @@ fn deepest() -> Result<Counts, String> {
     run.join().map_err(|_| "a worker panicked")?
 }
 
+/// The lists of so many generated documents, and nothing else of them.
+fn lists_alone(seed: u64, lists: u64, threads: usize) -> Result<(), String> {
+    let sum = compare_lists(generate, seed, lists, threads)?;
+    let end = seed + lists - 1;
+    println!("lists alone, seeds {seed} to {end}: {}", sum.line());
+    print!("{}", sum.reached.report());
+    Ok(())
+}
+
 fn run() -> Result<(), String> {
     if !overflow_is_noticed() {
         return Err("build with --profile compare: overflow must be noticed".to_string());
     }
     let (mut documents, mut seed, mut tokens, mut threads) = (100_000, 1, 2, all_threads());
+    let mut lists = 0;
     numbers(&mut [
+        ("--lists", &mut lists),
         ("--documents", &mut documents),
         ("--seed", &mut seed),
         ("--tokens", &mut tokens),
@@ -124,11 +143,15 @@ fn run() -> Result<(), String> {
     ])?;
     faults::report_seeds();
     let began = Instant::now();
+    if lists > 0 {
+        return lists_alone(seed, lists, threads as usize);
+    }
     println!("by hand: {}", by_hand()?.line());
     println!("deepest, on a stack of 256 KiB: {}", deepest()?.line());
     println!("every small document: {}", small(tokens as usize)?.line());
     println!("pairs of all lengths: {}", pairs()?.line());
     println!("short rows of milestones: {}", milestones()?.line());
+    println!("short labels: {}", labels()?.line());
     let compare_some = |document: fn(u64) -> Document, count: u64| {
         let source = Source { document, lengths };
         compare_seeds(source, seed, count, threads as usize)

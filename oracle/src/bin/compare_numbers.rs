@@ -1,15 +1,16 @@
-//! Compares the library's reading and ordering of verse positions, and the columns of cells, with the published functions.
-//! Exit status 1 at the first difference.
+//! Compares the library's reading and ordering of verse positions, and the columns of cells, with the published functions, and
+//! the three answers of the reading with document 02's, plainly. Exit status 1 at the first difference.
 
 use std::process::exit;
 
 use oracle::arguments::numbers;
 use oracle::differ::same;
 use oracle::rng::Rng;
+use oracle::unreadable::{Part, part, range_end};
 use oracle::{library, parts};
 
 /// What labels are made of.
-const PIECES: [&str; 30] = [
+const PIECES: [&str; 38] = [
     "0",
     "1",
     "2",
@@ -19,6 +20,14 @@ const PIECES: [&str; 30] = [
     "429496729",
     "4294967295",
     "4294967296",
+    "4294967297",
+    "18446744073709551617",
+    "0000000000",
+    "/",
+    ":",
+    "+5",
+    "x",
+    "\n",
     "a",
     "b",
     "y",
@@ -74,6 +83,53 @@ const LETTERS: [u8; 7] = [0, 1, b'`', b'a', b'b', b'z', b'{'];
 
 fn label(rng: &mut Rng) -> String {
     (0..rng.below(6)).map(|_| rng.pick(&PIECES)).collect()
+}
+
+/// The position that an answer has.
+fn read(part: Part) -> Option<parts::Position> {
+    match part {
+        Part::Read(position) => Some(position),
+        Part::NoDigits | Part::TooLarge => None,
+    }
+}
+
+/// The answers about a label's start and its end, both of which are given back.
+fn compare_label(label: &str) -> (Part, Part) {
+    let (start, end) = (part(label), range_end(label));
+    let published = (
+        parts::parse_verse_part(label),
+        parts::parse_verse_range_end(label),
+    );
+    let plain = (read(start), read(end));
+    same("the plain part reading", &label, plain, published);
+    let s = label.as_bytes();
+    same(
+        "parse_verse_part",
+        &label,
+        library::parse_verse_part(s),
+        library::part_words(start),
+    );
+    same(
+        "parse_verse_range_end",
+        &label,
+        library::parse_verse_range_end(s),
+        library::part_words(end),
+    );
+    (start, end)
+}
+
+/// Every label of up to three pieces.
+fn every_label() -> u64 {
+    let mut labels = 0;
+    for one in PIECES {
+        for two in PIECES {
+            for three in PIECES {
+                compare_label(&format!("{one}{two}{three}"));
+                labels += 1;
+            }
+        }
+    }
+    labels
 }
 
 fn cell(rng: &mut Rng) -> String {
@@ -136,8 +192,10 @@ fn main() {
     }
     let pairs = every_order();
     let positions = every_next();
+    let small = every_label();
     let mut rng = Rng::new(seed);
-    let (mut read, mut numbered) = (0u64, 0u64);
+    let (mut ordered, mut numbered) = (0u64, 0u64);
+    let (mut no_digits, mut too_large) = (0u64, 0u64);
     let mut expected = (1, 0);
     for _ in 0..labels {
         let cell = cell(&mut rng);
@@ -150,38 +208,26 @@ fn main() {
         );
         numbered += u64::from(columns.is_some());
         let label = label(&mut rng);
-        let s = label.as_bytes();
-        let start = parts::parse_verse_part(&label);
-        same(
-            "parse_verse_part",
-            &label,
-            library::parse_verse_part(s),
-            start,
-        );
-        let end = parts::parse_verse_range_end(&label);
-        same(
-            "parse_verse_range_end",
-            &label,
-            library::parse_verse_range_end(s),
-            end,
-        );
+        let (start, end) = compare_label(&label);
+        no_digits += u64::from(start == Part::NoDigits);
+        too_large += u64::from(start == Part::TooLarge);
         // Sums past 32 bits are where document 01 departs from the published code.
-        let Some(start) = start.filter(|start| start.0 < u32::MAX) else {
+        let Some(start) = read(start).filter(|start| start.0 < u32::MAX) else {
             continue;
         };
-        read += 1;
+        ordered += 1;
         same(
             "is_valid_verse_sequence",
             &(expected, start),
             library::is_valid_verse_sequence(expected, start),
             parts::is_valid_verse_sequence(expected, start),
         );
-        let last = end.unwrap_or(start);
+        let last = read(end).unwrap_or(start);
         if last.0 < u32::MAX - 1 {
             expected = next(last);
         }
     }
     println!(
-        "numbers: no difference on {pairs} pairs of positions, {positions} positions and the next ones, and {labels} labels from seed {seed}, {read} of them read and put in order, and on as many names of cells, {numbered} of them with columns"
+        "numbers: no difference on {pairs} pairs of positions, {positions} positions and the next ones, {small} labels of up to three pieces, and {labels} labels from seed {seed}, {no_digits} of them without digits, {too_large} too large and {ordered} read and put in order, and on as many names of cells, {numbered} of them with columns"
     );
 }

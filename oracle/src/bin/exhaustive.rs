@@ -1,15 +1,17 @@
-//! Refuses every small document or runs the published `validate` on it, and prints what they reached.
+//! Refuses every small document or makes the list that is owed for it, and prints what they reached.
 
 use std::process::ExitCode;
 use std::time::Instant;
 
 use oracle::coverage::Coverage;
 use oracle::document::Document;
-use oracle::exhaustive::{every_nesting, every_tape};
+use oracle::exhaustive::{every_label, every_nesting, every_tape};
 use oracle::published::overflow_is_noticed;
 
 /// The most nodes of a tape.
 const NODES: usize = 4;
+/// The most symbols of a verse's label.
+const SYMBOLS: usize = 4;
 
 fn counted(name: &str, each: impl FnOnce(&mut dyn FnMut(&Document))) -> Result<(), String> {
     let began = Instant::now();
@@ -36,7 +38,8 @@ fn run() -> Result<(), String> {
         Some(text) => text.parse().map_err(|_| "usage: exhaustive [TOKENS]")?,
     };
     counted("every tape", |visit| every_tape(NODES, visit))?;
-    counted("every nesting", |visit| every_nesting(tokens, visit))
+    counted("every nesting", |visit| every_nesting(tokens, visit))?;
+    counted("every label", |visit| every_label(SYMBOLS, visit))
 }
 
 fn main() -> ExitCode {

@@ -1,4 +1,4 @@
-//! Generates documents, refuses each or runs the published `validate` on it, and prints what they reached.
+//! Generates documents, refuses each or makes the list that is owed for it, and prints what they reached.
 
 use std::process::ExitCode;
 use std::time::Instant;

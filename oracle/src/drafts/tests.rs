@@ -164,5 +164,5 @@ fn the_first_texts_are_the_recorded_ones() {
             sum = (sum ^ u64::from(*byte)).wrapping_mul(0x0000_0100_0000_01B3);
         }
     }
-    assert_eq!(sum, 6271745874888613339);
+    assert_eq!(sum, 4339455104788169350);
 }

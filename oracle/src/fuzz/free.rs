@@ -40,7 +40,7 @@ const NAMES: [&str; 30] = [
 ];
 
 /// Pieces of a source. A span begins and ends between two of them.
-const PIECES: [&str; 64] = [
+const PIECES: [&str; 71] = [
     "\\id",
     " GEN",
     " gen\n",
@@ -60,6 +60,13 @@ const PIECES: [&str; 64] = [
     "\\v",
     "\\v 0 ",
     "\\v 4294967295",
+    "\\v 4294967296 ",
+    "\\v04294967297a",
+    "\\v x",
+    "\\vx",
+    "\\v +5 ",
+    "\\v -3",
+    "\\v 1-x ",
     "\\vé",
     "\\p",
     "\\b",

@@ -56,6 +56,59 @@ const LARGE: [&str; 6] = [
     "4294967294z",
 ];
 
+/// Beginnings of labels that have no digit there; `/` and `:` stand beside the digits.
+const NO_DIGIT: [&str; 28] = [
+    "x",
+    "abc",
+    "v",
+    "z",
+    "A",
+    "+",
+    "+5",
+    "-",
+    "--",
+    "-3",
+    "/",
+    "/9",
+    ":",
+    ":1",
+    ".1",
+    ",",
+    "(3)",
+    "\"1\"",
+    "'",
+    "{",
+    "`",
+    "é",
+    "٣",
+    "３",
+    "²",
+    "\u{200B}",
+    "\u{FEFF}7",
+    "|5",
+];
+
+/// Numbers that are too large: at the borders of 10 and 11 digits, and such that only one is left of them in 32, 64 or 128 bits.
+const TOO_LARGE: [&str; 14] = [
+    "4294967296",
+    "4294967297",
+    "4294967300",
+    "5000000000",
+    "9999999999",
+    "10000000000",
+    "42949672950",
+    "8589934593",
+    "18446744073709551615",
+    "18446744073709551616",
+    "18446744073709551617",
+    "99999999999999999999",
+    "340282366920938463463374607431768211457",
+    "100000000000000000000000000000000000000000",
+];
+
+/// What may stand behind a part that isn't read.
+const BEHIND: [&str; 10] = ["", "", "", "", "-3", "a", "-", "-x", "1", "é"];
+
 /// What a document has counted so far.
 pub struct Counter {
     /// The chapter that comes next.
@@ -106,22 +159,27 @@ impl Counter {
         }
         let next = self.verse;
         match rng.below(100) {
-            0..55 => self.counted(next, String::new()),
-            55..62 => {
+            0..47 => self.counted(next, String::new()),
+            47..55 => self.unread(rng),
+            55..59 => {
+                let start = self.counted(next, String::new());
+                format!("{start}-{}", self.unread(rng))
+            }
+            59..64 => {
                 self.letter = rng.pick(b"aaaabcyz");
                 format!("{next}{}", self.letter as char)
             }
-            62..67 => {
+            64..68 => {
                 let end = next.saturating_add(rng.from_to(0, 3) as u32);
                 self.counted(end, format!("{next}-"))
             }
-            67..69 => format!("{}-", self.counted(next, String::new())),
-            69..71 => {
+            68..70 => format!("{}-", self.counted(next, String::new())),
+            70..72 => {
                 self.letter = b'b';
                 self.verse = next.saturating_add(1);
                 format!("{next}-{}b", self.verse)
             }
-            71..75 => format!("{}a", next.saturating_sub(1)),
+            72..75 => format!("{}a", next.saturating_sub(1)),
             75..78 => next.saturating_sub(1).to_string(),
             78..82 => {
                 let later = next.saturating_add(rng.from_to(1, 3) as u32);
@@ -132,6 +190,22 @@ impl Counter {
             _ if rng.percent(60) => rng.pick(&LARGE).to_string(),
             _ => next.to_string(),
         }
+    }
+
+    /// A label of which nothing is read, at its start or behind a `-`: it has no digit there, or its number is too large, at
+    /// times by so much that the next one is left of it in 32 or 64 bits.
+    fn unread(&self, rng: &mut Rng) -> String {
+        let behind = rng.pick(&BEHIND);
+        if rng.percent(50) {
+            return format!("{}{behind}", rng.pick(&NO_DIGIT));
+        }
+        let zeros = "0".repeat(rng.weighted(&[6, 1, 0, 1]));
+        let number = match rng.below(6) {
+            0 => (1 << 32) + u128::from(self.verse),
+            1 => (1 << 64) + u128::from(self.verse),
+            _ => return format!("{zeros}{}{behind}", rng.pick(&TOO_LARGE)),
+        };
+        format!("{zeros}{number}{behind}")
     }
 
     /// The label of a number that counts, after `before`.
@@ -158,5 +232,54 @@ fn chapter_label(rng: &mut Rng, number: u32) -> String {
         89..91 => format!("{number}a"),
         91..95 => rng.below(4).to_string(),
         _ => rng.pick(&ODD).to_string(),
+    }
+}
+
+#[cfg(test)]
+mod tests {
+    use super::*;
+    use crate::unreadable::{Part, part, range_end};
+
+    /// How many of these labels each answer of a reading has: read, no digits, too large.
+    fn answers(labels: &[String], reading: fn(&str) -> Part) -> [usize; 3] {
+        let mut counts = [0; 3];
+        for label in labels {
+            counts[match reading(label) {
+                Part::Read(_) => 0,
+                Part::NoDigits => 1,
+                Part::TooLarge => 2,
+            }] += 1;
+        }
+        counts
+    }
+
+    #[test]
+    fn labels_are_often_not_read() {
+        let rng = &mut Rng::new(1);
+        let mut counter = Counter::new(rng);
+        let labels: Vec<String> = (0..10_000).map(|_| counter.verse(rng)).collect();
+        let [_, no_digits, too_large] = answers(&labels, part);
+        assert!(
+            no_digits > 500 && too_large > 400,
+            "{no_digits} {too_large}"
+        );
+        let is_read = |label: &&String| matches!(part(label), Part::Read(_));
+        let read: Vec<String> = labels.iter().filter(is_read).cloned().collect();
+        let [_, no_digits, too_large] = answers(&read, range_end);
+        assert!(
+            no_digits > 300 && too_large > 150,
+            "{no_digits} {too_large}"
+        );
+    }
+
+    #[test]
+    fn what_isnt_read_is_of_both_sorts() {
+        let rng = &mut Rng::new(2);
+        let counter = Counter::new(rng);
+        let labels: Vec<String> = (0..1_000).map(|_| counter.unread(rng)).collect();
+        let [read, no_digits, too_large] = answers(&labels, part);
+        assert_eq!(read, 0);
+        assert!(no_digits > 400 && too_large > 400);
+        assert!(labels.contains(&"4294967297".to_string()));
     }
 }

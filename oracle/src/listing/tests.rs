@@ -1,7 +1,7 @@
 use super::*;
 use crate::document::kind;
 use crate::generate::partly_framed;
-use crate::published::try_validate;
+use crate::published::{Validated, try_validate};
 use crate::samples::{self, Builder};
 
 #[test]

@@ -29,6 +29,7 @@ pub fn shaped() -> Vec<Document> {
     list.extend(leaves_before_a_number());
     list.extend(odd_names());
     list.extend(milestones_of_one_entry());
+    list.push(glued_labels());
     list
 }
 
@@ -111,6 +112,27 @@ fn odd_names() -> Vec<Document> {
         builder.under(&TABLE)
     };
     texts.iter().map(document).collect()
+}
+
+/// What a verse's name has beyond its table name is its label, whether a number begins it or not; with every finding of a verse.
+fn glued_labels() -> Document {
+    let mut builder = Builder::default();
+    builder.open(W, "\\w");
+    for text in [
+        "\\v04294967296",
+        "\\vx 1",
+        "\\v+1",
+        "\\v\u{200B}1",
+        "\\v-",
+        "\\v4294967296-2 3",
+        "\\v1-x",
+        "\\v2-04294967299",
+        "\\x3",
+    ] {
+        builder.leaf(kind::VERSE, V, text, 0);
+    }
+    builder.leaf(kind::VERSE, u16::MAX, "\\vx y", 0);
+    builder.under(&TABLE)
 }
 
 /// Bases come from the source: one entry serves starts and ends of any base.

@@ -76,6 +76,22 @@ fn texts_that_show_a_label() {
         (request(15, 2, 4, 0, 0), None),
         (request(15, 1, 12, 0, 0), None),
         (
+            request(35, 0, 5, 0, 0),
+            Some("verse label 3b has no number"),
+        ),
+        (
+            request(35, 1, 4, u64::MAX, u64::MAX),
+            Some("verse label 07 is too large"),
+        ),
+        (request(35, 2, 5, 0, 0), None),
+        (request(35, 0, 13, 0, 0), None),
+        (request(35, 1, 13, 0, 0), None),
+        (request(35, 0, 6, 0, 0), None),
+        (request(35, 1, 12, 0, 0), None),
+        (request(35, 0, 0, 0, 0), None),
+        (request(35, 0, 21, 0, 0), None),
+        (request(36, 0, 5, 0, 0), None),
+        (
             request(34, 0, 5, 0, 0),
             Some("\\v3b needs a space before its number; read as \\v 3b"),
         ),

@@ -172,7 +172,7 @@ impl Measured {
     fn library_round(&mut self, documents: &[Document], lists: &mut Lists) {
         if self.library.is_wanted() {
             let (seconds, total) = lists.run(documents);
-            assert_eq!(total, self.findings, "as many as the Rust has");
+            assert_eq!(total, self.findings, "as many as are owed");
             self.library.add(seconds);
         }
     }
@@ -181,7 +181,7 @@ impl Measured {
         let wanted = self.with_texts.as_mut().filter(|best| best.is_wanted());
         if let Some(best) = wanted {
             let (seconds, total) = lists.run_with_texts(documents);
-            assert_eq!(total, self.findings, "as many as the Rust has");
+            assert_eq!(total, self.findings, "as many as are owed");
             best.add(seconds);
         }
     }

@@ -1,14 +1,14 @@
-//! A report's findings beside the published ones.
+//! A report's findings beside the published ones and those of document 02.
 
 use harkoxin::{Finding, Position, Report};
 
 use super::{FINDING_WORDS, FIRST, NODE};
-use crate::coverage::code_name;
 use crate::differ::agree;
 use crate::document::{Document, kind};
 use crate::listing::place;
 use crate::published::{Found, form_and_numbers};
 use crate::tallies::tally;
+use crate::unreadable::{self, place as place_of, unreadable};
 
 /// The words of a report's findings, as the check writes them over a list.
 pub fn words_of(report: &Report) -> Vec<u64> {
@@ -58,7 +58,7 @@ fn is_about(document: &Document, words: &[u64; FINDING_WORDS]) -> bool {
     let kinds: &[u8] = match words[1] {
         7 => &[kind::TEXT],
         9 | 10 | 18 => &[kind::CHAPTER],
-        11 | 12 | 19 | 20 => &[kind::VERSE],
+        11 | 12 | 19 | 20 | 35 => &[kind::VERSE],
         15 | 34 => &[kind::CHAPTER, kind::VERSE],
         17 | 22 | 32 => &[kind::ATTRIBUTE],
         _ => &[kind::MARKER_OPEN],
@@ -93,19 +93,75 @@ pub fn same_nodes(document: &Document, list: &[u64]) -> Result<(), String> {
     Ok(())
 }
 
-/// Findings and their texts, in order and number.
-pub fn same_findings(report: &Report, list: &[u64], theirs: &[Found]) -> Result<(), String> {
-    agree("findings", report.findings().len(), theirs.len())?;
-    let (records, _) = list.as_chunks::<FINDING_WORDS>();
-    for ((ours, words), found) in report.findings().zip(records).zip(theirs) {
+fn is_unreadable(code: u64) -> bool {
+    code == u64::from(unreadable::CODE)
+}
+
+/// The findings without those of code 35, and their texts, in order and number, are the published ones.
+pub fn same_findings(report: &Report, theirs: &[Found]) -> Result<(), String> {
+    let ours = report.findings();
+    let ours: Vec<_> = ours
+        .filter(|finding| !is_unreadable(finding.code().index() as u64))
+        .collect();
+    agree("findings without code 35", ours.len(), theirs.len())?;
+    for (ours, found) in ours.iter().zip(theirs) {
+        let words = words(ours);
         let mut expected = published_words(found)?;
         expected[NODE] = words[NODE];
         if found.code == 32 {
             expected[FIRST] = words[FIRST];
         }
-        agree("a finding", *words, expected)?;
+        agree("a finding", words, expected)?;
         agree("a text", ours.message(), found.message.as_str())?;
-        agree("a code", ours.code().as_str(), code_name(found.code))?;
+    }
+    Ok(())
+}
+
+/// The findings of code 35 are those of the plain rule, node included, in its order. Where the published code has a list, before
+/// each of them stand as many others as the published code gives before that place.
+pub fn same_unreadable(document: &Document, list: &[u64], has_places: bool) -> Result<(), String> {
+    let mut given = Vec::new();
+    let mut others = 0;
+    for words in list.as_chunks::<FINDING_WORDS>().0 {
+        match is_unreadable(words[1]) {
+            true => given.push((*words, others)),
+            false => others += 1,
+        }
+    }
+    let plain = unreadable(document);
+    agree("findings of code 35", given.len(), plain.len())?;
+    for ((words, others), verse) in given.into_iter().zip(plain) {
+        agree("a finding of code 35", words, verse.words(document))?;
+        if has_places {
+            let place = place_of(document, verse.node)?;
+            agree("the place of a finding of code 35", others, place)?;
+        }
+    }
+    Ok(())
+}
+
+/// Findings of code 35 stand between those of the same node that the documents have before them, of codes 12 and 20, and those that
+/// they have behind them, of codes 34 and 15.
+pub fn between_its_own(list: &[u64]) -> Result<(), String> {
+    let findings = list.as_chunks::<FINDING_WORDS>().0;
+    for (k, words) in findings.iter().enumerate() {
+        if !is_unreadable(words[1]) {
+            continue;
+        }
+        let of_node = |other: &&[u64; FINDING_WORDS]| other[NODE] == words[NODE];
+        let before = findings[..k]
+            .iter()
+            .filter(of_node)
+            .all(|it| [12, 20].contains(&it[1]));
+        let behind = findings[k + 1..]
+            .iter()
+            .filter(of_node)
+            .all(|it| [34, 15].contains(&it[1]));
+        agree(
+            "the place of a finding of code 35 among its node's",
+            (before, behind),
+            (true, true),
+        )?;
     }
     Ok(())
 }

@@ -77,6 +77,20 @@ pub fn compare_seeds(
     })
 }
 
+/// Compares the list alone of the documents of so many seeds; ends at the first difference.
+pub fn compare_lists(
+    document: fn(u64) -> Document,
+    first: u64,
+    seeds: u64,
+    threads: usize,
+) -> Result<Counts, String> {
+    share_out((first, first + seeds), threads, |comparison, seed| {
+        let document = document(seed);
+        let compared = comparison.compare_list(&document, seed);
+        compared.map_err(|why| failure_message(seed, &document, &why))
+    })
+}
+
 /// As many threads as run at the same time here.
 pub fn all_threads() -> u64 {
     thread::available_parallelism().map_or(1, |count| count.get() as u64)

@@ -109,13 +109,15 @@ fn spans_lie_between_characters() {
 }
 
 #[test]
-fn codes_have_the_published_numbers() {
-    assert_eq!(Code::COUNT, 35);
+fn codes_have_their_numbers() {
+    assert_eq!(Code::COUNT, 36);
     assert_eq!(Code::UnknownMarker.index(), 0);
     assert_eq!(Code::MissingIdMarker.index(), 4);
     assert_eq!(Code::InvalidAttributes.index(), 17);
     assert_eq!(Code::DefaultAttributeNotDefined.index(), 32);
     assert_eq!(Code::MissingSpaceBeforeNumber.index(), 34);
+    assert_eq!(Code::UnreadableVerseNumber.index(), 35);
+    assert_eq!(Code::from_index(36), None);
     for (index, code) in Code::ALL.into_iter().enumerate() {
         assert_eq!(code.index(), index);
         assert_eq!(Code::from_index(index), Some(code));

@@ -1,4 +1,4 @@
-//! The repository's examples, whose listings come from the published `validate`.
+//! The repository's examples, whose listings come from the published `validate` and a plain implementation of the rest.
 
 use std::fmt::Write;
 

@@ -144,7 +144,7 @@ fn texts_of_anything_are_answered() {
     for _ in 0..4_000 {
         let mut list: Vec<u64> = (0..24).map(|_| numbers.word() % 140).collect();
         for finding in list.chunks_exact_mut(FINDING_WORDS) {
-            finding[1] %= 36;
+            finding[1] %= Code::COUNT as u64 + 1;
             finding[4] %= 104;
             finding[5] %= 2;
         }

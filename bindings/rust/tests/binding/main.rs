@@ -11,3 +11,4 @@ mod positions;
 mod raw;
 mod reading;
 mod refusals;
+mod unreadable;

@@ -247,7 +247,7 @@ fn tallies_and_their_refusals() {
     assert_eq!(few, counts[..6]);
 
     let mut bad_code = list.clone();
-    bad_code[8 * 5 + 1] = 35;
+    bad_code[8 * 5 + 1] = Code::COUNT as u64;
     let mut bad_severity = list.clone();
     bad_severity[8 * 29] = 3;
     for (list, place) in [

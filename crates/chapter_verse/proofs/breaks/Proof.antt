@@ -18,6 +18,9 @@ is-valid-verse-sequence-requires c κs =
 enum-told : tie.Need-enum-told
 enum-told c = search needs
 
+enum-told-2 : tie.Need-enum-told-2
+enum-told-2 c = search needs
+
 returns : tie.Need-returns
 returns c =
     let s = c .before .before .before .before in
@@ -27,7 +30,10 @@ returns c =
 returns-2 : tie.Need-returns-2
 returns-2 c = search needs
 
+returns-3 : tie.Need-returns-3
+returns-3 c = search needs
+
 pub breaks-spec : {M : Type 1} → statement M
 breaks-spec =
     tie.close
-    (tie.spec enum-known-read is-valid-verse-sequence-requires enum-told returns returns-2)
+    (tie.spec enum-known-read is-valid-verse-sequence-requires enum-told enum-told-2 returns returns-2 returns-3)

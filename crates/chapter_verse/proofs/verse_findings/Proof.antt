@@ -1,6 +1,6 @@
 -- `chapter_verse::verse_findings` meets its contract.
 -- Assumes nothing.
-use mathlib.Core.Bool.{Bool}
+use mathlib.Core.Bool.{Bool, not, _&&_}
 use denote.Ref.{now}
 use Prim.Native.Nat.{ℕ}
 use mathlib.Core.Path.{_≡_, refl, ap, _∙_}
@@ -9,14 +9,15 @@ use mathlib.Core.Option.{Option}
 use Rattle.tape.specs.Nodes.{Node, nodeAt}
 use Rattle.table.specs.Entries.{Entry, infoOf}
 use Rattle.findings.specs.Finding.{Finding}
+use Rattle.findings.specs.Codes.{unreadableVerseNumber}
 use Rattle.findings.specs.declared.Counts.{Counts}
 use Rattle.definition.specs.State.{WalkState, WalkContext}
-use Rattle.numbers.specs.Verse.{Position}
-use Rattle.definition.specs.Checks.{Check, given, about, isEmpty, breaks, numberForm, verseChecks}
+use Rattle.numbers.specs.Verse.{PartReading, readOf}
+use Rattle.definition.specs.Checks.{Check, given, about, warning, isEmpty, breaks, unread, unreadForm, numberForm, verseChecks}
 use Rattle.state.specs.Inner.{stateOf, countsOf, contextOf}
 use Rattle.chapter_verse.proofs.Givens.{Due, due-start, due-room, due-wrote, due-rest, due-all}
 use Rattle.chapter_verse.proofs.Positions.{low-read}
-use Rattle.chapter_verse.proofs.Checked.{stray, crossing, bareVerse, amiss, is-bare, is-amiss, says-amiss}
+use Rattle.chapter_verse.proofs.Checked.{stray, crossing, bareVerse, amiss, unreadable, is-bare, is-amiss, says-amiss, is-unreadable, says-unreadable}
 use borrow.Author.Needs.{needs}
 use Rattle.chapter_verse.proofs.verse_findings.Statement.{statement}
 use Rattle.chapter_verse.proofs.verse_findings.Tie as tie
@@ -33,6 +34,9 @@ counted3 c = counted2 (c .before .before .before .before)
 abbrev counted4 : tie.After-warn-if2 → tie.After-counts
 counted4 c = counted3 (c .before .before .before .before)
 
+abbrev counted5 : tie.After-unread-finding → tie.After-counts
+counted5 c = counted4 (c .before .before .before .before)
+
 abbrev entry : tie.Start → Option Entry
 entry c = infoOf (c .args .info)
 
@@ -45,9 +49,12 @@ context c = contextOf (c .args .context)
 abbrev state : tie.Start → WalkState
 state c = let a = c .args in stateOf (now (a .source)) (now (a .tape)) [] [] (a .rec)
 
--- the checks after the third, the second and the first
+-- the checks after the fourth, the third, the second and the first
+abbrev last : tie.Start → List Check
+last c = unreadable (entry c) (node c) ∷ numberForm 1 (entry c) (node c)
+
 abbrev one : tie.Start → List Check
-one c = amiss (entry c) (state c) (node c) ∷ numberForm 1 (entry c) (node c)
+one c = amiss (entry c) (state c) (node c) ∷ last c
 
 abbrev two : tie.Start → List Check
 two c = bareVerse (entry c) (node c) ∷ one c
@@ -71,7 +78,7 @@ broken : (c : tie.After-counts) → c .before .before .before .breaks .result �
 broken c =
     let s = root c in
     let b = c .before .before .before .breaks in
-    is-amiss (entry s) (node s) (now (s .args .label)) (s .pre .1 .is-label) (state s) (b .result) (b .ensures ∙ ap (λ (p : Option Position). breaks p (state s .expectedVerse)) (s .pre .2))
+    is-amiss (entry s) (node s) (now (s .args .label)) (s .pre .1 .is-label) (state s) (b .result) (b .ensures ∙ ap (λ (r : PartReading). breaks r (state s .expectedVerse)) (s .pre .2))
 
 abbrev wrong : tie.After-counts → Finding
 wrong c = about (node (root c)) 1 11 0 (state (root c) .expectedVerse .number) (c .before .before .letter-byte .result)
@@ -101,11 +108,32 @@ due-amiss c =
     let s = root k in
     due-wrote (bareVerse (entry s) (node s)) (one s) (empty k) (bareVerse (entry s) (node s) .finding) (bare k) refl (due-bare (c .before .before .before .before)) (c .error-if2 .ensures)
 
-due-form : (c : tie.After-warn-if2) → Rest (root (counted4 c)) (numberForm 1 (entry (root (counted4 c))) (node (root (counted4 c)))) (c .warn-if2 .last .1 .1 .1 .1 .1 .1 .0) (c .warn-if2 .result)
-due-form c =
+due-unreadable : (c : tie.After-warn-if2) → Rest (root (counted4 c)) (last (root (counted4 c))) (c .warn-if2 .last .1 .1 .1 .1 .1 .1 .0) (c .warn-if2 .result)
+due-unreadable c =
     let k = counted4 c in
     let s = root k in
-    due-wrote (amiss (entry s) (state s) (node s)) (numberForm 1 (entry s) (node s)) (k .before .before .before .breaks .result) (wrong k) (broken k) (says k) (due-amiss (c .before .before .before .before)) (c .warn-if2 .ensures)
+    due-wrote (amiss (entry s) (state s) (node s)) (last s) (k .before .before .before .breaks .result) (wrong k) (broken k) (says k) (due-amiss (c .before .before .before .before)) (c .warn-if2 .ensures)
+
+-- what is read of the label
+abbrev reading : tie.Start → PartReading
+reading s = readOf (s .args .read)
+
+abbrev illegible : tie.Start → Bool
+illegible s = not (isEmpty (now (s .args .label))) && unread (reading s)
+
+abbrev unreadably : tie.Start → Finding
+unreadably s = warning (node s) unreadableVerseNumber (unreadForm (reading s))
+
+is-illegible : (s : tie.Start) → illegible s ≡ unreadable (entry s) (node s) .holds
+is-illegible s = is-unreadable (entry s) (node s) (now (s .args .label)) (s .pre .1 .is-label) (reading s) (s .pre .2)
+
+says-illegible : (s : tie.Start) → unreadably s ≡ unreadable (entry s) (node s) .finding
+says-illegible s = says-unreadable (entry s) (node s) (now (s .args .label)) (s .pre .1 .is-label) (reading s) (s .pre .2)
+
+due-form : (c : tie.After-unread-finding) → Rest (root (counted5 c)) (numberForm 1 (entry (root (counted5 c))) (node (root (counted5 c)))) (c .unread-finding .last .1 .1 .1 .1 .0) (c .unread-finding .result)
+due-form c =
+    let s = root (counted5 c) in
+    due-wrote (unreadable (entry s) (node s)) (numberForm 1 (entry s) (node s)) (illegible s) (unreadably s) (is-illegible s) (says-illegible s) (due-unreadable (c .before .before .before .before)) (c .unread-finding .ensures)
 
 breaks-requires : tie.Need-breaks-requires
 breaks-requires c κs =
@@ -145,22 +173,29 @@ warn-if-requires-2 c κs =
     let t = c .before .before .before in
     let k = counted3 t in
     let s = root k in
-    (s .pre .0, due-room (amiss (entry s) (state s) (node s)) (numberForm 1 (entry s) (node s)) (k .before .before .before .breaks .result) (wrong k) (broken k) (says k) (due-amiss t))
+    (s .pre .0, due-room (amiss (entry s) (state s) (node s)) (last s) (k .before .before .before .breaks .result) (wrong k) (broken k) (says k) (due-amiss t))
+
+unread-finding-requires : tie.Need-unread-finding-requires
+unread-finding-requires c κs =
+    let t = c .before .before .before in
+    let s = root (counted4 t) in
+    (s .pre .0, due-room (unreadable (entry s) (node s)) (numberForm 1 (entry s) (node s)) (illegible s) (unreadably s) (is-illegible s) (says-illegible s) (due-unreadable t))
 
 check-number-form-requires : tie.Need-check-number-form-requires
 check-number-form-requires c κs =
     let t = c .before .before .before in
-    let s = root (counted4 t) in
+    let s = root (counted5 t) in
     (s .pre .0, s .pre .1, due-rest (due-form t))
 
 same-length : tie.Need-same-length
 same-length c =
     let f = c .before .before in
-    let t4 = f .before .before .before .before in
+    let t5 = f .before .before .before .before in
+    let t4 = t5 .before .before .before .before in
     let t3 = t4 .before .before .before .before in
     let t2 = t3 .before .before .before .before in
     let t1 = t2 .before .before .before .before in
-    f .check-number-form .kept .1 .1 .1 .1 .1 .1 .1 .0 ∙ t4 .warn-if2 .kept .1 .1 .1 .1 .1 .1 .0 ∙ t3 .error-if2 .kept .1 .1 .1 .1 .1 .0 ∙ t2 .error-if .kept .1 .1 .1 .1 .1 .0 ∙ t1 .warn-if .kept .1 .1 .1 .1 .1 .1 .0
+    f .check-number-form .kept .1 .1 .1 .1 .1 .1 .1 .0 ∙ t5 .unread-finding .kept .1 .1 .1 .1 .0 ∙ t4 .warn-if2 .kept .1 .1 .1 .1 .1 .1 .0 ∙ t3 .error-if2 .kept .1 .1 .1 .1 .1 .0 ∙ t2 .error-if .kept .1 .1 .1 .1 .1 .0 ∙ t1 .warn-if .kept .1 .1 .1 .1 .1 .1 .0
 
 returns : tie.Need-returns
 returns c = due-all (due-form (c .before .before .before .before .before .before)) (c .before .before .check-number-form .ensures)
@@ -177,6 +212,7 @@ verse-findings-spec =
     error-if-requires
     error-if-requires-2
     warn-if-requires-2
+    unread-finding-requires
     check-number-form-requires
     same-length
     returns)

@@ -34,6 +34,15 @@ slice-aggregate-one-4 c = search needs
 one-requires-4 : tie.Need-one-requires-4
 one-requires-4 c κs = search needs
 
+slice-aggregate-two : tie.Need-slice-aggregate-two
+slice-aggregate-two c = search needs
+
+slice-aggregate-two-2 : tie.Need-slice-aggregate-two-2
+slice-aggregate-two-2 c = search needs
+
+two-requires : tie.Need-two-requires
+two-requires c κs = search needs
+
 marker-text-requires : tie.Need-marker-text-requires
 marker-text-requires c κs = search needs
 
@@ -69,8 +78,15 @@ same-length-5 : tie.Need-same-length-5
 same-length-5 c = search needs
 
 returns-5 : tie.Need-returns-5
+unfolding numberTexts codeOf joined pieces ascii
+returns-5 c = written-at (drop 5 numberTexts ++ markerTexts ++ attributeTexts) (c .before .before .before .before .before .before .before .before .before .before .match .keys5) (c .before .before .two .ensures)
+
+same-length-6 : tie.Need-same-length-6
+same-length-6 c = search needs
+
+returns-6 : tie.Need-returns-6
 unfolding numberTexts
-returns-5 c = written-past _ (drop 5 numberTexts) _ _ _ (c .before .before .before .before .match .rest) _ (c .before .before .marker-text .ensures)
+returns-6 c = written-past _ (drop 5 numberTexts) _ _ _ (c .before .before .before .before .match .rest) _ (c .before .before .marker-text .ensures)
 
 pub more-number-text-spec : {M : Type 1} → statement M
 more-number-text-spec =
@@ -84,6 +100,9 @@ more-number-text-spec =
     one-requires-3
     slice-aggregate-one-4
     one-requires-4
+    slice-aggregate-two
+    slice-aggregate-two-2
+    two-requires
     marker-text-requires
     same-length
     returns
@@ -94,4 +113,6 @@ more-number-text-spec =
     same-length-4
     returns-4
     same-length-5
-    returns-5)
+    returns-5
+    same-length-6
+    returns-6)

@@ -7,7 +7,7 @@ use Rattle.numbers.specs.Label.{numbered}
 use Rattle.tape.specs.Nodes.{kindAt}
 use Rattle.cursor.specs.Info.{infoAt}
 use Rattle.message_texts.specs.Texts as texts
-use Rattle.messages.proofs.Values.{holes-15, written-with, written-lacks}
+use Rattle.messages.proofs.Values.{holes-label, written-with, written-lacks}
 use Rattle.messages.proofs.Shown.{label-none, label-shown}
 use Rattle.messages.proofs.Lengths.{label-fits}
 use borrow.Author.Needs.{needs}
@@ -23,7 +23,7 @@ returns c =
     let s = c .before .before .before .before .before .before .before in
     let a = s .args in
     let n = c .before .label-shown in
-    written-lacks (now (a .table)) (now (a .source)) (now (a .tape)) (requestBy (a .q)) texts.label texts.empty texts.empty (holes-15 (a .q .code) (s .pre .1))
+    written-lacks (now (a .table)) (now (a .source)) (now (a .tape)) (requestBy (a .q)) texts.label texts.empty texts.empty (holes-label (a .q .code) (s .pre .1))
     (label-none (now (a .table)) (now (a .source)) (now (a .tape)) (requestBy (a .q)) (now (n .result)) (n .ensures) (c .if1 .taken))
     (now (a .out))
 
@@ -48,7 +48,7 @@ returns-2 c =
     let s = c .before .before .before .before .before .before .before .before .before .before .before .before .before in
     let a = s .args in
     let n = c .before .before .before .before .before .before .before .label-shown in
-    written-with (now (a .table)) (now (a .source)) (now (a .tape)) (requestBy (a .q)) texts.label texts.empty texts.empty (holes-15 (a .q .code) (s .pre .1))
+    written-with (now (a .table)) (now (a .source)) (now (a .tape)) (requestBy (a .q)) texts.label texts.empty texts.empty (holes-label (a .q .code) (s .pre .1))
     (now (n .result)) [] []
     (label-shown (now (a .table)) (now (a .source)) (now (a .tape)) (requestBy (a .q)) (now (n .result)) (n .ensures) (c .before .before .before .before .before .before .if1 .left))
     (now (a .out)) _ _ (c .before .before .write-text .ensures)

@@ -10,7 +10,7 @@ use borrow.Author.Needs.{needs}
 use Rattle.messages.proofs.write_message.Statement.{statement}
 use Rattle.messages.proofs.write_message.Tie as tie
 use Rattle.messages.specs.Answer.{requestBy}
-use Rattle.messages.specs.Inner.{isTables}
+use Rattle.messages.specs.Inner.{isTables, isLabels}
 
 write-book-requires : tie.Need-write-book-requires
 write-book-requires c κs = search needs
@@ -30,7 +30,9 @@ write-entry-requires c κs =
     (m .before .before .before .before .before .before .pre, ap isTables (m .match .keys5))
 
 write-label-requires : tie.Need-write-label-requires
-write-label-requires c κs = search needs
+write-label-requires c κs =
+    let m = c .before in
+    (m .before .before .before .before .before .before .pre, ap isLabels (m .match .keys6))
 
 write-base-requires : tie.Need-write-base-requires
 write-base-requires c κs = search needs
@@ -56,6 +58,11 @@ write-number-requires c κs = search needs
 
 write-glued-requires : tie.Need-write-glued-requires
 write-glued-requires c κs = search needs
+
+write-label-requires-2 : tie.Need-write-label-requires-2
+write-label-requires-2 c κs =
+    let m = c .before in
+    (m .before .before .before .before .before .before .pre, ap isLabels (m .match .keys14))
 
 slice-aggregate-write-text : tie.Need-slice-aggregate-write-text
 slice-aggregate-write-text c = search needs
@@ -163,7 +170,13 @@ same-length-14 : tie.Need-same-length-14
 same-length-14 c = search needs
 
 returns-14 : tie.Need-returns-14
-returns-14 c =
+returns-14 c = search needs
+
+same-length-15 : tie.Need-same-length-15
+same-length-15 c = search needs
+
+returns-15 : tie.Need-returns-15
+returns-15 c =
     let m = c .before .before .before .before .before .before .before in
     let a = m .before .before .before .before .before .before .args in
     written-plain (now (a .table)) (now (a .source)) (now (a .tape)) (requestBy (a .q)) (m .match .rest) _ _ _ (c .before .before .write-text .ensures)
@@ -185,6 +198,7 @@ write-message-spec =
     write-owner-requires
     write-number-requires
     write-glued-requires
+    write-label-requires-2
     slice-aggregate-write-text
     slice-aggregate-write-text-2
     slice-aggregate-write-text-3
@@ -216,4 +230,6 @@ write-message-spec =
     same-length-13
     returns-13
     same-length-14
-    returns-14)
+    returns-14
+    same-length-15
+    returns-15)

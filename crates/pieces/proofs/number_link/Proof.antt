@@ -47,6 +47,9 @@ cast-result c =
 enum-told-2 : tie.Need-enum-told-2
 enum-told-2 c = search needs
 
+enum-told-3 : tie.Need-enum-told-3
+enum-told-3 c = search needs
+
 abbrev start : tie.After-parse-verse-part → tie.Start
 start v = v .before .before .before .before .before .before .before .before .before
 
@@ -66,6 +69,9 @@ returns-2 c = sym (ap linkOf (c .before .before .p .given .1)) ∙ linked (c .be
 returns-3 : tie.Need-returns-3
 returns-3 c = sym (ap linkOf (c .enum-told2 .given .1)) ∙ linked (c .before .before)
 
+returns-4 : tie.Need-returns-4
+returns-4 c = sym (ap linkOf (c .enum-told3 .given .1)) ∙ linked (c .before .before)
+
 pub number-link-spec : {M : Type 1} → statement M
 number-link-spec =
     tie.close
@@ -79,5 +85,7 @@ number-link-spec =
     enum-known-p
     cast-result
     enum-told-2
+    enum-told-3
     returns-2
-    returns-3)
+    returns-3
+    returns-4)
