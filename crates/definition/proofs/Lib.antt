@@ -15,3 +15,9 @@ pub mod Paired
 pub mod Pair
 pub mod WellFormed
 pub mod Filled
+pub mod Borders
+pub mod Sectioned
+pub mod RecordBounds
+pub mod RecordAnchor
+pub mod OwnRecord
+pub mod SectionsWorked

@@ -7,4 +7,8 @@ pub mod Document
 pub mod Base
 pub mod Account
 pub mod Outcome
+pub mod Sections
+pub mod Carried
+pub mod Calls
 pub mod Examples
+pub mod SectionsExample

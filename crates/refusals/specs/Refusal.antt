@@ -76,6 +76,10 @@ unmatchedMarker = 17
 abbrev pub nodeListTooShort : ℕ
 nodeListTooShort = 18
 
+-- document 02, K7: "19 when a section doesn't start where the last ended, ends before its start or doesn't end between top-level nodes, when close comes early, or when the record can't be this tape's"
+abbrev pub sectionOutOfOrder : ℕ
+sectionOutOfOrder = 19
+
 pub record Refusal : Type 0 where
   pub number : ℕ
   pub place : ℕ
