@@ -163,14 +163,12 @@ fn module_list(out: &Path) -> String {
     text
 }
 
-/// Where `rt staticlib` puts single functions of the library, or the folder that `HARKOXIN_LIB` names; the binding links the rest.
+/// Where `rt staticlib` puts single functions of the library; the binding links the rest.
 fn link_library() {
-    println!("cargo::rerun-if-env-changed=HARKOXIN_LIB");
-    let folder = env::var("HARKOXIN_LIB").unwrap_or_else(|_| "../target/staticlib".to_string());
-    let file = Path::new(&folder).join("liboracle_exports.a");
-    let found = fs::canonicalize(&file)
+    let file = "../target/staticlib/liboracle_exports.a";
+    let found = fs::canonicalize(file)
         .unwrap_or_else(|_| fail("run `rt staticlib oracle_exports` first".to_string()));
-    println!("cargo::rerun-if-changed={}", file.display());
+    println!("cargo::rerun-if-changed={file}");
     let folder = found.parent().expect("a file stands in a folder");
     println!("cargo::rustc-link-search=native={}", folder.display());
 }

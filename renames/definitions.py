@@ -39,7 +39,7 @@ NAMES = {
     'oracle_exports/Told': {'orElse': 'numberOr', 'positionTold': 'positionFrom', 'numberTold': 'numberWord', 'letterTold': 'letterWord', 'nextTold': 'nextFrom',
                             'startTold': 'startWord', 'endTold': 'endWord'},
     'rows/Cells': {'Range': 'ColumnRange'},
-    'state/Running': {'starts': 'startNodes', 'Sane': 'VerseBounded', 'aroundOf': 'contextOf'},
+    'state/Running': {'starts': 'openNodes', 'Sane': 'VerseBounded', 'aroundOf': 'contextOf'},
     'table/Books': {'codes': 'bookCodes'},
     'table/Entries': {'entryOf': 'entryFrom', 'placeOf': 'layoutPlace'},
     'table/Inner': {'Marked': 'LinesRead', 'Passed': 'LinesGood', 'nameOf': 'nameLength', 'wordsOf': 'linesOf'},

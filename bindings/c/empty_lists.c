@@ -7,48 +7,25 @@
 #include <stdio.h>
 #include <string.h>
 
-enum { TABLE, SOURCE, TAPE, SEEN, OPENS, LIST, ENDS, TEXT, OUT, CARRIED, LISTS };
+enum { TABLE, SOURCE, TAPE, SEEN, OPENS, LIST, ENDS, TEXT, OUT, LISTS };
 
 static const uint8_t table[] = "name=v\ncategory=verse\nrole=content\n";
 static const uint8_t source[] = "\\v 2";
 /* A root and a verse over the whole source. */
 static const uint8_t tape[32] = {0, 0, 0, 0, 0, 0, 0, 0, 0, 0, 0, 0, 2, 0, 0, 0, 4, 0, 0, 0, 0, 0, 0, 0, 4, 0, 0, 0, 0, 0, 0, 0};
-/* The record before the verse, and that behind it. */
-static const uint64_t first[HARKOXIN_CARRIED_WORDS] = {1, 0, 0, 0, 0, 0, 1, 1, 0, 0, 0, 0};
-static const uint64_t last[HARKOXIN_CARRIED_WORDS] = {2, 0, 0, 1, 0, 1, 1, 3, 0, 0, 0, 1};
 static const uint64_t finding[HARKOXIN_FINDING_WORDS] = {1, HARKOXIN_INVALID_VERSE_SEQUENCE, 0, 4, 1, 0, 1, 0};
 
 /* All that is written. */
 struct lists {
     uint32_t seen[2];
     harkoxin_open_start opens[2];
-    uint64_t list[40], out[HARKOXIN_REPORT_WORDS], ends[4], carried[HARKOXIN_CARRIED_WORDS];
+    uint64_t list[40], out[HARKOXIN_REPORT_WORDS], ends[4];
     uint8_t text[400], nodes[2 * HARKOXIN_NODE_BYTES];
 };
 
 /* A pointer and a length for a list: whole, or empty with its pointer, or empty with NULL. */
 #define LENT(at, len, which) (is_null && empty >> (which) & 1 ? NULL : (at)), (empty >> (which) & 1 ? 0 : (len))
 #define DOCUMENT LENT(table, sizeof table - 1, TABLE), LENT(source, sizeof source - 1, SOURCE), LENT(tape, sizeof tape, TAPE)
-
-/* Of these functions a document is lent with the record that each goes on from. */
-static void run_in_sections(int function, unsigned empty, int is_null, struct lists *l)
-{
-    switch (function) {
-    case 7:
-        harkoxin_begin(DOCUMENT, LENT(l->carried, HARKOXIN_CARRIED_WORDS, CARRIED), LENT(l->seen, 2, SEEN),
-                       LENT(l->opens, 2, OPENS), LENT(l->out, HARKOXIN_CHECK_WORDS, OUT));
-        break;
-    case 8:
-        memcpy(l->carried, first, sizeof first);
-        harkoxin_section(DOCUMENT, 1, 2, LENT(l->carried, HARKOXIN_CARRIED_WORDS, CARRIED), LENT(l->seen, 2, SEEN),
-                         LENT(l->opens, 2, OPENS), LENT(l->list, 40, LIST), LENT(l->out, HARKOXIN_CHECK_WORDS, OUT));
-        break;
-    default:
-        memcpy(l->carried, last, sizeof last);
-        harkoxin_close(DOCUMENT, LENT(l->carried, HARKOXIN_CARRIED_WORDS, CARRIED), LENT(l->seen, 2, SEEN),
-                       LENT(l->opens, 2, OPENS), LENT(l->list, 40, LIST), LENT(l->out, HARKOXIN_CHECK_WORDS, OUT));
-    }
-}
 
 static void run(int function, unsigned empty, int is_null, struct lists *l)
 {
@@ -77,12 +54,9 @@ static void run(int function, unsigned empty, int is_null, struct lists *l)
     case 5:
         harkoxin_mark(0, 1, 1, LENT(l->out, HARKOXIN_MARK_WORDS, OUT));
         break;
-    case 6:
+    default:
         harkoxin_read(LENT(table, sizeof table - 1, TABLE), LENT(source, sizeof source - 1, SOURCE),
                       LENT(l->nodes, sizeof l->nodes, TAPE), LENT(l->out, HARKOXIN_READ_WORDS, OUT));
-        break;
-    default:
-        run_in_sections(function, empty, is_null, l);
     }
 }
 
@@ -109,7 +83,7 @@ static int try_call(int function, unsigned empty)
 int main(void)
 {
     unsigned calls = 0;
-    for (int function = 0; function < 10; function++) {
+    for (int function = 0; function < 7; function++) {
         for (unsigned empty = 0; empty < 1u << LISTS; empty++) {
             if (!try_call(function, empty))
                 return 1;

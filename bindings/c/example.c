@@ -1,6 +1,6 @@
 /*
- * Prints what is wrong in the documents of some folders, each of which holds table.txt, source.usfm and nodes.bin: of each as a
- * whole or, behind --sections, chapter by chapter; or, behind --text and the path of a table, in the texts of some files.
+ * Prints what is wrong in the documents of some folders, each of which holds table.txt, source.usfm and nodes.bin; or, behind
+ * --text and the path of a table, in the texts of some files.
  */
 #include "harkoxin.h"
 
@@ -146,29 +146,18 @@ static void print_mark(const uint64_t *check)
         printf(", mark %" PRIu64 ".%02" PRIu64 "\n", mark / 100, mark % 100);
 }
 
-/* Begins a line with the counts of a checked document or section. */
+/* Prints the counts of a checked document, and its mark. */
 static void print_counts(const uint64_t *check)
 {
     printf("errors %" PRIu64 ", warnings %" PRIu64 ", infos %" PRIu64 ", verses %" PRIu64,
            check[HARKOXIN_CHECK_ERRORS], check[HARKOXIN_CHECK_WARNINGS],
            check[HARKOXIN_CHECK_INFOS], check[HARKOXIN_CHECK_VERSES]);
+    print_mark(check);
 }
 
 static void print_refusal(uint64_t number, uint64_t place)
 {
     printf("refused by number %" PRIu64 ", place %" PRIu64 "\n", number, place);
-}
-
-/* Prints so many findings, whose texts are written, and frees their lists. */
-static void print_findings(struct lists *l, uint64_t count)
-{
-    size_t start = 0;
-    for (size_t k = 0; k < count; k++) {
-        size_t end = (size_t)l->ends[k];
-        print_finding(l->list + HARKOXIN_FINDING_WORDS * k, l->text + start, end - start);
-        start = end;
-    }
-    release(l);
 }
 
 static void print_document(const char *name, const struct document *d)
@@ -177,149 +166,17 @@ static void print_document(const char *name, const struct document *d)
     struct lists l;
     report(d, &l, answer);
     printf("%s: ", name);
-    if (answer[HARKOXIN_CHECK_VERDICT] == HARKOXIN_REFUSED) {
-        print_refusal(answer[HARKOXIN_CHECK_NUMBER], answer[HARKOXIN_CHECK_PLACE]);
-    } else {
-        print_counts(answer);
-        print_mark(answer);
-    }
-    print_findings(&l, answer[HARKOXIN_CHECK_WRITTEN]);
-}
-
-/* What is carried from one section to the next, with an entry of the working lists for each node. */
-struct course {
-    uint64_t carried[HARKOXIN_CARRIED_WORDS];
-    uint32_t *seen;
-    harkoxin_open_start *opens;
-    size_t nodes;
-};
-
-static struct course new_course(size_t nodes)
-{
-    struct course c = {{0}, room(nodes, sizeof *c.seen), room(nodes, sizeof *c.opens), nodes};
-    return c;
-}
-
-static struct course copy_course(const struct course *c)
-{
-    struct course copy = new_course(c->nodes);
-    memcpy(copy.carried, c->carried, sizeof copy.carried);
-    memcpy(copy.seen, c->seen, c->nodes * sizeof *c->seen);
-    memcpy(copy.opens, c->opens, c->nodes * sizeof *c->opens);
-    return copy;
-}
-
-static void release_course(struct course *c)
-{
-    free(c->seen);
-    free(c->opens);
-}
-
-#define LENT_DOCUMENT(d) (d)->table.at, (d)->table.len, (d)->source.at, (d)->source.len, (d)->tape.at, (d)->tape.len
-#define LENT_COURSE(c) (c)->carried, HARKOXIN_CARRIED_WORDS, (c)->seen, (c)->nodes, (c)->opens, (c)->nodes
-
-/* Has the section up to a node checked, or where this is 0 the document closed. */
-static void go_on(const struct document *d, struct course *c, uint64_t to, uint64_t *list, uint64_t findings, uint64_t *answer)
-{
-    size_t words = HARKOXIN_FINDING_WORDS * (size_t)findings;
-    if (to != 0)
-        harkoxin_section(LENT_DOCUMENT(d), c->carried[HARKOXIN_CARRIED_PLACE], to, LENT_COURSE(c), list, words,
-                         answer, HARKOXIN_CHECK_WORDS);
-    else
-        harkoxin_close(LENT_DOCUMENT(d), LENT_COURSE(c), list, words, answer, HARKOXIN_CHECK_WORDS);
     if (answer[HARKOXIN_CHECK_VERDICT] == HARKOXIN_REFUSED)
-        fail("refused:", "a section");
-}
-
-/* Has the texts of a list's findings written, once more with more room where that was too little. */
-static void write_texts(const struct document *d, struct lists *l)
-{
-    uint64_t answer[HARKOXIN_MESSAGES_WORDS];
-    for (;;) {
-        harkoxin_messages(LENT_DOCUMENT(d), l->list, HARKOXIN_FINDING_WORDS * l->findings, l->ends, l->findings,
-                          l->text, l->bytes, answer, HARKOXIN_MESSAGES_WORDS);
-        if (answer[HARKOXIN_MESSAGES_VERDICT] == HARKOXIN_DONE)
-            return;
-        if (answer[HARKOXIN_MESSAGES_NUMBER] == HARKOXIN_NO_TEXT)
-            fail("no text for", "a finding");
-        free(l->text);
-        l->bytes = 2 * l->bytes + (size_t)answer[HARKOXIN_MESSAGES_PLACE];
-        l->text = room(l->bytes, sizeof *l->text);
-    }
-}
-
-/*
- * Prints a section, or the close, and adds its answer to the sums. A call with too short a list moves on like any other, so that
- * the findings are counted first, by a call that is lent copies.
- */
-static void print_part(const struct document *d, struct course *c, uint64_t to, uint64_t sums[HARKOXIN_CHECK_WORDS])
-{
-    uint64_t answer[HARKOXIN_CHECK_WORDS];
-    struct course copy = copy_course(c);
-    go_on(d, &copy, to, NULL, 0, answer);
-    release_course(&copy);
-    struct lists l;
-    lend(&l, (size_t)answer[HARKOXIN_CHECK_TOTAL], 1024);
-    go_on(d, c, to, l.list, l.findings, answer);
-    print_counts(answer);
-    putchar('\n');
-    write_texts(d, &l);
-    print_findings(&l, answer[HARKOXIN_CHECK_WRITTEN]);
-    for (int k = 0; k < HARKOXIN_CHECK_WORDS; k++)
-        sums[k] += answer[k];
-}
-
-/* The kinds of nodes by which sections are chosen. */
-enum { MARKER_OPEN = 1, CHAPTER = 3 };
-
-static uint64_t link_of(const struct bytes *tape, uint64_t node)
-{
-    const uint8_t *at = tape->at + HARKOXIN_NODE_BYTES * node + 12;
-    return at[0] | (uint64_t)at[1] << 8 | (uint64_t)at[2] << 16 | (uint64_t)at[3] << 24;
-}
-
-/* Where the section from a place on ends: before the next chapter, or with the document. The tape is one that was begun. */
-static uint64_t section_end(const struct bytes *tape, uint64_t place)
-{
-    uint64_t end = link_of(tape, 0);
-    do {
-        int is_open = tape->at[HARKOXIN_NODE_BYTES * place] == MARKER_OPEN;
-        place = is_open ? link_of(tape, place) + 1 : place + 1;
-    } while (place < end && tape->at[HARKOXIN_NODE_BYTES * place] != CHAPTER);
-    return place;
-}
-
-/* Prints the sections of a document that is begun, its close, and the sums. */
-static void print_parts(const char *name, const struct document *d, struct course *c)
-{
-    uint64_t sums[HARKOXIN_CHECK_WORDS] = {0};
-    for (;;) {
-        uint64_t place = c->carried[HARKOXIN_CARRIED_PLACE];
-        if (place == link_of(&d->tape, 0))
-            break;
-        uint64_t end = section_end(&d->tape, place);
-        printf("%s, nodes %" PRIu64 "..%" PRIu64 ": ", name, place, end);
-        print_part(d, c, end, sums);
-    }
-    printf("%s, close: ", name);
-    print_part(d, c, 0, sums);
-    printf("%s: ", name);
-    print_counts(sums);
-    print_mark(sums);
-}
-
-static void print_sections(const char *name, const struct document *d)
-{
-    uint64_t answer[HARKOXIN_CHECK_WORDS];
-    struct course c = new_course(d->tape.len / HARKOXIN_NODE_BYTES);
-    harkoxin_begin(LENT_DOCUMENT(d), LENT_COURSE(&c), answer, HARKOXIN_CHECK_WORDS);
-    if (answer[HARKOXIN_CHECK_VERDICT] == HARKOXIN_REFUSED) {
-        printf("%s: ", name);
         print_refusal(answer[HARKOXIN_CHECK_NUMBER], answer[HARKOXIN_CHECK_PLACE]);
-    } else {
-        print_parts(name, d, &c);
+    else
+        print_counts(answer);
+    size_t start = 0;
+    for (size_t k = 0; k < answer[HARKOXIN_CHECK_WRITTEN]; k++) {
+        size_t end = (size_t)l.ends[k];
+        print_finding(l.list + HARKOXIN_FINDING_WORDS * k, l.text + start, end - start);
+        start = end;
     }
-    release_course(&c);
+    release(&l);
 }
 
 /* Has the tape of the document's text made, once more with a longer list where that was too short. */
@@ -352,29 +209,28 @@ static void check_text(const char *table, const char *path)
     release_document(&d);
 }
 
-static void check_folder(const char *folder, void (*print)(const char *, const struct document *))
+static void check_folder(const char *folder)
 {
     struct document d = {
         read_in(folder, "table.txt"),
         read_in(folder, "source.usfm"),
         read_in(folder, "nodes.bin"),
     };
-    print(folder, &d);
+    print_document(folder, &d);
     release_document(&d);
 }
 
 int main(int argc, char **argv)
 {
     int is_text = argc > 1 && strcmp(argv[1], "--text") == 0;
-    int is_parted = argc > 1 && strcmp(argv[1], "--sections") == 0;
-    int first = is_text ? 3 : is_parted ? 2 : 1;
+    int first = is_text ? 3 : 1;
     if (argc <= first)
-        fail("usage:", "example FOLDER..., example --sections FOLDER..., or example --text TABLE FILE...");
+        fail("usage:", "example FOLDER..., or example --text TABLE FILE...");
     for (int k = first; k < argc; k++) {
         if (is_text)
             check_text(argv[2], argv[k]);
         else
-            check_folder(argv[k], is_parted ? print_sections : print_document);
+            check_folder(argv[k]);
     }
     return EXIT_SUCCESS;
 }

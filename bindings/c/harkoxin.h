@@ -55,10 +55,7 @@ enum {
     HARKOXIN_UNMATCHED_MARKER = 17,    /* a close without its open innermost, a milestone that isn't closed, or a block marker, a
                                           chapter or the text's end with a character or note open: byte of the backslash, a
                                           milestone's own, or the text's length */
-    HARKOXIN_SHORT_NODE_LIST = 18,     /* the list is too short for the nodes: nodes needed */
-    HARKOXIN_OUT_OF_ORDER = 19         /* a section doesn't start where the last one ended or doesn't end behind it between
-                                          top-level nodes, a close comes early, or the record can't be this tape's: the expected
-                                          node */
+    HARKOXIN_SHORT_NODE_LIST = 18      /* the list is too short for the nodes: nodes needed */
 };
 
 /* The bytes of a node on a tape. */
@@ -295,97 +292,6 @@ void harkoxin_read(
     const uint8_t *table, size_t table_len,
     const uint8_t *text, size_t text_len,
     uint8_t *tape, size_t tape_len,
-    uint64_t *out, size_t out_len);
-
-/*
- * A document in sections: harkoxin_begin, then harkoxin_section for one section after another, then harkoxin_close.
- *
- * A section is a run of whole top-level nodes. The borders between which it lies are the numbers of the top-level nodes and the
- * root's link: the first is 1, and behind a node comes the next one or, where it is a marker that opens, the one behind its link.
- * The findings of all sections, one after another, and those of harkoxin_close are the findings of harkoxin_check, and the counts
- * add up to its counts, whatever the sections are, as long as they cover the document in order and no list is cut.
- *
- * Each call is lent the same table, source and tape, and `carried`, `seen` and `opens` as the call before left them. All three can
- * be stored and lent in another run of a program; of `seen` and `opens`, the entries that the record counts. Each call tries
- * numbers 1 to 10 anew over the whole document, since anything may be lent: it takes about half as long as harkoxin_check of that
- * document, and Psalms in 150 sections about 75 times as long. A call that is turned back leaves every list but `out` as it was.
- */
-
-/* The words of the record that is carried from one call to the next. Words behind them are neither read nor changed. */
-enum {
-    HARKOXIN_CARRIED_PLACE = 0,          /* the node at which the next section starts */
-    HARKOXIN_CARRIED_HAS_ID = 1,         /* 1 if an id was visited, else 0; so the next four */
-    HARKOXIN_CARRIED_HAS_CHAPTER = 2,    /* a chapter was visited */
-    HARKOXIN_CARRIED_HAS_VERSE = 3,      /* a verse was visited */
-    HARKOXIN_CARRIED_FRONT_MATTER = 4,   /* the book code is that of front matter, which needs no chapters */
-    HARKOXIN_CARRIED_OUTSIDE_WARNED = 5, /* there was a finding about a verse outside a paragraph, which is given once */
-    HARKOXIN_CARRIED_CHAPTER = 6,        /* the expected chapter */
-    HARKOXIN_CARRIED_VERSE = 7,          /* the number of the expected verse */
-    HARKOXIN_CARRIED_LETTER = 8,         /* the byte of its letter, or 0 */
-    HARKOXIN_CARRIED_SEEN = 9,           /* how many entries of `seen` count, from the first on */
-    HARKOXIN_CARRIED_OPEN = 10,          /* how many entries of `opens` count, from the first on */
-    HARKOXIN_CARRIED_ANCHOR = 11,        /* the node of the last anchor, a chapter or verse, or 0 */
-    HARKOXIN_CARRIED_WORDS = 12
-};
-
-/*
- * Begins a document in sections: the record before its first section is written over `carried`. Its answer has the words of
- * harkoxin_check, those from the total on 0. What `carried` and the working lists hold doesn't matter, and `seen` and `opens`
- * aren't changed; they need an entry for each node. Numbers 1 to 10; then 19 where `carried` has fewer than HARKOXIN_CARRIED_WORDS
- * words, with the first of them as place, or 1 where there is none.
- */
-void harkoxin_begin(
-    const uint8_t *table, size_t table_len,
-    const uint8_t *source, size_t source_len,
-    const uint8_t *tape, size_t tape_len,
-    uint64_t *carried, size_t carried_len,
-    uint32_t *seen, size_t seen_len,
-    harkoxin_open_start *opens, size_t opens_len,
-    uint64_t *out, size_t out_len);
-
-/*
- * Checks the section from node `from` on and before node `to`: its findings are written over `list`, as far as that has room for
- * whole ones. Its answer is that of harkoxin_check, about this section. A section may be empty.
- *
- * Record and working lists move on, also where the list is cut; who wants the findings that had no room lends copies of the three
- * from before, and a longer list. A section may write one entry of `seen` and of `opens` for each of its nodes, behind those that
- * counted before it; what these entries hold where they don't count is left open, and all behind them are as they were.
- *
- * Numbers 1 to 10; then 19, with the record's place, where
- *   - `from` isn't the record's place, `to` is smaller than that, or `to` isn't a border;
- *   - the record can't be this tape's: its place isn't a border, its chapter or verse is over 4,294,967,296, one of its two counts
- *     is over its place, its anchor is neither 0 nor a chapter or verse of the tape, or an open start that counts isn't the start
- *     of a milestone with a base of that length;
- *   - it is no record: it has fewer than HARKOXIN_CARRIED_WORDS words (place 1 where it has none), a flag over 1, or a letter
- *     over 255.
- * A record that none of these turns back is answered, wherever it comes from.
- */
-void harkoxin_section(
-    const uint8_t *table, size_t table_len,
-    const uint8_t *source, size_t source_len,
-    const uint8_t *tape, size_t tape_len,
-    uint64_t from, uint64_t to,
-    uint64_t *carried, size_t carried_len,
-    uint32_t *seen, size_t seen_len,
-    harkoxin_open_start *opens, size_t opens_len,
-    uint64_t *list, size_t list_len,
-    uint64_t *out, size_t out_len);
-
-/*
- * Closes a document in sections: the findings about what it lacks and about milestones that are left open are written over `list`,
- * as far as that has room for whole ones. Its answer is that of harkoxin_check, about these findings; there are no verses. After
- * this the entries of the nodes in both working lists are zero, the rest of each list and `carried` as they were, so a document is
- * closed once: a second close is 19 where open starts count, and gives the other closing findings again where none do. Numbers 1 to
- * 10; then 19 as of a section, or where the record's place isn't the root's link.
- */
-void harkoxin_close(
-    const uint8_t *table, size_t table_len,
-    const uint8_t *source, size_t source_len,
-    const uint8_t *tape, size_t tape_len,
-    uint64_t *carried, size_t carried_len,
-    uint32_t *seen, size_t seen_len,
-    harkoxin_open_start *opens, size_t opens_len,
-    uint64_t *list, size_t list_len,
     uint64_t *out, size_t out_len);
 
 #ifdef __cplusplus

@@ -174,14 +174,9 @@ impl<T: Element> Slot<T> {
 
     /// An error unless the list is as it was lent but for these elements at its beginning, and the margins are as they were.
     pub fn expect(&self, what: &str, written: &[T]) -> Result<(), String> {
-        self.expect_but(what, written, written.len())
-    }
-
-    /// The same, but the elements behind these up to a place may be any.
-    pub fn expect_but(&self, what: &str, written: &[T], free_to: usize) -> Result<(), String> {
-        let (list, rest) = (self.list(), free_to.max(written.len()));
-        if list[..written.len()] != *written || list[rest..] != self.before[rest..] {
-            return Err(self.difference(what, written, rest));
+        let (first, rest) = self.list().split_at(written.len());
+        if first != written || rest != &self.before[written.len()..] {
+            return Err(self.difference(what, written));
         }
         if !self.margins_are_whole() {
             return Err(format!("{what}: bytes beside the list are written"));
@@ -196,11 +191,10 @@ impl<T: Element> Slot<T> {
         before.iter().chain(after).all(|&byte| byte == self.mark)
     }
 
-    fn difference(&self, what: &str, written: &[T], rest: usize) -> String {
+    fn difference(&self, what: &str, written: &[T]) -> String {
         let expected = |place: usize| *written.get(place).unwrap_or(&self.before[place]);
         let list = self.list();
-        let mut places = (0..written.len()).chain(rest..list.len());
-        let place = places.find(|&place| list[place] != expected(place));
+        let place = (0..list.len()).find(|&place| list[place] != expected(place));
         let place = place.expect("the lists differ");
         let (is, expected, len) = (list[place], expected(place), list.len());
         format!("{what}: element {place} of {len} is {is:?} instead of {expected:?}")
@@ -311,20 +305,6 @@ mod tests {
             assert!(slot.expect("list", &[8]).is_err());
             assert!(slot.expect("list", &[8, 9, 8]).is_err());
             assert!(slot.expect("list", &[]).is_err());
-        });
-    }
-
-    #[test]
-    fn elements_in_between_may_be_any() {
-        each_place::<u32>(|_, slot| {
-            let before = slot.list().to_vec();
-            for place in 0..5 {
-                slot.list_mut()[place] ^= 1;
-                let is_free = (1..4).contains(&place);
-                let expected = slot.expect_but("list", &before[..1], 4);
-                assert_eq!(expected.is_ok(), is_free, "{place}");
-                slot.list_mut()[place] ^= 1;
-            }
         });
     }
 

@@ -38,7 +38,6 @@ pub mod refusals;
 pub mod requests;
 pub mod rng;
 pub mod samples;
-pub mod sections;
 pub mod tallies;
 pub mod texts;
 pub mod timed;

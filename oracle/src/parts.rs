@@ -184,7 +184,7 @@ fn row_findings(tr: Cursor<'_>) -> Vec<WordsWithoutNode> {
         .collect()
 }
 
-pub(crate) fn words_without_node(it: Found) -> WordsWithoutNode {
+fn words_without_node(it: Found) -> WordsWithoutNode {
     let (form, first, second) = form_and_numbers(it.code, &it.message).expect("a known message");
     let [severity, code, start, len] = [it.severity, it.code, it.start, it.len].map(u64::from);
     [severity, code, start, len, form, first, second]

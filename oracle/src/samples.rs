@@ -112,16 +112,6 @@ impl Builder {
     }
 }
 
-/// A verse inside so many markers.
-pub fn nested(depth: usize) -> Document {
-    let mut builder = Builder::default();
-    for _ in 0..depth {
-        builder.open(0, "\\p");
-    }
-    builder.leaf(kind::VERSE, 1, "\\v 1", 1);
-    builder.under(&[entry("p", 3, 2), entry("v", 2, 0)])
-}
-
 /// The listing's example of document 01.
 pub fn listing() -> Document {
     let entries = [

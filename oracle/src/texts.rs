@@ -105,17 +105,17 @@ impl<'a> Reader<'a> {
     }
 
     /// The part of the source that a node spans. The root's span is never checked, so it has none.
-    pub(crate) fn part(&self, place: u64) -> Option<&'a str> {
+    fn part(&self, place: u64) -> Option<&'a str> {
         let node = self.node(place).filter(|_| place > 0)?;
         Some(&self.source[node.start as usize..node.end() as usize])
     }
 
-    pub(crate) fn name(&self, place: u64) -> Option<&'a str> {
+    fn name(&self, place: u64) -> Option<&'a str> {
         self.part(place).map(marker_name)
     }
 
     /// The table entry of a node, as the published `marker_info` gives it: by kind.
-    pub(crate) fn entry(&self, place: u64) -> Option<Entry<'a>> {
+    fn entry(&self, place: u64) -> Option<Entry<'a>> {
         let node = self.node(place)?;
         let has_marker =
             node.is_close() || matches!(node.kind, kind::MARKER_OPEN | kind::CHAPTER | kind::VERSE);
@@ -124,7 +124,7 @@ impl<'a> Reader<'a> {
     }
 
     /// What the name of a Chapter or Verse has beyond its table name.
-    pub(crate) fn glued_label(&self, place: u64) -> Option<&'a str> {
+    fn glued_label(&self, place: u64) -> Option<&'a str> {
         let node = self.node(place)?;
         let numbered = matches!(node.kind, kind::CHAPTER | kind::VERSE);
         let name = self.name(place).filter(|_| numbered)?;
@@ -155,7 +155,7 @@ impl<'a> Reader<'a> {
     }
 
     /// The first word of the first Text child of a MarkerOpen, if that has one.
-    pub(crate) fn book_code(&self, place: u64) -> Option<&'a str> {
+    fn book_code(&self, place: u64) -> Option<&'a str> {
         let open = self.node(place)?;
         if open.kind != kind::MARKER_OPEN {
             return None;

@@ -1,12 +1,10 @@
-//! The whole check beside the published `validate`, the reading of texts beside the plain reader, and documents in sections beside
-//! the whole check, by the clock: both over the same inputs, taken in turn.
+//! The whole check beside the published `validate`, and the reading of texts beside the plain reader, by the clock: both over the
+//! same inputs, taken in turn.
 
 #[cfg(feature = "library")]
 mod measured;
 #[cfg(feature = "library")]
 mod readings;
-#[cfg(feature = "library")]
-mod sectioned;
 mod sheet;
 mod timer;
 
@@ -23,8 +21,6 @@ use crate::validate::validate;
 pub use measured::{Best, Measured, Texts};
 #[cfg(feature = "library")]
 pub use readings::Readings;
-#[cfg(feature = "library")]
-pub use sectioned::Sectioned;
 pub use sheet::{Sheet, grouped, ratio, rounds, seconds};
 
 use timer::Timer;

@@ -12,8 +12,8 @@ pub const CODE: u32 = 35;
 pub const NAME: &str = "UnreadableVerseNumber";
 
 /// "Form is 0 for no digits and 1 for too large."
-pub(crate) const NO_DIGITS: u64 = 0;
-pub(crate) const TOO_LARGE: u64 = 1;
+const NO_DIGITS: u64 = 0;
+const TOO_LARGE: u64 = 1;
 
 const WARNING: u32 = 1;
 /// The code MissingVerseNumber.

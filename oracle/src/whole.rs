@@ -1,6 +1,5 @@
-//! The whole check, its texts, its tally, its mark, its reading of texts and its sections beside what the documents and the
-//! published code give: answers, findings, texts, nodes, the quotation account, records, and every element of every lent list with
-//! the bytes around it.
+//! The whole check, its texts, its tally, its mark and its reading of texts beside what the documents and the published code give:
+//! answers, findings, texts, nodes, the quotation account, and every element of every lent list with the bytes around it.
 
 mod accounts;
 mod counts;
@@ -10,7 +9,6 @@ mod marks;
 mod messages;
 mod readings;
 mod reports;
-mod sections;
 mod slots;
 mod workers;
 
@@ -70,19 +68,6 @@ impl Expected<'_> {
 /// The answer of a check that is turned back.
 fn refused_words(number: u64, place: u64) -> [u64; ANSWER_WORDS] {
     [REFUSED, number, place, 0, 0, 0, 0, 0, 0]
-}
-
-/// Words of a list by the seed: enough for so many findings, or not.
-fn findings_room(findings: usize, rng: &mut Rng) -> usize {
-    let enough = findings * FINDING_WORDS;
-    match rng.below(10) {
-        0 => 0,
-        1 => enough.saturating_sub(1),
-        2 => rng.below(enough + 1),
-        3 => enough,
-        4 => enough + rng.below(FINDING_WORDS),
-        _ => enough + rng.below(40),
-    }
 }
 
 /// Compares documents one after another; its lists and its checker are kept between them.
@@ -242,7 +227,15 @@ impl Comparison {
         answer: usize,
         rng: &mut Rng,
     ) {
-        let room = findings_room(findings, rng);
+        let enough = findings * FINDING_WORDS;
+        let room = match rng.below(10) {
+            0 => 0,
+            1 => enough.saturating_sub(1),
+            2 => rng.below(enough + 1),
+            3 => enough,
+            4 => enough + rng.below(FINDING_WORDS),
+            _ => enough + rng.below(40),
+        };
         self.slots.seen.fill(seen, rng);
         self.slots.opens.fill(opens, rng);
         self.slots.list.fill(room, rng);

@@ -1,4 +1,4 @@
-"""closing: the findings of open starts that are left, and the working list of open starts cleared."""
+"""closing: the findings of open openNodes that are left, and the working list of open openNodes cleared."""
 
 LAWS = ['proofs/Starts', 'proofs/Zeroed', 'reference_laws::proofs/Sizes', 'definition::specs/Outcome', 'state::specs/Inner']
 DEFAULTS = {'OpenStart': 'noStart'}

@@ -58,7 +58,7 @@ walk = dict(
     cuts={
         'numbers': dict(
             values='numbers',
-            holds='startsOf $numbers ≡ startsFor (anchorAt source₀ tape₀ (rec₀ .anchor) from₀) (forest source₀ tape₀ from₀ to₀)',
+            holds='startsOf $numbers ≡ startsFor (anchorOf source₀ tape₀ (rec₀ .anchor) from₀) (forest source₀ tape₀ from₀ to₀)',
             reached='says-anchored')},
     loop=dict(
         changes='i numbers rec seen opens list',

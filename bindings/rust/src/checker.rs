@@ -1,6 +1,6 @@
 //! The check with lists that are kept from one document to the next.
 
-use crate::document::{Lent, Table, Tape};
+use crate::document::{Table, Tape};
 use crate::raw::{self, FINDING_WORDS, OpenStart};
 use crate::reading::read_over;
 use crate::refusal::Refusal;
@@ -8,13 +8,21 @@ use crate::report::{Counts, Report};
 use crate::texts::{self, Room, Texts, lengthen};
 
 /// The most nodes that number 4 lets pass.
-pub(crate) const MOST_NODES: usize = 65_535;
+const MOST_NODES: usize = 65_535;
 
 // Where the spans of 65,535 nodes don't overlap in a source of 1,048,576 bytes, both limits are out of reach: a node has at
 // most five findings, an attribute besides one for each two bytes; a text has at most 90 bytes of its own, and shows no part
 // of the source more than four times.
-pub(crate) const MAX_FINDINGS: usize = 1 << 20;
-pub(crate) const MAX_TEXT: usize = 1 << 26;
+const MAX_FINDINGS: usize = 1 << 20;
+const MAX_TEXT: usize = 1 << 26;
+
+/// The bytes of a document.
+#[derive(Clone, Copy)]
+struct Lent<'a> {
+    table: &'a [u8],
+    source: &'a [u8],
+    tape: &'a [u8],
+}
 
 /// What a report call gave: the counts, how many findings the list holds, how many bytes were lent for their texts, and the
 /// answer about the texts.
@@ -118,7 +126,11 @@ impl Checker {
         source: &[u8],
         tape: &Tape<'_>,
     ) -> Result<Report, Refusal> {
-        let lent = Lent::new(table, source, tape);
+        let lent = Lent {
+            table: table.as_bytes(),
+            source,
+            tape: tape.as_bytes(),
+        };
         let answer = self.find(lent, tape.len())?;
         let texts = self.gather(lent, &answer)?;
         Report::new(answer.counts, &self.list, texts)
@@ -181,13 +193,23 @@ impl Checker {
             &mut self.room.bytes[..bytes],
             &mut out,
         );
-        let [check @ .., verdict, number, place, texts, len] = out;
-        let (counts, written) = Counts::read(check)?;
+        let [verdict, number, place, total, written, rest @ ..] = out;
+        if verdict == raw::REFUSED {
+            return Err(Refusal { number, place });
+        }
+        let [verses, errors, warnings, infos, texts @ ..] = rest;
+        let counts = Counts {
+            total,
+            verses,
+            errors,
+            warnings,
+            infos,
+        };
         Ok(ReportAnswer {
             counts,
             written,
             bytes,
-            texts: [verdict, number, place, texts, len],
+            texts,
         })
     }
 
@@ -195,9 +217,20 @@ impl Checker {
     fn gather(&mut self, lent: Lent<'_>, answer: &ReportAnswer) -> Result<Texts, Refusal> {
         let words = FINDING_WORDS.saturating_mul(answer.written as usize);
         let list = self.list.get(..words).unwrap_or_default();
+        let messages = |list: &[u64], ends: &mut [u64], text: &mut [u8]| {
+            let mut out = [0; raw::MESSAGES_WORDS];
+            raw::messages(
+                lent.table,
+                lent.source,
+                lent.tape,
+                list,
+                ends,
+                text,
+                &mut out,
+            );
+            out
+        };
         let (room, limit) = (&mut self.room, self.max_text);
-        let messages =
-            |list: &[u64], ends: &mut [u64], text: &mut [u8]| lent.messages(list, ends, text);
         texts::gather(list, room, limit, answer.bytes, answer.texts, messages)
     }
 }

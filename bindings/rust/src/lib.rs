@@ -64,11 +64,6 @@
 //! # Ok::<(), Refusal>(())
 //! ```
 //!
-//! # Long books in sections
-//!
-//! [`Sections`] checks a document section by section, each with a report of its own; joined, they are the report of the whole.
-//! [`Tape::borders`] says where a section may end, and [`Carried`] is what a program stores to go on in another run.
-//!
 //! # What is lent
 //!
 //! Nothing is required of a caller. A table that breaks its layout, bytes that aren't UTF-8, a tape whose links don't pair: each
@@ -111,7 +106,6 @@ pub mod raw;
 mod reading;
 mod refusal;
 mod report;
-mod sections;
 mod texts;
 
 pub use checker::Checker;
@@ -124,7 +118,6 @@ pub use position::Position;
 pub use reading::OwnedTape;
 pub use refusal::Refusal;
 pub use report::{Findings, Report};
-pub use sections::{Carried, Sections};
 
 /// Checks a document.
 ///

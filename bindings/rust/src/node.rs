@@ -26,25 +26,6 @@ pub enum NodeKind {
     Error,
 }
 
-impl NodeKind {
-    /// The kind of a byte on a tape; `None` over 8.
-    fn from_byte(byte: u8) -> Option<NodeKind> {
-        use NodeKind::*;
-        let kinds = [
-            Root,
-            MarkerOpen,
-            MarkerClose,
-            Chapter,
-            Verse,
-            Text,
-            Attribute,
-            BlockEnd,
-            Error,
-        ];
-        kinds.get(usize::from(byte)).copied()
-    }
-}
-
 /// A place in the marker table.
 #[derive(Clone, Copy, PartialEq, Eq, Debug)]
 #[repr(transparent)]
@@ -95,22 +76,5 @@ impl Node {
             len,
             link,
         }
-    }
-
-    /// The node of these bytes of a tape; `None` where its kind is over 8.
-    pub(crate) fn read(bytes: &[u8; size_of::<Node>()]) -> Option<Self> {
-        let &[kind, flags, low, high, ref fields @ ..] = bytes;
-        let (fields, _) = fields.as_chunks();
-        let &[start, len, link] = fields else {
-            return None;
-        };
-        Some(Node {
-            kind: NodeKind::from_byte(kind)?,
-            flags,
-            marker: MarkerId(u16::from_le_bytes([low, high])),
-            start: u32::from_le_bytes(start),
-            len: u32::from_le_bytes(len),
-            link: u32::from_le_bytes(link),
-        })
     }
 }

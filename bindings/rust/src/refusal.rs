@@ -5,9 +5,8 @@ use std::fmt;
 
 /// Why a call was turned back: a number, with a place.
 ///
-/// A document is turned back by the numbers 1 to 9, a mark by 14 and 15, a text that is read by 1 to 3, 16 and 17, a document in
-/// sections by 1 to 9, 12 and 19. The others are answers of the functions in [`raw`](crate::raw): 10 of a check, 11 of a tally,
-/// 12 and 13 of a finding's text, 18 of a reading.
+/// A document is turned back by the numbers 1 to 9, a mark by 14 and 15, a text that is read by 1 to 3, 16 and 17. The others are
+/// answers of the functions in [`raw`](crate::raw): 10 of a check, 11 of a tally, 12 and 13 of a finding's text, 18 of a reading.
 #[derive(Clone, Copy, PartialEq, Eq, Hash, Debug)]
 pub struct Refusal {
     /// Which condition turned it back.
@@ -17,7 +16,7 @@ pub struct Refusal {
 }
 
 /// Each number's condition and what its place counts, from 1 on.
-const CONDITIONS: [(&str, &str); 19] = [
+const CONDITIONS: [(&str, &str); 18] = [
     ("the marker table breaks its layout", "table byte"),
     ("the source is longer than 1,048,576 bytes", "place"),
     ("the source isn't UTF-8", "source byte"),
@@ -63,10 +62,6 @@ const CONDITIONS: [(&str, &str); 19] = [
         "source byte",
     ),
     ("the list is too short for the nodes", "nodes needed"),
-    (
-        "a section doesn't start where the last one ended or doesn't end behind it between top-level nodes, a close comes early, or the carried record can't be this tape's",
-        "expected node",
-    ),
 ];
 
 const UNKNOWN: (&str, &str) = ("the number is unknown", "place");

@@ -11,7 +11,7 @@ use crate::raw::{self, FINDING_WORDS};
 use crate::refusal::Refusal;
 use crate::texts::Texts;
 
-/// The numbers of a checked document or section.
+/// The numbers of a checked document.
 #[derive(Clone, Copy, PartialEq, Eq, Debug)]
 pub(crate) struct Counts {
     pub(crate) total: u64,
@@ -21,27 +21,7 @@ pub(crate) struct Counts {
     pub(crate) infos: u64,
 }
 
-impl Counts {
-    /// The counts that a check's answer says, and how many findings the list holds.
-    pub(crate) fn read(answer: [u64; raw::CHECK_WORDS]) -> Result<(Counts, u64), Refusal> {
-        let [verdict, number, place, total, written, rest @ ..] = answer;
-        if verdict == raw::REFUSED {
-            return Err(Refusal { number, place });
-        }
-        let [verses, errors, warnings, infos] = rest;
-        let counts = Counts {
-            total,
-            verses,
-            errors,
-            warnings,
-            infos,
-        };
-        Ok((counts, written))
-    }
-}
-
-/// What a checked document gives: its findings with their texts, and its counts. A section of a document, or the end of one, has
-/// a report of its own, which [`Sections`](crate::Sections) gives.
+/// What a checked document gives: its findings with their texts, and its counts.
 #[derive(Clone, PartialEq, Eq, Debug)]
 pub struct Report {
     counts: Counts,
@@ -115,7 +95,7 @@ impl Report {
         mark(self.errors(), self.warnings(), self.verses())
     }
 
-    /// Whether the document has findings that a limit, as those of the [`Checker`](crate::Checker), kept out of this report.
+    /// Whether the document has findings that a limit of the [`Checker`](crate::Checker) kept out of this report.
     pub fn is_cut(&self) -> bool {
         (self.records.len() as u64) < self.counts.total
     }

@@ -131,23 +131,6 @@ pub(crate) fn gather(
     }
 }
 
-/// As [`gather`], where the room holds none of the texts yet. A list without findings takes no call.
-pub(crate) fn gather_all(
-    list: &[u64],
-    room: &mut Room,
-    limit: usize,
-    mut messages: impl FnMut(&[u64], &mut [u64], &mut [u8]) -> [u64; MESSAGES_WORDS],
-) -> Result<Texts, Refusal> {
-    let findings = list.len() / FINDING_WORDS;
-    if findings == 0 {
-        return Ok(Texts::default());
-    }
-    room.lengthen(findings, limit);
-    let lent = room.bytes.len().min(limit);
-    let answer = messages(list, &mut room.ends, &mut room.bytes[..lent]);
-    gather(list, room, limit, lent, answer, messages)
-}
-
 #[cfg(test)]
 mod tests {
     use super::*;
@@ -173,13 +156,26 @@ mod tests {
         [DONE, 0, 0, written as u64, used as u64]
     }
 
+    /// What is gathered from a library that is called each time, the first time too.
+    fn gather_by_calls(
+        list: &[u64],
+        limit: usize,
+        mut messages: impl FnMut(&[u64], &mut [u64], &mut [u8]) -> [u64; MESSAGES_WORDS],
+    ) -> Result<Texts, Refusal> {
+        let mut room = Room::default();
+        room.lengthen(list.len() / FINDING_WORDS, limit);
+        let lent = room.bytes.len();
+        let answer = messages(list, &mut room.ends, &mut room.bytes);
+        gather(list, &mut room, limit, lent, answer, messages)
+    }
+
     /// What is gathered of these texts within a limit, and the number of calls.
     fn gathered(texts: &[&[u8]], limit: usize) -> (Vec<String>, usize) {
         let list: Vec<u64> = (0..texts.len() as u64)
             .flat_map(|k| [k; FINDING_WORDS])
             .collect();
         let mut calls = 0;
-        let found = gather_all(&list, &mut Room::default(), limit, |list, ends, bytes| {
+        let found = gather_by_calls(&list, limit, |list, ends, bytes| {
             calls += 1;
             library(texts, list, ends, bytes)
         });
@@ -193,7 +189,7 @@ mod tests {
         let (texts, calls) = gathered(&[b"one", b"", b"three"], 1_000);
         assert_eq!(texts, ["one", "", "three"]);
         assert_eq!(calls, 1);
-        assert_eq!(gathered(&[], 1_000), (vec![], 0));
+        assert_eq!(gathered(&[], 1_000), (vec![], 1));
     }
 
     #[test]
@@ -258,7 +254,7 @@ mod tests {
     fn from_answer(answer: [u64; MESSAGES_WORDS]) -> (Result<Texts, Refusal>, usize) {
         let list = [0; 2 * FINDING_WORDS];
         let mut calls = 0;
-        let found = gather_all(&list, &mut Room::default(), 1_000, |_, _, _| {
+        let found = gather_by_calls(&list, 1_000, |_, _, _| {
             calls += 1;
             answer
         });

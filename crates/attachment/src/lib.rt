@@ -1,4 +1,6 @@
 // Alternate and published numbers: which of them are attached to a chapter or a verse.
+#![tactic(auto)]
+
 ghost use Rattle.std.specs.Prelude.{◌≡◌, not, ◌&&◌, [], ◌∷◌, ◌++◌, ◌<◌, length};
 ghost use Rattle.tape.specs.Nodes.{node_at};
 ghost use Rattle.tape.specs.Forest.{forest};

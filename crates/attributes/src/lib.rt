@@ -1,4 +1,6 @@
 // Attributes: the checks of what stands after a marker's `|`.
+#![tactic(auto)]
+
 ghost use Rattle.std.specs.Prelude.{◌≡◌, not, ◌&&◌, [], ◌∷◌, ◌-◌, ◌<◌, ◌≤◌, ltb, length, drop};
 ghost use Rattle.text.specs.Inner.{Ended};
 ghost use Rattle.text.specs.Characters.{chars, find};

@@ -1,4 +1,6 @@
 // Writes bytes over a lent list from a place on, as far as there is room.
+#![tactic(auto)]
+
 ghost use Rattle.std.specs.Prelude.{◌≡◌, ◌-◌, ◌≤◌, min, length};
 ghost use Rattle.buffer.specs.Over.{Put, place_limit};
 ghost use Rattle.buffer.specs.Decimal.{decimal};

@@ -1,4 +1,3 @@
 pub mod Along
 pub mod Tests
 pub mod WrongAnswers
-pub mod Worded

@@ -3,9 +3,8 @@
 use Prim.Native.Nat.{ℕ}
 use mathlib.Core.Path.{◌≡◌, refl}
 use mathlib.Core.Bool.{true, false}
-use mathlib.Core.List.{List, [], ◌∷◌}
-use mathlib.Core.Option.{some, none}
-use lib.ListN.{take}
+use mathlib.Core.List.{List}
+use mathlib.Core.Option.{none}
 use Rattle.text.specs.Literal.{ascii}
 use Rattle.text.specs.Pick.{in_any}
 use Rattle.text.specs.Blank.{blank_ranges, blank}
@@ -24,7 +23,6 @@ use Rattle.definition.specs.Sections.{numbers_of, is_border}
 use Rattle.definition.specs.Carried.{number_too_large, list_too_long, bad_anchor, bad_start, anchor_node}
 use Rattle.definition.specs.Carried as carried
 use Rattle.carried.specs.Record.{bad_record}
-use Rattle.carried.specs.Words.{is_record, letter_in, place_in}
 
 -- a document with the top-level nodes 1, 4 (a Chapter), 5 (`\qt-s`) and 7 (`\qt-e`), each marker with its close behind it; the root's link is 9
 abbrev s : List ℕ
@@ -81,19 +79,3 @@ record-answers = (refl, refl, refl)
 pub node-answers : (anchor_node s t (carrying 5 2 1 1 0 4) ≡ 4) × (anchor_node s t (carrying 4 2 1 1 0 4) ≡ 0) × (anchor_node s t (carrying 5 2 1 1 0 2) ≡ 0)
 unfolding ascii tape_of longer_document word nodes runs numbers_of among
 node-answers = (refl, refl, refl)
-
--- words of a record with these flags and letter
-abbrev words : ℕ → ℕ → List ℕ
-words flag letter = 1 ∷ 0 ∷ 0 ∷ 0 ∷ 0 ∷ flag ∷ 1 ∷ 1 ∷ letter ∷ 0 ∷ 0 ∷ 0 ∷ []
-
--- one that takes 11 words, one that wants 13, one that takes a flag of 2, one that doesn't look at the last flag, one that refuses the letter 255, one that takes 256
-pub words-answers : (is_record (take 11 (words 0 0)) ≡ false) × (is_record (words 1 0) ≡ true) × (is_record (words 2 0) ≡ false) × (is_record (words 0 255) ≡ true) × (is_record (words 0 256) ≡ false)
-words-answers = (refl, refl, refl, refl, refl)
-
--- one that reads the word 0 as a letter, one that reads every word as none
-pub letter-answers : (letter_in 0 ≡ none) × (letter_in 97 ≡ some 97)
-letter-answers = (refl, refl)
-
--- one that gives no words the place 0, one that gives every list the place 1
-pub place-answers : (place_in [] ≡ 1) × (place_in (0 ∷ []) ≡ 0) × (place_in (take 11 (words 0 0)) ≡ 1)
-place-answers = (refl, refl, refl)

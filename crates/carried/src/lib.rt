@@ -1,5 +1,7 @@
 // Sections: the record that a caller carries from one call to the next, and the tests by which number 19 turns a record back.
-ghost use Rattle.std.specs.Prelude.{◌≡◌, false, ◌<◌, ◌≤◌, length, get_or};
+#![tactic(auto)]
+
+ghost use Rattle.std.specs.Prelude.{◌≡◌, false};
 ghost use Rattle.tape.specs.Nodes.{node_at};
 ghost use Rattle.tape.specs.Reading.{bad_length};
 ghost use Rattle.tape.specs.Forest.{Accepted};
@@ -8,13 +10,10 @@ ghost use Rattle.table.specs.Inner.{Indexed};
 ghost use Rattle.cursor.specs.Inner.{Spanned};
 ghost use Rattle.definition.specs.Sections.{is_border};
 ghost use Rattle.definition.specs.Carried.{number_too_large, list_too_long, bad_anchor, bad_start, anchor_node};
-ghost use Rattle.numbers.specs.Verse.{suffix_of};
 ghost use Rattle.carried.specs.Record.{record_of, bad_record};
-ghost use Rattle.carried.specs.Words.{is_record, letter_in, record_at, ReadAs};
 ghost use Rattle.carried.specs.Inner.{is_start_of};
 
-use definition::OpenStart;
-use numbers::{Suffix, VersePart};
+use numbers::VersePart;
 use table::{Info, MarkerInfo};
 
 // What the walk knows between two sections: the node where the next begins, the flags, what is expected next, how many entries of the
@@ -33,16 +32,6 @@ pub struct CarriedRecord {
     pub open_len: u64,
     pub anchor: u64,
 }
-
-// A list of words read as a record, or the place that number 19 then has: its first word, or 1.
-#[derive(Drop)]
-pub enum RecordRead {
-    Known(CarriedRecord),
-    Unknown(u64),
-}
-
-// Words of a record.
-pub const RECORD_WORDS: usize = 12;
 
 // One more than the largest number that a label can have.
 const LARGEST_EXPECTED: u64 = 4294967296;
@@ -116,20 +105,21 @@ fn is_start_of(m: MarkerInfo, source: &[u8], tape: &[u8], i: usize, base_len: u3
     base_len as usize == base.len()
 }
 
-// Whether an open start is no milestone start with its base length. Its node may be any number: its kind is looked at before its
-// text, since nothing checks the root's span.
+// Whether an open start, given by its two fields, is no milestone start with its base length. The node may be any number: its kind
+// is looked at before its text, since nothing checks the root's span.
 pub fn is_bad_start(
     table: &[u8],
     index: &[u64],
     entries: usize,
     source: &[u8],
     tape: &[u8],
-    o: OpenStart,
+    node: u32,
+    base_len: u32,
 ) -> bool
     requires { (Indexed table.now index.now entries) × (Accepted source.now tape.now) }
-    ensures { result ≡ bad_start table.now source.now tape.now o }
+    ensures { result ≡ bad_start table.now source.now tape.now (record { node = node; base_len = base_len }) }
 {
-    let i = o.node as usize;
+    let i = node as usize;
     if tape.len() / 16 <= i {
         return true;
     }
@@ -137,7 +127,7 @@ pub fn is_bad_start(
         return true;
     }
     match cursor::marker_info(table, index, entries, tape, i) {
-        Info::Known(m) => !is_start_of(m, source, tape, i, o.base_len),
+        Info::Known(m) => !is_start_of(m, source, tape, i, base_len),
         Info::Missing => true,
     }
 }
@@ -172,67 +162,4 @@ pub fn anchor_node(source: &[u8], tape: &[u8], rec: CarriedRecord) -> usize
     } else {
         0
     }
-}
-
-// Whether words can be a record: there are enough, each flag is 0 or 1, and the letter is a byte.
-fn is_record(words: &[u64]) -> bool
-    ensures { result ≡ is_record words.now }
-{
-    if words.len() < RECORD_WORDS {
-        return false;
-    }
-    let later = state::and(words[4] < 2, words[5] < 2);
-    let flags = state::and(
-        words[1] < 2,
-        state::and(words[2] < 2, state::and(words[3] < 2, later)),
-    );
-    state::and(flags, words[8] < 256)
-}
-
-// The letter of a word, which is 0 for none.
-fn letter_of(word: u64) -> Suffix
-    requires { word < 256 }
-    ensures { suffix_of result ≡ letter_in word }
-{
-    if word == 0 {
-        return Suffix::None;
-    }
-    Suffix::Letter(word as u8)
-}
-
-// The record that words are.
-fn record_of(words: &[u64]) -> CarriedRecord
-    requires { (12 ≤ length words.now) × (get_or words.now 8 0 < 256) }
-    ensures { record_of result ≡ record_at words.now }
-{
-    let verse = VersePart {
-        num: words[7],
-        suffix: letter_of(words[8]),
-    };
-    CarriedRecord {
-        place: words[0],
-        has_id: words[1] == 1,
-        has_chapter: words[2] == 1,
-        has_verse: words[3] == 1,
-        front_matter: words[4] == 1,
-        outside_warned: words[5] == 1,
-        expected_chapter: words[6],
-        expected_verse: verse,
-        seen_len: words[9],
-        open_len: words[10],
-        anchor: words[11],
-    }
-}
-
-// Reads words as a record, and leaves them as they are.
-pub fn read_record(words: &mut [u64]) -> RecordRead
-    ensures { (words.new ≡ words.old) × ReadAs words.old result }
-{
-    if is_record(words) {
-        return RecordRead::Known(record_of(words));
-    }
-    if words.len() == 0 {
-        return RecordRead::Unknown(1);
-    }
-    RecordRead::Unknown(words[0])
 }

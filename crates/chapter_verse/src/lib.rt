@@ -1,4 +1,6 @@
 // The visit of a leaf: the checks of a Chapter or a Verse, and the record after it.
+#![tactic(auto)]
+
 ghost use Rattle.std.specs.Prelude.{◌≡◌, not, ◌&&◌, ◌||◌, [], ◌+◌, ◌<◌, ◌≤◌, eqb, ltb, length, get_or};
 ghost use Rattle.tape.specs.Nodes.{count, node_at};
 ghost use Rattle.table.specs.Entries.{info_of};
@@ -10,8 +12,7 @@ ghost use Rattle.numbers.specs.Verse.{position_of, read_of, suffix_of, verse_par
 ghost use Rattle.attachment.specs.Attached.{among};
 ghost use Rattle.definition.specs.Checks;
 ghost use Rattle.definition.specs.Checks.{about, error, warning, given, number_form, chapter_checks, verse_checks, letter_byte, unread, unread_form, end_or, expected_after, leaf_checked};
-ghost use Rattle.definition.specs.Carried.{latest_words};
-ghost use Rattle.state.specs.Inner.{state_of, context_of, counts_of, VerseBounded};
+ghost use Rattle.state.specs.Inner.{latest, state_of, context_of, counts_of, VerseBounded};
 ghost use Rattle.chapter_verse.specs.Inner.{LowRead, LabelRead, PassedChapter, PassedVerse};
 ghost use Rattle.chapter_verse.specs.InnerVisit.{LeafVisited};
 ghost use Rattle.table.specs.Inner.{Indexed};
@@ -29,7 +30,7 @@ use table::Info;
 // Whether a number is among the first k words, a word at a time.
 fn is_among_few(seen: &[u32], k: usize, num: u32) -> bool
     requires { k ≤ length seen.now }
-    ensures { result ≡ among num (latest_words seen.now k) }
+    ensures { result ≡ among num (latest seen.now k) }
 {
     let mut i = k;
     while 0 < i {
@@ -45,7 +46,7 @@ fn is_among_few(seen: &[u32], k: usize, num: u32) -> bool
 // becomes vector code.
 fn is_in_block(seen: &[u32], at: usize, num: u32) -> bool
     requires { at + 16 ≤ length seen.now }
-    ensures { (result || among num (latest_words seen.now at)) ≡ among num (latest_words seen.now (at + 16)) }
+    ensures { (result || among num (latest seen.now at)) ≡ among num (latest seen.now (at + 16)) }
 {
     let mut found = false;
     let mut i: usize = 0;
@@ -59,7 +60,7 @@ fn is_in_block(seen: &[u32], at: usize, num: u32) -> bool
 // Whether a number is among the first k words.
 fn is_seen(seen: &[u32], k: usize, num: u32) -> bool
     requires { k ≤ length seen.now }
-    ensures { result ≡ among num (latest_words seen.now k) }
+    ensures { result ≡ among num (latest seen.now k) }
 {
     let mut i = k;
     while 16 <= i {

@@ -1,4 +1,6 @@
 // Reads table.txt, source.usfm and nodes.bin of the current folder, checks them and writes the listing, piece by piece.
+#![tactic(auto)]
+
 ghost use Rattle.std.specs.Prelude.{◌≡◌, false, ◌≤◌, length};
 ghost use Rattle.std.proofs.Math.Option.{none};
 ghost use Rattle.text.specs.Utf8.{first_ill_formed};

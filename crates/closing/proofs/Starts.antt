@@ -11,8 +11,7 @@ use Rattle.findings.specs.Finding.{Finding}
 use Rattle.findings.specs.declared.Counts.{Counts}
 use Rattle.findings.specs.Written.{total}
 use Rattle.findings.proofs.Overlay.{wrote_none, wrote-append, counted-total}
-use Rattle.definition.specs.Carried.{start_nodes}
-use Rattle.state.specs.Inner.{Opens}
+use Rattle.state.specs.Inner.{open_nodes, Opens}
 use Rattle.definition.specs.Checks.{error}
 use Rattle.definition.specs.Document.{unclosed}
 use Rattle.definition.specs.Outcome.{no_start}
@@ -23,26 +22,26 @@ use Rattle.closing.specs.Inner.{of_open, UnclosedReady}
 use Rattle.findings.specs.Codes.{milestone_mismatch, unclosed_start}
 use Rattle.findings.specs.Inner.{Wrote, Room}
 
-left-length : (s t : List ℕ) (opens : List OpenStart) (k : ℕ) → length (unclosed (start_nodes s t opens k)) ≡ k
-left-length s t opens k = unclosed-length (start_nodes s t opens k) ∙ starts-length s t opens k
+left-length : (s t : List ℕ) (opens : List OpenStart) (k : ℕ) → length (unclosed (open_nodes s t opens k)) ≡ k
+left-length s t opens k = unclosed-length (open_nodes s t opens k) ∙ starts-length s t opens k
 
-unclosed-more : (s t : List ℕ) (opens : List OpenStart) (k : ℕ) → unclosed (start_nodes s t opens (k + 1)) ≡ unclosed (start_nodes s t opens k) ++ error (node_at s t (get_or opens k no_start).node) milestone_mismatch unclosed_start ∷ []
-unfolding unclosed start_nodes
+unclosed-more : (s t : List ℕ) (opens : List OpenStart) (k : ℕ) → unclosed (open_nodes s t opens (k + 1)) ≡ unclosed (open_nodes s t opens k) ++ error (node_at s t (get_or opens k no_start).node) milestone_mismatch unclosed_start ∷ []
+unfolding unclosed open_nodes
 unclosed-more s t opens k = rw add-one
 
 -- Of n open starts the first k are written: the list and the counts at the start, and now.
 pub record UnclosedSoFar (s t : List ℕ) (opens : List OpenStart) (n : ℕ) (l₀ : List ℕ) (c₀ : Counts) (l : List ℕ) (c : Counts) (k : ℕ) : Type 0 where
   pub few : k ≤ n
   pub known : Opens s t opens n
-  pub room : Room c₀ (unclosed (start_nodes s t opens n))
-  pub wrote : Wrote (unclosed (start_nodes s t opens k)) l₀ c₀ l c
+  pub room : Room c₀ (unclosed (open_nodes s t opens n))
+  pub wrote : Wrote (unclosed (open_nodes s t opens k)) l₀ c₀ l c
 
-pub unclosed-none : (s t : List ℕ) (opens : List OpenStart) (n : ℕ) (l : List ℕ) (c₀ c : Counts) → c ≡ c₀ → Opens s t opens n → Room c₀ (unclosed (start_nodes s t opens n)) → UnclosedSoFar s t opens n l c₀ l c 0
-unfolding unclosed start_nodes
+pub unclosed-none : (s t : List ℕ) (opens : List OpenStart) (n : ℕ) (l : List ℕ) (c₀ c : Counts) → c ≡ c₀ → Opens s t opens n → Room c₀ (unclosed (open_nodes s t opens n)) → UnclosedSoFar s t opens n l c₀ l c 0
+unfolding unclosed open_nodes
 unclosed-none s t opens n l c₀ c e o r = rw e (record { few = omega arith; known = o; room = r; wrote = wrote_none l c₀ })
 
 module _ {s t : List ℕ} {opens : List OpenStart} {n : ℕ} {l₀ : List ℕ} {c₀ : Counts} {l : List ℕ} {c : Counts} {k : ℕ} (so_far : UnclosedSoFar s t opens n l₀ c₀ l c k) where
-  pub unclosed-all : n ≤ k → Wrote (unclosed (start_nodes s t opens n)) l₀ c₀ l c
+  pub unclosed-all : n ≤ k → Wrote (unclosed (open_nodes s t opens n)) l₀ c₀ l c
   unclosed-all h =
       let f = so_far.few in
       let e : n ≡ k = omega arith in
@@ -57,7 +56,7 @@ module _ {s t : List ℕ} {opens : List OpenStart} {n : ℕ} {l₀ : List ℕ} {
 
     unclosed-room : Room c (of_open t (get_or opens k no_start))
     unclosed-room =
-        let e : total c ≡ total c₀ + length (unclosed (start_nodes s t opens k)) = ap total so_far.wrote.counts ∙ counted-total c₀ (unclosed (start_nodes s t opens k)) in
+        let e : total c ≡ total c₀ + length (unclosed (open_nodes s t opens k)) = ap total so_far.wrote.counts ∙ counted-total c₀ (unclosed (open_nodes s t opens k)) in
         let i = left-length s t opens k in
         let j = left-length s t opens n in
         let r = so_far.room in

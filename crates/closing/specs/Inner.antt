@@ -6,8 +6,7 @@ use Rattle.findings.specs.declared.Counts.{Counts}
 use Rattle.definition.specs.Checks.{Check, when, error}
 use Rattle.definition.specs.declared.OpenStart.{OpenStart}
 use Rattle.definition.specs.Document.{of_document, unclosed}
-use Rattle.definition.specs.Carried.{start_nodes}
-use Rattle.state.specs.Inner.{counts_of, Opens}
+use Rattle.state.specs.Inner.{open_nodes, counts_of, Opens}
 use Rattle.state.specs.declared.State.{State}
 use Rattle.findings.specs.Codes.{milestone_mismatch, unclosed_start, missing_id_marker, missing_chapter_marker}
 use Rattle.findings.specs.Inner.{Room}
@@ -22,7 +21,7 @@ missing_checks r =
 -- the open starts that are left are known, and there is room for their findings
 pub record Left (s t : List ℕ) (opens : List OpenStart) (r : State) : Type 0 where
   pub known : Opens s t opens r.open_len
-  pub room : Room (counts_of r) (unclosed (start_nodes s t opens r.open_len))
+  pub room : Room (counts_of r) (unclosed (open_nodes s t opens r.open_len))
 
 -- the finding of one
 abbrev pub of_open : List ℕ → OpenStart → List Finding

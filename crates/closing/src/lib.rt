@@ -1,4 +1,6 @@
 // Before the walk and after it: text before `\id`, the closing findings, and the working lists cleared.
+#![tactic(auto)]
+
 ghost use Rattle.std.specs.Prelude.{◌≡◌, ◌≤◌, length};
 ghost use Rattle.tape.specs.Forest.{forest};
 ghost use Rattle.cursor.specs.Inner.{Run};
@@ -7,8 +9,7 @@ ghost use Rattle.definition.specs.Checks.{given};
 ghost use Rattle.definition.specs.Document.{text_before, of_document};
 ghost use Rattle.definition.specs.Document;
 ghost use Rattle.definition.specs.Outcome.{no_start, cleared};
-ghost use Rattle.definition.specs.Carried.{start_nodes};
-ghost use Rattle.state.specs.Inner.{counts_of};
+ghost use Rattle.state.specs.Inner.{counts_of, open_nodes};
 ghost use Rattle.closing.specs.Inner.{missing_checks, Left, of_open, UnclosedReady};
 ghost use Rattle.findings.specs.Inner.{Wrote, Room};
 
@@ -79,7 +80,7 @@ pub fn unclosed(
     list: &mut [u64],
 ) -> Counts
     requires { Left source.now tape.now opens.old rec }
-    ensures { (opens.new ≡ opens.old) × Wrote (Document.unclosed (start_nodes source.now tape.now opens.old rec.open_len)) list.old (counts_of rec) list.new result }
+    ensures { (opens.new ≡ opens.old) × Wrote (Document.unclosed (open_nodes source.now tape.now opens.old rec.open_len)) list.old (counts_of rec) list.new result }
 {
     let n = rec.open_len;
     let mut c = state::counts(rec);

@@ -1,4 +1,6 @@
 // The cursor: from a node of an accepted tape to its text, its name, its number and the nodes around it.
+#![tactic(auto)]
+
 ghost use Rattle.std.specs.Prelude.{◌≡◌, true, ◌+◌, ◌<◌, ◌≤◌, length, drop};
 ghost use Rattle.text.specs.Pick.{cut};
 ghost use Rattle.text.specs.Characters.{find};

@@ -5,7 +5,7 @@ use native.Mathlib.Nat.{le_refl}
 use native.Mathlib.Omega.{arith}
 use mathlib.Core.Path.{◌≡◌, refl}
 use mathlib.Core.Bool.{Bool, true, false, false≢true}
-use mathlib.Core.List.{List, [], ◌∷◌, ◌++◌}
+use mathlib.Core.List.{List, [], ◌∷◌}
 use mathlib.Core.Logic.{◌⊎◌, inl, inr}
 use mathlib.Core.Option.{Option, some, none}
 use lib.Dec.{eqb, ltb}
@@ -21,12 +21,12 @@ use Rattle.table.specs.Entries.{Entry}
 use Rattle.findings.specs.Finding.{Finding}
 use Rattle.findings.specs.Written.{room}
 use Rattle.attributes.specs.Attributes.{go}
-use Rattle.definition.proofs.EachFinding.{EachFinding, codes_of, is_given, among-all, each_append, each-pick, each-text, each-walk, each-closing, each-finding}
+use Rattle.definition.proofs.EachFinding.{EachFinding, codes_of, is_given, among-all, each-finding}
 use Rattle.definition.specs.State.{WalkState, initial, outside, WalkContext, Anchor, past}
 use Rattle.definition.specs.Checks.{entry_of, after_chapter, after_verse, leaf_checked, after_id}
 use Rattle.definition.specs.Milestones.{after_milestone_by}
 use Rattle.definition.specs.Walk.{leaf_anchor, open_checked_by, open_checked, inside, after_node, then_walk, by_entry, walk_by, walk}
-use Rattle.definition.specs.Document.{text_before, closing, findings}
+use Rattle.definition.specs.Document.{findings}
 use Rattle.definition.specs.Outcome.{Lent, refusal, add_if, of_severity, smaller, list_of, checked_of, written_of}
 use Rattle.definition.proofs.Demand3.{checked-accepted}
 use Rattle.findings.specs.Codes.{code_count}
@@ -53,16 +53,6 @@ given-listed zero code form h = (omega arith, low-codes code (codes_of 0) refl h
 given-listed (suc zero) code form h = (omega arith, low-codes code (codes_of 1) refl h)
 given-listed (suc (suc zero)) code form h = (omega arith, low-codes code (codes_of 2) refl h)
 given-listed (suc (suc (suc n))) code form h = (absurd (false≢true (none-among code h)), absurd (false≢true (none-among code h)))
-
--- the findings of a section's walk, from any state
-pub graded-section : (table : List ℕ) (o : WalkContext) (a : Option Anchor) (f : Forest) (st : WalkState) (first : Bool) → Graded (pick first (text_before f) [] ++ (walk table o a f st).findings)
-graded-section table o a f st first =
-    let P : ℕ → ℕ → ℕ → Type 0 = λ severity code form. Listed severity code in
-    each_append P (pick first (text_before f) []) (walk table o a f st).findings (each-pick P first (text_before f) (each-text P given-listed f)) (each-walk P given-listed (λ form. (omega arith, omega arith)) (omega arith, omega arith) table o a f st)
-
--- and those of a close
-pub graded-closing : (st : WalkState) → Graded (closing st)
-graded-closing st = each-closing (λ severity code form. Listed severity code) given-listed (omega arith, omega arith) st
 
 -- the whole list
 pub graded : (table : List ℕ) (f : Forest) → Graded (findings table f)

@@ -112,14 +112,14 @@ own_findings name e o a st st₁ x c f =
     ++ attributes_findings x.number (name_of x.text) c
 
 module _ (P : ℕ → ℕ → ℕ → Type 0) where
-  pub each_append : (fs gs : List Finding) → EachFinding P fs → EachFinding P gs → EachFinding P (fs ++ gs)
+  each_append : (fs gs : List Finding) → EachFinding P fs → EachFinding P gs → EachFinding P (fs ++ gs)
   each_append fs gs p q = all_append (λ (f : Finding). P f.severity f.code f.form) fs gs p q
 
   each-only : (b : Bool) (f : Finding) → P f.severity f.code f.form → EachFinding P (only b f)
   each-only true f h = (h, tt)
   each-only false f h = tt
 
-  pub each-pick : (b : Bool) (fs : List Finding) → EachFinding P fs → EachFinding P (pick b fs [])
+  each-pick : (b : Bool) (fs : List Finding) → EachFinding P fs → EachFinding P (pick b fs [])
   each-pick true fs p = p
   each-pick false fs p = tt
 

@@ -45,8 +45,8 @@ module _ (table s t : List ℕ) where
       pub known : Known table s t 64 (anchor_node s t r) r.place
       pub chapter : r.expected_chapter ≤ 4294967296
       pub verse : r.expected_verse.number ≤ 4294967296
-      pub few_seen : r.seen_len ≤ r.place
-      pub few_open : r.open_len ≤ r.place
+      pub few-seen : r.seen_len ≤ r.place
+      pub few-open : r.open_len ≤ r.place
       pub starts : (j : ℕ) → j < r.open_len → is_milestone_start table (node_at s t (get_or opens j no_start).node) ≡ true
       pub bases : (j : ℕ) → j < r.open_len → (get_or opens j no_start).base_len ≡ length (base_of (node_at s t (get_or opens j no_start).node))
 
@@ -91,8 +91,8 @@ module _ (table s t : List ℕ) where
           known = record-known p r.anchor here d.0 (is_border s t r.anchor && ltb r.anchor p) refl;
           chapter = ltb-false 4294967296 r.expected_chapter numbers.0;
           verse = ltb-false 4294967296 r.expected_verse.number numbers.1;
-          few_seen = ltb-false p r.seen_len lengths.0;
-          few_open = ltb-false p r.open_len lengths.1;
+          few-seen = ltb-false p r.seen_len lengths.0;
+          few-open = ltb-false p r.open_len lengths.1;
           starts = λ j l. and_left _ _ (not-false _ (each_start opens r.open_len d.1 j l));
           bases = λ j l. eqb-true _ _ (and_right (is_milestone_start table (node_at s t (get_or opens j no_start).node)) _ (not-false _ (each_start opens r.open_len d.1 j l)));
         }
@@ -201,7 +201,7 @@ module _ (table s t : List ℕ) where
         ap₂ (λ (fs : List Finding) (c : Carried). fs ++ close_findings c) (calls_found calls) (own-record calls).means
         ∙ ap (λ (p : ℕ). findings table (forest s t 1 p)) h
 
-  pub latest-length : (words : List ℕ) (k : ℕ) → length (latest_words words k) ≡ k
+  latest-length : (words : List ℕ) (k : ℕ) → length (latest_words words k) ≡ k
   unfolding latest_words
   latest-length words zero = refl
   latest-length words (suc k) = ap suc (latest-length words k)
@@ -223,8 +223,8 @@ module _ (table s t : List ℕ) where
   own-not-foreign r seen opens links own =
       let p = r.place in
       let fit = subst (λ (c : Carried). Fit table s t p c.state) (sym own.means) (reached-fit table s t links p own.before) in
-      let few = fit.few_seen in
-      let opened = fit.few_open in
+      let few = fit.few-seen in
+      let opened = fit.few-open in
       let a = latest-length seen r.seen_len in
       let b = open-length opens r.open_len in
       let place = meets-border s t own.before own.behind in

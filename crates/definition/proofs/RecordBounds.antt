@@ -74,15 +74,15 @@ module _ (table s t : List ℕ) where
   pub record Fit (p : ℕ) (st : WalkState) : Type 0 where
     pub chapter : st.expected_chapter ≤ 4294967296
     pub verse : st.expected_verse.number ≤ 4294967296
-    pub few_seen : length st.seen ≤ p
-    pub few_open : length st.open_starts ≤ p
+    pub few-seen : length st.seen ≤ p
+    pub few-open : length st.open_starts ≤ p
     pub starts : AllOf (GoodStart table) st.open_starts
 
   fit-later : {p : ℕ} {st : WalkState} (q : ℕ) → p ≤ q → Fit p st → Fit q st
   fit-later q l h =
-      let a = h.few_seen in
-      let b = h.few_open in
-      record { chapter = h.chapter; verse = h.verse; few_seen = omega arith; few_open = omega arith; starts = h.starts }
+      let a = h.few-seen in
+      let b = h.few-open in
+      record { chapter = h.chapter; verse = h.verse; few-seen = omega arith; few-open = omega arith; starts = h.starts }
 
   module _ (links : (i : ℕ) → link_at t i ≤ 4294967295) where
     leaf-fit : (o : WalkContext) (a : ℕ) (st : WalkState) → Fit a st → Fit (a + 1) (leaf_checked table o st (node_at s t a)).state
@@ -92,21 +92,21 @@ module _ (table s t : List ℕ) where
         test : (b v : Bool) → Fit (a + 1) (pick b (after_chapter st (node_at s t a)) (pick v (after_verse (entry_of table (node_at s t a)) o st (node_at s t a)) st))
         test true v =
             let l = links a in
-            let f = h.few_seen in
-            let g = h.few_open in
-            record { chapter = omega arith; verse = omega arith; few_seen = omega arith; few_open = omega arith; starts = h.starts }
+            let f = h.few-seen in
+            let g = h.few-open in
+            record { chapter = omega arith; verse = omega arith; few-seen = omega arith; few-open = omega arith; starts = h.starts }
         test false true =
-            let f = h.few_seen in
-            let g = h.few_open in
-            record { chapter = h.chapter; verse = expected-low (label_of (entry_of table (node_at s t a)) (node_at s t a).text) st.expected_verse h.verse; few_seen = omega arith; few_open = omega arith; starts = h.starts }
+            let f = h.few-seen in
+            let g = h.few-open in
+            record { chapter = h.chapter; verse = expected-low (label_of (entry_of table (node_at s t a)) (node_at s t a).text) st.expected_verse h.verse; few-seen = omega arith; few-open = omega arith; starts = h.starts }
         test false false = fit-later (a + 1) (omega arith) h
 
     open-fit : (o : WalkContext) (n : Option Anchor) (a : ℕ) (st : WalkState) (e : Entry) (c f : Forest) → is_open (kind_at t a) ≡ true → entry_of table (node_at s t a) ≡ some e → Fit a st → Fit (a + 1) (open_checked table o n st e (node_at s t a) c f).state
     unfolding open_checked_by after_milestone_by after_id
     open-fit o n a st e c f opened entry h =
         let k = test (is_milestone e x) refl (is_start x) refl in
-        let g = h.few_seen in
-        record { chapter = h.chapter; verse = h.verse; few_seen = omega arith; few_open = k.0; starts = k.1 }
+        let g = h.few-seen in
+        record { chapter = h.chapter; verse = h.verse; few-seen = omega arith; few-open = k.0; starts = k.1 }
       where
         x : Node
         x = node_at s t a
@@ -116,13 +116,13 @@ module _ (table s t : List ℕ) where
 
         test : (b : Bool) → is_milestone e x ≡ b → (v : Bool) → is_start x ≡ v → (length (pick b (starts_after_by pairing v m st.open_starts) st.open_starts) ≤ a + 1) × AllOf (GoodStart table) (pick b (starts_after_by pairing v m st.open_starts) st.open_starts)
         test true q true u =
-            let l = h.few_open in
+            let l = h.few-open in
             (omega arith, (rw (opened, entry, and_left (eqb e.category milestone_category) _ q, u), h.starts))
         test true q false u =
-            let l = h.few_open in
+            let l = h.few-open in
             let k = length_without pairing m st.open_starts in
             (omega arith, all_without pairing (GoodStart table) m st.open_starts h.starts)
-        test false q v u = let l = h.few_open in (omega arith, h.starts)
+        test false q v u = let l = h.few-open in (omega arith, h.starts)
 
     walk-fit : {d a b : ℕ} → Nested t d a b → (o : WalkContext) (n : Option Anchor) (st : WalkState) → Fit a st → Fit b (walk table o n (forest s t a b) st).state
     unfolding walk_by
@@ -152,5 +152,5 @@ module _ (table s t : List ℕ) where
 
     pub reached-fit : (p : ℕ) → Nested t 64 1 p → Fit p (reached table s t p).state
     reached-fit p n =
-        let h = walk-fit n outside none initial (record { chapter = omega arith; verse = omega arith; few_seen = omega arith; few_open = omega arith; starts = tt }) in
-        record { chapter = h.chapter; verse = h.verse; few_seen = h.few_seen; few_open = h.few_open; starts = h.starts }
+        let h = walk-fit n outside none initial (record { chapter = omega arith; verse = omega arith; few-seen = omega arith; few-open = omega arith; starts = tt }) in
+        record { chapter = h.chapter; verse = h.verse; few-seen = h.few-seen; few-open = h.few-open; starts = h.starts }

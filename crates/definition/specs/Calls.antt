@@ -1,5 +1,5 @@
--- Document 02, K7: what begin, section and close answer: refusals, counts, the findings list; the record that begin and section leave, and the working lists that section and close leave.
-use Rattle.std.specs.Prelude.{ℕ, ◌+◌, ◌-◌, ◌<◌, ◌≡◌, Bool, false, not, ◌||◌, List, [], ◌++◌, eqb, ltb, length, get_or, drop}
+-- Document 02, K7: what section and close answer: refusals, counts, the findings list; the record that begin and section leave, the working lists that close leaves, and what the counted entries are of those that a section leaves.
+use Rattle.std.specs.Prelude.{ℕ, ◌+◌, ◌<◌, ◌≡◌, Bool, false, not, ◌||◌, List, [], ◌++◌, eqb, ltb, length, get_or}
 use Rattle.std.proofs.Math.Option.{Option, some, none}
 use Rattle.text.specs.Pick.{pick}
 use Rattle.tape.specs.Nodes.{node_at, link_at, count}
@@ -94,18 +94,6 @@ carried_at place anchor st =
 abbrev pub begun_record : CarriedRecord
 begun_record = carried_at 1 0 initial
 
--- what begin answers: 1 to 10, else the first record. It changes neither working list
-pub data BeginAnswer : Type 0 where
-  turned_back : Refusal → BeginAnswer
-  begun_with : CarriedRecord → BeginAnswer
-
-abbrev pub begin_by : Option Refusal → BeginAnswer
-begin_by (some x) = turned_back x
-begin_by none = begun_with begun_record
-
-abbrev pub begin_answer : Lent → BeginAnswer
-begin_answer l = begin_by (refusal l)
-
 -- the last Chapter or Verse of a run, or the anchor before it
 unfoldable pub last_anchor : ℕ → Forest → ℕ
 last_anchor n end = n
@@ -129,26 +117,6 @@ pub record ListsHold (s t : List ℕ) (st : WalkState) (seen : List ℕ) (opens 
   pub chapters : latest_words seen (length st.seen) ≡ st.seen
   pub starts : start_nodes s t opens (length st.open_starts) ≡ st.open_starts
   pub bases : (j : ℕ) → j < length st.open_starts → (get_or opens j no_start).base_len ≡ length (base_of (node_at s t (get_or opens j no_start).node))
-
--- a section may write one entry for each of its nodes, behind those that counted before it
-abbrev pub writable : ℕ → CarriedRecord → ℕ → ℕ
-writable counted r to = counted + (to - r.place)
-
--- both lists after a section up to `to`, its walk having come to the state: "lent lists keep what lies beyond the written part". What the entries hold that it may write and that don't count is free: an open start that an end took may still be there
-pub record ListsMoved (l : Lent) (r : CarriedRecord) (to : ℕ) (st : WalkState) (seen : List ℕ) (opens : List OpenStart) : Type 0 where
-  pub hold : ListsHold l.source l.tape st seen opens
-  pub seen_beyond : drop (writable r.seen_len r to) seen ≡ drop (writable r.seen_len r to) l.seen
-  pub opens_beyond : drop (writable r.open_len r to) opens ≡ drop (writable r.open_len r to) l.open_starts
-  pub seen_length : length seen ≡ length l.seen
-  pub opens_length : length opens ≡ length l.open_starts
-
--- "a call turned back leaves record and lists unchanged"
-abbrev pub ListsBy : Option Refusal → Lent → CarriedRecord → ℕ → WalkState → List ℕ → List OpenStart → Type 0
-ListsBy (some x) l r to st seen opens = (seen ≡ l.seen) × (opens ≡ l.open_starts)
-ListsBy none l r to st seen opens = ListsMoved l r to st seen opens
-
-abbrev pub SectionListsAfter : Lent → CarriedRecord → ℕ → ℕ → List ℕ → List OpenStart → Type 0
-SectionListsAfter l r from to seen opens = ListsBy (section_refusal l r from to) l r to (section_walk l.table l.source l.tape (carried_in l r) to).state seen opens
 
 -- a record with its lists that begin and sections made, none of them turned back
 pub data FromCalls (table s t : List ℕ) : CarriedRecord → List ℕ → List OpenStart → Type 0 where

@@ -25,7 +25,7 @@ border_of f b p = among p (numbers_of f ++ b ∷ [])
 abbrev pub is_border : List ℕ → List ℕ → ℕ → Bool
 is_border s t p = border_of (top s t) (link_at t 0) p
 
--- what the walk knows at a place: its anchor and its state, whose verses are 0, since each call counts its own
+-- what the walk knows at a place: its anchor and its state. The verses of one call are not in it
 pub record Carried : Type 0 where
   pub place : ℕ
   pub anchor : Option Anchor

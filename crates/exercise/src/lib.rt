@@ -1,5 +1,7 @@
 // What the programs over an exercise's files share: reading the files, the check with lists for as many nodes as a file has, and
 // writing.
+#![tactic(auto)]
+
 ghost use Rattle.std.specs.Prelude.{◌≡◌, ◌*◌, ◌≤◌, length};
 ghost use Rattle.definition.specs.Outcome.{answer, list_after, repeated, no_start};
 ghost use Rattle.validate.specs.Entry.{answer_of, lent};

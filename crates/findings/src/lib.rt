@@ -1,4 +1,6 @@
 // The findings: what a finding says, and the lent list that holds them, eight words each.
+#![tactic(auto)]
+
 ghost use Rattle.std.specs.Prelude.{◌<◌, [], ◌∷◌, ◌≡◌};
 ghost use Rattle.findings.specs.Finding.{finding_of, severity_of};
 ghost use Rattle.findings.specs.Written.{only, total};

@@ -2,6 +2,8 @@
 //
 // The open characters and notes have no limit, and no list for them is lent: a window keeps the places of the innermost ones in
 // the text, from which their names are read again. Where closes have emptied the window, it is filled again from the text's start.
+#![tactic(auto)]
+
 ghost use Rattle.std.specs.Prelude.{◌≡◌, [], ◌+◌, ◌-◌, ◌<◌, ◌≤◌, ◌&&◌, eqb, leb, ltb, length};
 ghost use Rattle.text.specs.Pick.{pick};
 ghost use Rattle.refusals.specs.Refusal.{unmatched_marker};

@@ -1,14 +1,6 @@
 pub mod Reporting
-pub mod Worded
 pub mod CallWriteAnswer
 pub mod CallWriteHeld
 pub mod CallWriteTurnedBack
 pub mod CallHarkoxinCheck
 pub mod CallHarkoxinReport
-pub mod CallHarkoxinBegin
-pub mod CallWriteBegun
-pub mod CallHarkoxinSection
-pub mod CallReadRecord
-pub mod CallWriteSectioned
-pub mod CallNoRecord
-pub mod CallHarkoxinClose

@@ -1,5 +1,7 @@
 // The library under C names. A caller must pass valid slices that don't overlap.
-ghost use Rattle.std.specs.Prelude.{◌≡◌, [], ◌++◌, ◌*◌, ◌≤◌, length};
+#![tactic(auto)]
+
+ghost use Rattle.std.specs.Prelude.{◌≡◌, ◌++◌, ◌*◌, ◌≤◌, length};
 ghost use Rattle.definition.specs.Outcome.{answer, list_after, seen_after, open_after};
 ghost use Rattle.validate.specs.Entry.{answer_of};
 ghost use Rattle.tape.specs.Forest.{Accepted};
@@ -17,20 +19,11 @@ ghost use Rattle.mark.specs.Mark.{mark_answer, mark_answer_of};
 ghost use Rattle.reader_spec.specs.Answer.{read_answer, nodes_after};
 ghost use Rattle.reader.specs.Read.{read_answer_of};
 ghost use Rattle.validate.specs.Entry.{lent};
-ghost use Rattle.numbers.specs.Verse.{suffix_of};
-ghost use Rattle.definition.specs.Calls.{begin_answer};
-ghost use Rattle.carried.specs.Record.{record_of};
-ghost use Rattle.carried.specs.Words.{flag_word, letter_word, record_words, record_in, place_in};
-ghost use Rattle.sections.specs.Answers.{begin_answer_of};
-ghost use Rattle.harkoxin.specs.Sections.{first_words, first_record, begin_words, begin_record, is_turned_back, record_after, section_answer_in, section_record_in, section_list_in, SectionListsIn, close_answer_in, close_list_in, close_seen_in, close_open_in};
 
-use carried::{CarriedRecord, RecordRead};
 use definition::OpenStart;
 use mark::MarkAnswer;
 use messages::{MessageAnswer, MessageRequest, MessagesAnswer};
-use numbers::Suffix;
 use reader::ReadAnswer;
-use sections::{BeginAnswer, Sectioned};
 use tally::Tallied;
 use validate::{Answer, InputCheck, Report};
 
@@ -302,177 +295,4 @@ pub extern "C" fn harkoxin_read(table: &[u8], text: &[u8], tape: &mut [u8], out:
     ensures nodes { tape.new ≡ nodes_after table.now text.now tape.old }
 {
     write_read(reader::read(table, text, tape), out)
-}
-
-fn flag_word(b: bool) -> u64
-    ensures { result ≡ flag_word b }
-{
-    if b { 1 } else { 0 }
-}
-
-fn letter_word(s: Suffix) -> u64
-    ensures { result ≡ letter_word (suffix_of s) }
-{
-    match s {
-        Suffix::Letter(b) => b as u64,
-        Suffix::None => 0,
-    }
-}
-
-fn write_record(rec: CarriedRecord, carried: &mut [u64])
-    ensures { carried.new ≡ over carried.old 0 (record_words (record_of rec)) }
-{
-    let verse = rec.expected_verse;
-    let suffix = verse.suffix;
-    let words = [
-        rec.place,
-        flag_word(rec.has_id),
-        flag_word(rec.has_chapter),
-        flag_word(rec.has_verse),
-        flag_word(rec.front_matter),
-        flag_word(rec.outside_warned),
-        rec.expected_chapter,
-        verse.num,
-        letter_word(suffix),
-        rec.seen_len,
-        rec.open_len,
-        rec.anchor,
-    ];
-    write_words(&words, 0, carried);
-}
-
-// Writes the first record, if the list has room for it.
-fn write_first(rec: CarriedRecord, carried: &mut [u64], out: &mut [u64])
-    ensures answer { out.new ≡ over out.old 0 (first_words carried.old) }
-    ensures record { carried.new ≡ first_record (record_of rec) carried.old }
-{
-    let n = carried.len();
-    if n == 0 {
-        return write_refusal(refusals::SECTION_OUT_OF_ORDER, 1, out);
-    }
-    if n < carried::RECORD_WORDS {
-        return write_refusal(refusals::SECTION_OUT_OF_ORDER, carried[0], out);
-    }
-    write_words(&[0, 0, 0, 0, 0, 0, 0, 0, 0], 0, out);
-    write_record(rec, carried);
-}
-
-fn write_begun(a: BeginAnswer, carried: &mut [u64], out: &mut [u64])
-    ensures answer { out.new ≡ over out.old 0 (begin_words (begin_answer_of a) carried.old) }
-    ensures record { carried.new ≡ begin_record (begin_answer_of a) carried.old }
-{
-    match a {
-        BeginAnswer::Begun(rec) => write_first(rec, carried, out),
-        BeginAnswer::Refused(number, place) => write_refusal(number, place, out),
-    }
-}
-
-// Begins a document in sections: writes the first record over the list `carried`. It writes its answer over the list `out`: the verdict
-// (0 begun, 2 refused), a refusal's number and place, and zeros.
-#[unsafe(no_mangle)]
-pub extern "C" fn harkoxin_begin(
-    table: &[u8],
-    source: &[u8],
-    tape: &[u8],
-    carried: &mut [u64],
-    seen: &[u32],
-    opens: &mut [OpenStart],
-    out: &mut [u64],
-)
-    ensures answer { out.new ≡ over out.old 0 (begin_words (begin_answer (lent table.now source.now tape.now seen.now opens.old [])) carried.old) }
-    ensures record { carried.new ≡ begin_record (begin_answer (lent table.now source.now tape.now seen.now opens.old [])) carried.old }
-    ensures opens { opens.new ≡ opens.old }
-{
-    write_begun(
-        sections::begin(table, source, tape, seen, opens),
-        carried,
-        out,
-    )
-}
-
-fn is_refused(a: Answer) -> bool
-    ensures { result ≡ is_turned_back (answer_of a) }
-{
-    match a {
-        Answer::Checked(r) => false,
-        Answer::Cut(r) => false,
-        Answer::Refused(number, place) => true,
-    }
-}
-
-// Writes a section's answer, and its record unless it is turned back.
-fn write_sectioned(a: Sectioned, carried: &mut [u64], out: &mut [u64])
-    ensures answer { out.new ≡ over out.old 0 (answer_words (answer_of a.answer)) }
-    ensures record { carried.new ≡ record_after (answer_of a.answer) (record_of a.carried) carried.old }
-{
-    let answer = a.answer;
-    let rec = a.carried;
-    write_answer(answer, out);
-    if is_refused(answer) {
-        return;
-    }
-    write_record(rec, carried);
-}
-
-// A section. It writes its record over the list `carried` and its answer over the list `out`, whose words are those of
-// `harkoxin_check`, for its own findings and verses.
-#[unsafe(no_mangle)]
-pub extern "C" fn harkoxin_section(
-    table: &[u8],
-    source: &[u8],
-    tape: &[u8],
-    from: u64,
-    to: u64,
-    carried: &mut [u64],
-    seen: &mut [u32],
-    opens: &mut [OpenStart],
-    list: &mut [u64],
-    out: &mut [u64],
-)
-    ensures answer { out.new ≡ over out.old 0 (answer_words (section_answer_in (lent table.now source.now tape.now seen.old opens.old list.old) (record_in carried.old) (place_in carried.old) from to)) }
-    ensures record { carried.new ≡ section_record_in (lent table.now source.now tape.now seen.old opens.old list.old) (record_in carried.old) from to carried.old }
-    ensures list { list.new ≡ section_list_in (lent table.now source.now tape.now seen.old opens.old list.old) (record_in carried.old) from to }
-    ensures lists { SectionListsIn (lent table.now source.now tape.now seen.old opens.old list.old) (record_in carried.old) from to seen.new opens.new }
-{
-    match carried::read_record(carried) {
-        RecordRead::Known(rec) => {
-            let a = sections::section(table, source, tape, rec, from, to, seen, opens, list);
-            write_sectioned(a, carried, out)
-        }
-        RecordRead::Unknown(place) => {
-            let a = sections::no_record(table, source, tape, seen.len(), opens.len(), place);
-            write_answer(a, out)
-        }
-    }
-}
-
-// Closes a document in sections. It writes its answer over the list `out`, whose words are those of `harkoxin_check`, for the closing
-// findings and no verses.
-#[unsafe(no_mangle)]
-pub extern "C" fn harkoxin_close(
-    table: &[u8],
-    source: &[u8],
-    tape: &[u8],
-    carried: &mut [u64],
-    seen: &mut [u32],
-    opens: &mut [OpenStart],
-    list: &mut [u64],
-    out: &mut [u64],
-)
-    ensures answer { out.new ≡ over out.old 0 (answer_words (close_answer_in (lent table.now source.now tape.now seen.old opens.old list.old) (record_in carried.old) (place_in carried.old))) }
-    ensures record { carried.new ≡ carried.old }
-    ensures list { list.new ≡ close_list_in (lent table.now source.now tape.now seen.old opens.old list.old) (record_in carried.old) }
-    ensures seen { seen.new ≡ close_seen_in (lent table.now source.now tape.now seen.old opens.old list.old) (record_in carried.old) }
-    ensures opens { opens.new ≡ close_open_in (lent table.now source.now tape.now seen.old opens.old list.old) (record_in carried.old) }
-{
-    match carried::read_record(carried) {
-        RecordRead::Known(rec) => {
-            let a = sections::close(table, source, tape, rec, seen, opens, list);
-            write_answer(a, out)
-        }
-        RecordRead::Unknown(place) => {
-            let a = sections::no_record(table, source, tape, seen.len(), opens.len(), place);
-            write_answer(a, out)
-        }
-    }
 }

@@ -1,5 +1,7 @@
 // Writes a listing over lent lists, in pieces: its head, then as many whole findings as fit. Line and column of every place of a
 // source are found in one pass.
+#![tactic(auto)]
+
 ghost use Rattle.std.specs.Prelude.{◌+◌, ◌*◌, ◌≤◌, ◌<◌, ◌≡◌, length, drop};
 ghost use Rattle.std.proofs.Math.Option.{none};
 ghost use Rattle.text.specs.Utf8.{first_ill_formed};

@@ -1,4 +1,6 @@
 // The mark of a paper out of one hundred, in hundredths, from the counts of a checked document.
+#![tactic(auto)]
+
 ghost use Rattle.std.specs.Prelude.{◌≡◌, ◌≤◌};
 ghost use Rattle.buffer.specs.Over.{Put};
 ghost use Rattle.validate.specs.Entry.{answer_of};

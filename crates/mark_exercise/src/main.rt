@@ -1,4 +1,6 @@
 // Reads table.txt, source.usfm and nodes.bin of the current folder, checks them and writes loss and mark.
+#![tactic(auto)]
+
 ghost use Rattle.std.specs.Prelude.{◌≡◌, false};
 ghost use Rattle.listing.specs.Listing.{is_too_large};
 

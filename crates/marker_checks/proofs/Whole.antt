@@ -19,8 +19,7 @@ use Rattle.attributes.specs.Attributes.{attributes_findings}
 use Rattle.rows.specs.Row.{row_findings}
 use Rattle.definition.specs.State.{WalkContext}
 use Rattle.definition.specs.Checks.{Check, given, id_name, tr_name, book_code, id_checks, after_id, place_checks, content_checks}
-use Rattle.definition.specs.Carried.{anchor_at}
-use Rattle.state.specs.Inner.{state_of, counts_of, with_counts}
+use Rattle.state.specs.Inner.{state_of, anchor_of, counts_of, with_counts}
 use Rattle.state.specs.declared.State.{State}
 use Rattle.marker_checks.specs.InnerVisit.{own_at, children_at, MarkerVisited}
 use Rattle.marker_checks.specs.Inner.{with_id}
@@ -80,7 +79,7 @@ abbrev pub id_part : List ℕ → List ℕ → ℕ → State → ℕ → Bool �
 id_part s t i r link named = id_checks named (state_of s t [] [] r) (book_code (forest s t (i + 1) link)) (node_at s t i)
 
 abbrev pub place_part : List ℕ → List ℕ → ℕ → ℕ → WalkContext → Entry → List ℕ → State → List Check
-place_part s t i to o e name after = place_checks name e o (anchor_at s t after.anchor i) (state_of s t [] [] after) (node_at s t i) (children_at s t i) (forest s t i to)
+place_part s t i to o e name after = place_checks name e o (anchor_of s t after.anchor i) (state_of s t [] [] after) (node_at s t i) (children_at s t i) (forest s t i to)
 
 abbrev pub content_part : List ℕ → List ℕ → ℕ → List ℕ → ℕ → List Check
 content_part s t i name link = content_checks name (node_at s t i) (forest s t (i + 1) link)
@@ -96,14 +95,14 @@ said_of s t i to o e r name link named after =
     given (id_part s t i r link named ++ place_part s t i to o e name after ++ content_part s t i name link) ++ row_part s t i name link ++ attribute_part s t i link
 
 module _ (table s t : List ℕ) (i to : ℕ) (o : WalkContext) (e : Entry) (r : State) (name : List ℕ) (link : ℕ) (named : Bool) (after : State) (name-is : name ≡ cut e.name table) (link-is : link ≡ link_at t i) (named-is : named ≡ equal name id_name) (after_is : after ≡ with_id named (book_code (forest s t (i + 1) link)) r) where
-  own_is : said_of s t i to o e r name link named after ≡ own_at table s t o (anchor_at s t r.anchor i) e i to r
+  own_is : said_of s t i to o e r name link named after ≡ own_at table s t o (anchor_of s t r.anchor i) e i to r
   unfolding after_id
   own_is = rw (after_is, named-is, name-is, link-is) refl
 
-  pub own_room : (c : Counts) → c ≡ counts_of r → Room (counts_of r) (own_at table s t o (anchor_at s t r.anchor i) e i to r) → Room c (said_of s t i to o e r name link named after)
+  pub own_room : (c : Counts) → c ≡ counts_of r → Room (counts_of r) (own_at table s t o (anchor_of s t r.anchor i) e i to r) → Room c (said_of s t i to o e r name link named after)
   own_room c e h = rw (e, own_is) h
 
-  pub marked : (l l' : List ℕ) (c d : Counts) (q : State) → c ≡ counts_of r → q ≡ with_counts after d → Wrote (said_of s t i to o e r name link named after) l c l' d → MarkerVisited table s t o (anchor_at s t r.anchor i) e i to l r l' q
+  pub marked : (l l' : List ℕ) (c d : Counts) (q : State) → c ≡ counts_of r → q ≡ with_counts after d → Wrote (said_of s t i to o e r name link named after) l c l' d → MarkerVisited table s t o (anchor_of s t r.anchor i) e i to l r l' q
   unfolding after_id
   marked l l' c d q c-is q-is w =
       rw q-is

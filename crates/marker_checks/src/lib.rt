@@ -1,4 +1,6 @@
 // The checks of a marker that has a table entry, all but the milestone's, in the Rust's order, and the record after `id`.
+#![tactic(auto)]
+
 ghost use Rattle.std.specs.Prelude.{◌≡◌, true, false, not, ◌&&◌, ◌||◌, [], ◌+◌, ◌<◌, ◌≤◌, eqb, length};
 ghost use Rattle.text.specs.Pick.{pick};
 ghost use Rattle.tape.specs.Nodes.{count, node_at, kind_at, start_at, link_at, is_open};
@@ -13,8 +15,7 @@ ghost use Rattle.attachment.specs.Attached.{starts_of, among};
 ghost use Rattle.rows.specs.Row.{row_findings};
 ghost use Rattle.definition.specs.Checks;
 ghost use Rattle.definition.specs.Checks.{given, id_checks, place_checks, content_checks, book_code, is_book, front_by, inline_content, has_leaf, has_text, has_attribute, has_markers, number_markers, b_name, fig_name, w_name, rb_name, tr_name, is_body};
-ghost use Rattle.definition.specs.Carried.{anchor_at};
-ghost use Rattle.state.specs.Inner.{context_of, starts_for, state_of, counts_of};
+ghost use Rattle.state.specs.Inner.{context_of, anchor_of, starts_for, state_of, counts_of};
 ghost use Rattle.marker_checks.specs.InnerSkip.{only_texts, has_own_check, placed, can_skip_marker_at};
 ghost use Rattle.marker_checks.specs.InnerVisit.{own_at, MarkerVisited, children_at};
 ghost use Rattle.marker_checks.specs.Inner.{has_content, with_id};
@@ -288,8 +289,8 @@ fn place_findings(
     list: &mut [u64],
     c: Counts,
 ) -> Counts
-    requires { (Run source.now tape.now i to) × (i < to) × (is_open (kind_at tape.now i) ≡ true) × (starts_of numbers ≡ starts_for (anchor_at source.now tape.now rec.anchor i) (forest source.now tape.now i to)) × Room c (given (place_checks name.now (entry_of_info m) (context_of context) (anchor_at source.now tape.now rec.anchor i) (state_of source.now tape.now [] [] rec) (node_at source.now tape.now i) (children_at source.now tape.now i) (forest source.now tape.now i to))) }
-    ensures { Wrote (given (place_checks name.now (entry_of_info m) (context_of context) (anchor_at source.now tape.now rec.anchor i) (state_of source.now tape.now [] [] rec) (node_at source.now tape.now i) (children_at source.now tape.now i) (forest source.now tape.now i to))) list.old c list.new result }
+    requires { (Run source.now tape.now i to) × (i < to) × (is_open (kind_at tape.now i) ≡ true) × (starts_of numbers ≡ starts_for (anchor_of source.now tape.now rec.anchor i) (forest source.now tape.now i to)) × Room c (given (place_checks name.now (entry_of_info m) (context_of context) (anchor_of source.now tape.now rec.anchor i) (state_of source.now tape.now [] [] rec) (node_at source.now tape.now i) (children_at source.now tape.now i) (forest source.now tape.now i to))) }
+    ensures { Wrote (given (place_checks name.now (entry_of_info m) (context_of context) (anchor_of source.now tape.now rec.anchor i) (state_of source.now tape.now [] [] rec) (node_at source.now tape.now i) (children_at source.now tape.now i) (forest source.now tape.now i to))) list.old c list.new result }
 {
     let link = tape::link_at(tape, i) as usize;
     let outside = outside_note(m, context.in_note, name);
@@ -425,8 +426,8 @@ pub fn visit_marker(
     rec: State,
     list: &mut [u64],
 ) -> State
-    requires { (m.name_start + m.name_len ≤ length table.now) × (Run source.now tape.now i to) × (i < to) × (is_open (kind_at tape.now i) ≡ true) × (starts_of numbers ≡ starts_for (anchor_at source.now tape.now rec.anchor i) (forest source.now tape.now i to)) × Room (counts_of rec) (own_at table.now source.now tape.now (context_of context) (anchor_at source.now tape.now rec.anchor i) (entry_of_info m) i to rec) }
-    ensures { MarkerVisited table.now source.now tape.now (context_of context) (anchor_at source.now tape.now rec.anchor i) (entry_of_info m) i to list.old rec list.new result }
+    requires { (m.name_start + m.name_len ≤ length table.now) × (Run source.now tape.now i to) × (i < to) × (is_open (kind_at tape.now i) ≡ true) × (starts_of numbers ≡ starts_for (anchor_of source.now tape.now rec.anchor i) (forest source.now tape.now i to)) × Room (counts_of rec) (own_at table.now source.now tape.now (context_of context) (anchor_of source.now tape.now rec.anchor i) (entry_of_info m) i to rec) }
+    ensures { MarkerVisited table.now source.now tape.now (context_of context) (anchor_of source.now tape.now rec.anchor i) (entry_of_info m) i to list.old rec list.new result }
 {
     let name = table::name(table, m);
     let link = tape::link_at(tape, i) as usize;

@@ -1,4 +1,6 @@
 // The texts of findings: writes the text that a code and a form have over a lent list, its values in their places.
+#![tactic(auto)]
+
 ghost use Rattle.std.specs.Prelude.{[], ◌∷◌, ◌++◌, ◌≤◌, length, drop};
 ghost use Rattle.std.proofs.Math.Option.{some};
 ghost use Rattle.buffer.specs.Over.{Put, place_limit};

@@ -1,5 +1,7 @@
 // The text of a finding: numbers 1 to 9, 12 and 13, or the Rust's text written over a lent list from its start; and the texts of a
 // list's findings, one behind another, by one reading of the document.
+#![tactic(auto)]
+
 ghost use Rattle.std.specs.Prelude.{true, ◌||◌, ◌≡◌, List, [], ◌++◌, ℕ, ◌-◌, ◌<◌, ◌≤◌, eqb, length, get_or, take};
 ghost use Rattle.std.proofs.Math.Option.{none};
 ghost use Rattle.text.specs.Pick.{pick};

@@ -11,8 +11,7 @@ use lib.Seq.{get_or-set_same, get_or-set_other}
 use Rattle.tape.specs.Nodes.{Node, node_at}
 use Rattle.definition.specs.Outcome.{no_start}
 use Rattle.definition.specs.declared.OpenStart.{OpenStart}
-use Rattle.definition.specs.Carried.{start_nodes}
-use Rattle.state.specs.Inner.{Opens}
+use Rattle.state.specs.Inner.{open_nodes, Opens}
 use Rattle.milestones.specs.Inner.{Measured}
 use Rattle.milestones.proofs.Search.{Gone, entry}
 
@@ -28,16 +27,16 @@ module _ (opens : List OpenStart) (k : ℕ) (o : OpenStart) (room : k < length o
   before_same : (m : ℕ) → m < k → get_or (set opens k o) m no_start ≡ get_or opens m no_start
   before_same m h = let a : m ≡ k → ⊥ = λ e. omega arith in get_or-set_other opens k m o no_start a
 
-  same-starts : (s t : List ℕ) (j : ℕ) → j ≤ k → start_nodes s t (set opens k o) j ≡ start_nodes s t opens j
-  unfolding start_nodes
+  same-starts : (s t : List ℕ) (j : ℕ) → j ≤ k → open_nodes s t (set opens k o) j ≡ open_nodes s t opens j
+  unfolding open_nodes
   same-starts s t zero h = refl
   same-starts s t (suc j) h = rw (before_same j (omega arith)) (ap (λ (ys : List Node). node_at s t (get_or opens j no_start).node ∷ ys) (same-starts s t j (omega arith)))
 
-  pub starts-pushed : (s t : List ℕ) → start_nodes s t (set opens k o) (k + 1) ≡ node_at s t o.node ∷ start_nodes s t opens k
-  unfolding start_nodes
+  pub starts-pushed : (s t : List ℕ) → open_nodes s t (set opens k o) (k + 1) ≡ node_at s t o.node ∷ open_nodes s t opens k
+  unfolding open_nodes
   starts-pushed s t =
-      ap (start_nodes s t (set opens k o)) (add-one k)
-      ∙ ap (λ (x : OpenStart). node_at s t x.node ∷ start_nodes s t (set opens k o) k) (get_or-set_same opens k o no_start room)
+      ap (open_nodes s t (set opens k o)) (add-one k)
+      ∙ ap (λ (x : OpenStart). node_at s t x.node ∷ open_nodes s t (set opens k o) k) (get_or-set_same opens k o no_start room)
       ∙ ap (λ (ys : List Node). node_at s t o.node ∷ ys) (same-starts s t k (omega arith))
 
   pub opens-pushed : (s t : List ℕ) → Opens s t opens k → Fits s t o → Opens s t (set opens k o) (k + 1)

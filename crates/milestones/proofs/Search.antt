@@ -10,8 +10,7 @@ use lib.ListN.{get_or}
 use Rattle.text.specs.Pick.{pick}
 use Rattle.tape.specs.Nodes.{Node, node_at}
 use Rattle.definition.specs.Milestones.{base_of, same_base, waits_by, waits, without_by, without}
-use Rattle.definition.specs.Carried.{start_nodes}
-use Rattle.state.specs.Inner.{Opens}
+use Rattle.state.specs.Inner.{open_nodes, Opens}
 use Rattle.definition.specs.Outcome.{no_start}
 use Rattle.definition.specs.declared.OpenStart.{OpenStart}
 use Rattle.milestones.specs.Inner.{Measured, nearest_in}
@@ -56,22 +55,22 @@ module _ (s t : List ℕ) (opens : List OpenStart) (base : List ℕ) where
       go false h f = let z = f h in omega arith
 
 module _ (s t : List ℕ) (opens : List OpenStart) (x : Node) where
-  pub waits-found : (k : ℕ) → waits x (start_nodes s t opens k) ≡ is_found (nearest_in s t opens k (base_of x))
-  unfolding waits_by start_nodes nearest_in
+  pub waits-found : (k : ℕ) → waits x (open_nodes s t opens k) ≡ is_found (nearest_in s t opens k (base_of x))
+  unfolding waits_by open_nodes nearest_in
   waits-found zero = refl
   waits-found (suc k) = go (same_base (node_at s t (get_or opens k no_start).node) x) (waits-found k)
     where
-      go : (b : Bool) → waits x (start_nodes s t opens k) ≡ is_found (nearest_in s t opens k (base_of x)) → (b || waits x (start_nodes s t opens k)) ≡ is_found (pick b (some k) (nearest_in s t opens k (base_of x)))
+      go : (b : Bool) → waits x (open_nodes s t opens k) ≡ is_found (nearest_in s t opens k (base_of x)) → (b || waits x (open_nodes s t opens k)) ≡ is_found (pick b (some k) (nearest_in s t opens k (base_of x)))
       go true h = refl
       go false h = h
 
   -- without an open start of the base none is taken
-  pub none-taken : (k : ℕ) → nearest_in s t opens k (base_of x) ≡ none → without x (start_nodes s t opens k) ≡ start_nodes s t opens k
-  unfolding without_by start_nodes nearest_in
+  pub none-taken : (k : ℕ) → nearest_in s t opens k (base_of x) ≡ none → without x (open_nodes s t opens k) ≡ open_nodes s t opens k
+  unfolding without_by open_nodes nearest_in
   none-taken zero e = refl
   none-taken (suc k) e = go (same_base (node_at s t (get_or opens k no_start).node) x) e (none-taken k)
     where
-      go : (b : Bool) → pick b (some k) (nearest_in s t opens k (base_of x)) ≡ none → (nearest_in s t opens k (base_of x) ≡ none → without x (start_nodes s t opens k) ≡ start_nodes s t opens k) → pick b (start_nodes s t opens k) (node_at s t (get_or opens k no_start).node ∷ without x (start_nodes s t opens k)) ≡ node_at s t (get_or opens k no_start).node ∷ start_nodes s t opens k
+      go : (b : Bool) → pick b (some k) (nearest_in s t opens k (base_of x)) ≡ none → (nearest_in s t opens k (base_of x) ≡ none → without x (open_nodes s t opens k) ≡ open_nodes s t opens k) → pick b (open_nodes s t opens k) (node_at s t (get_or opens k no_start).node ∷ without x (open_nodes s t opens k)) ≡ node_at s t (get_or opens k no_start).node ∷ open_nodes s t opens k
       go true h f = none-some k (sym h)
       go false h f = ap (λ (ys : List Node). node_at s t (get_or opens k no_start).node ∷ ys) (f h)
 
@@ -81,8 +80,8 @@ pub record Gone (opens opens' : List OpenStart) (n at : ℕ) : Type 0 where
   pub moved : (m : ℕ) → at ≤ m → m < n → get_or opens' m no_start ≡ get_or opens (m + 1) no_start
 
 module _ (s t : List ℕ) (opens opens' : List OpenStart) (at : ℕ) where
-  same-starts : (n k : ℕ) → Gone opens opens' n at → k ≤ at → start_nodes s t opens' k ≡ start_nodes s t opens k
-  unfolding start_nodes
+  same-starts : (n k : ℕ) → Gone opens opens' n at → k ≤ at → open_nodes s t opens' k ≡ open_nodes s t opens k
+  unfolding open_nodes
   same-starts n zero g h = refl
   same-starts n (suc k) g h = rw (g.kept k (omega arith)) (ap (λ (ys : List Node). node_at s t (get_or opens k no_start).node ∷ ys) (same-starts n k g (omega arith)))
 
@@ -90,8 +89,8 @@ module _ (s t : List ℕ) (opens opens' : List OpenStart) (at : ℕ) where
   fewer n g = record { kept = g.kept; moved = λ m a b. g.moved m a (omega arith) }
 
   -- the latest of the base is taken
-  pub one-taken : (x : Node) (n : ℕ) → Gone opens opens' n at → nearest_in s t opens (suc n) (base_of x) ≡ some at → without x (start_nodes s t opens (suc n)) ≡ start_nodes s t opens' n
-  unfolding without_by start_nodes nearest_in
+  pub one-taken : (x : Node) (n : ℕ) → Gone opens opens' n at → nearest_in s t opens (suc n) (base_of x) ≡ some at → without x (open_nodes s t opens (suc n)) ≡ open_nodes s t opens' n
+  unfolding without_by open_nodes nearest_in
   one-taken x zero g e = go (same_base (node_at s t (get_or opens 0 no_start).node) x) e
     where
       go : (b : Bool) → pick b (some 0) none ≡ some at → pick b [] (node_at s t (get_or opens 0 no_start).node ∷ []) ≡ []
@@ -99,7 +98,7 @@ module _ (s t : List ℕ) (opens opens' : List OpenStart) (at : ℕ) where
       go false h = none-some at h
   one-taken x (suc n) g e = go (same_base (node_at s t (get_or opens (suc n) no_start).node) x) e (one-taken x n (fewer n g))
     where
-      go : (b : Bool) → pick b (some (suc n)) (nearest_in s t opens (suc n) (base_of x)) ≡ some at → (nearest_in s t opens (suc n) (base_of x) ≡ some at → without x (start_nodes s t opens (suc n)) ≡ start_nodes s t opens' n) → pick b (start_nodes s t opens (suc n)) (node_at s t (get_or opens (suc n) no_start).node ∷ without x (start_nodes s t opens (suc n))) ≡ start_nodes s t opens' (suc n)
+      go : (b : Bool) → pick b (some (suc n)) (nearest_in s t opens (suc n) (base_of x)) ≡ some at → (nearest_in s t opens (suc n) (base_of x) ≡ some at → without x (open_nodes s t opens (suc n)) ≡ open_nodes s t opens' n) → pick b (open_nodes s t opens (suc n)) (node_at s t (get_or opens (suc n) no_start).node ∷ without x (open_nodes s t opens (suc n))) ≡ open_nodes s t opens' (suc n)
       go true h f = let z : suc n ≡ at = cc in sym (same-starts (suc n) (suc n) g (omega arith))
       go false h f =
           let l = found_inside s t opens (base_of x) (suc n) at h in

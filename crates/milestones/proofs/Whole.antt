@@ -18,8 +18,7 @@ use Rattle.definition.specs.Checks.{given, when, error}
 use Rattle.definition.specs.Milestones.{is_start, is_milestone, base_of, waits, milestone_checks, starts_after, without, after_milestone_by}
 use Rattle.definition.specs.Setters.{set_open_starts}
 use Rattle.definition.specs.declared.OpenStart.{OpenStart}
-use Rattle.definition.specs.Carried.{start_nodes}
-use Rattle.state.specs.Inner.{state_of, counts_of, with_counts, Opens}
+use Rattle.state.specs.Inner.{open_nodes, state_of, counts_of, with_counts, Opens}
 use Rattle.state.specs.declared.State.{State}
 use Rattle.milestones.specs.Inner.{Measured, AmongMilestones, start, end, neither, among_milestones, nearest_in, removed, opens_without, count_without, opens_by, paired_by, open_after_pair, with_opens, WroteEndAlone, Counted, Countable}
 use Rattle.milestones.specs.InnerStep.{MilestoneStep, Milestoned}
@@ -55,7 +54,7 @@ module _ (e : Entry) (s t : List ℕ) (i : ℕ) (opens : List OpenStart) (l : Li
   x = node_at s t i
 
   abbrev alone : Bool
-  alone = is_milestone e x && (not (is_start x) && not (waits x (start_nodes s t opens r.open_len)))
+  alone = is_milestone e x && (not (is_start x) && not (waits x (open_nodes s t opens r.open_len)))
 
   -- without a finding the counts are the same
   no-finding : false ≡ alone → {opens' : List OpenStart} {q : State} → MilestoneStep e s t i opens r opens' q → Milestoned e s t i opens l r opens' l q
@@ -80,7 +79,7 @@ module _ (e : Entry) (s t : List ℕ) (i : ℕ) (opens : List OpenStart) (l : Li
         verses = st.verses;
       }
 
-  stepped : (opens' : List OpenStart) (n : ℕ) → start_nodes s t opens' n ≡ pick (is_milestone e x) (starts_after (is_start x) x (start_nodes s t opens r.open_len)) (start_nodes s t opens r.open_len) → Opens s t opens' n → n ≤ r.open_len + 1 → MilestoneStep e s t i opens r opens' (with_opens r n)
+  stepped : (opens' : List OpenStart) (n : ℕ) → open_nodes s t opens' n ≡ pick (is_milestone e x) (starts_after (is_start x) x (open_nodes s t opens r.open_len)) (open_nodes s t opens r.open_len) → Opens s t opens' n → n ≤ r.open_len + 1 → MilestoneStep e s t i opens r opens' (with_opens r n)
   unfolding after_milestone_by
   stepped opens' n p o' h =
       record {
@@ -112,7 +111,7 @@ module _ (e : Entry) (s t : List ℕ) (i : ℕ) (opens : List OpenStart) (l : Li
   module _ (y : is_milestone e x ≡ true) (z : is_start x ≡ false) where
     alone-is : (f : Option ℕ) → nearest_in s t opens r.open_len (base_of x) ≡ f → not (is_found f) ≡ alone
     alone-is f h =
-        let w : waits x (start_nodes s t opens r.open_len) ≡ is_found f = waits-found s t opens x r.open_len ∙ ap is_found h in
+        let w : waits x (open_nodes s t opens r.open_len) ≡ is_found f = waits-found s t opens x r.open_len ∙ ap is_found h in
         rw (y, z, w)
 
     by_itself : nearest_in s t opens r.open_len (base_of x) ≡ none → (l' : List ℕ) (r' : State) → WroteEndAlone t i l r l' r' → Milestoned e s t i opens l r opens l' r'
@@ -133,7 +132,7 @@ module _ (e : Entry) (s t : List ℕ) (i : ℕ) (opens : List OpenStart) (l : Li
         let up' : r.open_len ≡ r.open_len - 1 + 1 = omega arith in
         let g : Gone opens opens' (r.open_len - 1) at = rw w (gone opens r.open_len at a o.room) in
         let found : nearest_in s t opens (suc (r.open_len - 1)) (base_of x) ≡ some at = ap (λ (n : ℕ). nearest_in s t opens n (base_of x)) (sym up) ∙ n in
-        let taken : without x (start_nodes s t opens r.open_len) ≡ start_nodes s t opens' (r.open_len - 1) = ap (λ (n : ℕ). without x (start_nodes s t opens n)) up ∙ one-taken s t opens opens' at x (r.open_len - 1) g found in
+        let taken : without x (open_nodes s t opens r.open_len) ≡ open_nodes s t opens' (r.open_len - 1) = ap (λ (n : ℕ). without x (open_nodes s t opens n)) up ∙ one-taken s t opens opens' at x (r.open_len - 1) g found in
         let o' : Opens s t opens (r.open_len - 1 + 1) = rw up' at o in
         no-finding (alone-is (some at) n) (stepped opens' (r.open_len - 1) (rw (y, z) (sym taken)) (opens-gone s t opens opens' (r.open_len - 1) at g (omega arith) len o') (omega arith))
 

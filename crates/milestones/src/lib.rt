@@ -1,4 +1,6 @@
 // Milestones: starts and ends by their names, and the open starts, a lent list of records.
+#![tactic(auto)]
+
 ghost use Rattle.std.specs.Prelude.{◌≡◌, [], ◌∷◌, ◌+◌, ◌<◌, ◌≤◌, length, set};
 ghost use Rattle.tape.specs.Nodes.{node_at, count};
 ghost use Rattle.table.specs.Entries.{Entry, entry_of_info, milestone_category};

@@ -1,4 +1,6 @@
 // Writes the nodes of a tape over a lent list, 16 bytes a node, in the order of the text.
+#![tactic(auto)]
+
 ghost use Rattle.std.specs.Prelude.{◌≡◌, [], ◌+◌, ◌*◌, ◌≤◌, length};
 ghost use Rattle.std.proofs.lemmas.List.Edits.{sets};
 ghost use Rattle.tape.specs.Nodes.{marker_open_kind};

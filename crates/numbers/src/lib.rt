@@ -1,4 +1,6 @@
 // Chapter and verse numbers: labels, verse positions, and the order of verses.
+#![tactic(auto)]
+
 ghost use Rattle.std.specs.Prelude.{◌≡◌, true, ℕ, ◌-◌, ◌+◌, ◌<◌, ◌≤◌, min, length, get_or, take};
 ghost use Rattle.text.specs.Pick.{end};
 ghost use Rattle.text.specs.Words.{first_word};

@@ -1,4 +1,6 @@
 // Functions of the library under C names, for the program that compares them with the Rust's. A caller must pass valid slices.
+#![tactic(auto)]
+
 ghost use Rattle.std.specs.Prelude.{◌≡◌, true, not, ◌&&◌, ◌+◌, ◌*◌, ◌%◌, ◌<◌, ◌≤◌, eqb, length, take, drop};
 ghost use Rattle.table.specs.Names.{front_matter, note_only, stripped_length};
 ghost use Rattle.oracle_exports.specs.Words.{number_or, number_word, letter_word, position_from, next_from, low, start_word, end_word};

@@ -1,4 +1,6 @@
 // The pieces of a text: what stands at a place, and how far it reaches. The passes over a text go from piece to piece.
+#![tactic(auto)]
+
 ghost use Rattle.std.specs.Prelude.{◌≡◌, true, false, List, ℕ, ◌<◌, ◌≤◌, eqb, length, drop};
 ghost use Rattle.std.proofs.Math.Option.{some};
 ghost use Rattle.text.specs.Characters.{find, find_byte};

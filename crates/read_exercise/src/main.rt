@@ -1,4 +1,6 @@
 // Reads table.txt and source.usfm of the current folder and writes the bytes of the text's tape, or a refusal.
+#![tactic(auto)]
+
 ghost use Rattle.std.specs.Prelude.{◌≡◌, false, [], length};
 ghost use Rattle.listing.specs.Listing.{is_too_large};
 

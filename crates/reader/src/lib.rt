@@ -1,5 +1,7 @@
 // Reads USFM text under a marker table to a tape. A first pass finds a fault, or counts the nodes and writes nothing; a second
 // one writes them.
+#![tactic(auto)]
+
 ghost use Rattle.std.specs.Prelude.{◌≤◌, length, ◌≡◌};
 ghost use Rattle.std.proofs.Math.Option.{none};
 ghost use Rattle.table.specs.Lines.{bad_table};

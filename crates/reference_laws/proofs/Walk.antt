@@ -43,7 +43,7 @@ pub use contract.Running.{given_of, tables}
 pub use contract.Lifetimes.{Lfts, Shares, toks}
 pub use types.Kit.{Given, Item, ‵, raw, given, cut, at_ret, runs, ◌$◌, !, by, move, keep, rewrite, done, Sq}
 use types.Kit.{mean, Post as PostOf, Seq, lands, ◌⊛◌, some, later, use1, use2, split, pick, learn, await, nth, put, Step, step, Goal, Soaks}
-pub use types.Run.{look, look_raw, store, store_raw, init, forget, stop, hop, fld, from, load, lit, unit_lit, true_lit, false_lit, addr, of_opd, bin, un, and_then, no_more, assigns, assigns_last, first, branches, skips, jumps, calls, land_last, again}
+pub use types.Run.{look, look_raw, store, store_raw, init, forget, stop, hop, fld, from, load, lit, unit_lit, false_lit, addr, of_opd, bin, un, and_then, no_more, assigns, assigns_last, first, branches, skips, jumps, calls, land_last, again}
 use types.Run.{Opds, land, Opd, Rv}
 pub use denote.Plain.{uint_Lawful, uint_Makes}
 use types.Match.{vrt, look_tag, in_variant, live}

@@ -1,5 +1,7 @@
 // The numbers that a caller is turned back with: document 01, "Turned back, in checking order".
 // "The table text breaks its layout."
+#![tactic(auto)]
+
 pub const BAD_TABLE_LAYOUT: u64 = 1;
 
 // "The source is too long."
@@ -54,7 +56,3 @@ pub const UNMATCHED_MARKER: u64 = 17;
 
 // "18 when the node list is too short".
 pub const NODE_LIST_TOO_SHORT: u64 = 18;
-
-// Document 02, K7: "19 when a section doesn't start where the last ended, ends before its start or doesn't end between top-level nodes,
-// when close comes early, or when the record can't be this tape's".
-pub const SECTION_OUT_OF_ORDER: u64 = 19;

@@ -1,4 +1,6 @@
 // Rows of tables: the columns of a cell, and the order of the cells of a row.
+#![tactic(auto)]
+
 ghost use Rattle.std.specs.Prelude.{◌≡◌, ◌<◌, ◌≤◌, [], length};
 ghost use Rattle.text.specs.Number.{number_of};
 ghost use Rattle.tape.specs.Nodes.{node_at, count};

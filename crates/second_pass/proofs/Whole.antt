@@ -106,8 +106,8 @@ deeper (found.Milestone m n x y) d = omega arith
 deeper (found.Fault k) d = omega arith
 
 module _ (whole tb s t : List ℕ) (w : Written) (at depth : ℕ) (legible : Legible tb s) (g : Going whole tb s t w at depth) where
-  pub few_open : depth < 4294967296
-  few_open =
+  pub few-open : depth < 4294967296
+  few-open =
       let a = g.shallow in
       let b = g.inside in
       let c = legible.short in

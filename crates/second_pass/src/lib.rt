@@ -1,5 +1,7 @@
 // The second pass over a text: writes its nodes over a lent list, in which the first pass has found room for them. No name is
 // compared, since the first pass has found every close to be that of the innermost open marker.
+#![tactic(auto)]
+
 ghost use Rattle.std.specs.Prelude.{◌≡◌, ◌++◌, ◌+◌, ◌*◌, ◌≤◌, length, drop};
 ghost use Rattle.table.specs.Entries;
 ghost use Rattle.table.specs.Entries.{nth};

@@ -1,21 +1,31 @@
--- What the code's values mean in the definition: the record and the context.
-use Rattle.std.specs.Prelude.{ℕ, ◌<◌, ◌≤◌, ◌≡◌, Bool, true, false, List, [], length, get_or}
+-- What the code's values mean in the definition: the record, the context, and the anchor.
+use Rattle.std.specs.Prelude.{ℕ, zero, suc, ◌<◌, ◌≤◌, ◌≡◌, Bool, true, false, List, [], ◌∷◌, length, get_or}
 use Rattle.std.proofs.Math.Option.{Option, some, none}
-use Rattle.tape.specs.Nodes.{node_at}
-use Rattle.tape.specs.Forest.{Forest, followed}
+use Rattle.tape.specs.Nodes.{Node, node_at, kind_at}
+use Rattle.tape.specs.Forest.{Forest, followed, forest}
 use Rattle.cursor.specs.Inner.{Spanned}
+use Rattle.cursor.specs.Steps.{past_node}
 use Rattle.findings.specs.declared.Counts.{Counts}
 use Rattle.numbers.specs.Verse.{Position, position_of}
 use Rattle.attachment.specs.Attached.{attached_numbers}
 use Rattle.attachment.specs.Attached as attached
 use Rattle.definition.specs.State as state
-use Rattle.definition.specs.Carried.{latest_words, start_nodes}
 use Rattle.definition.specs.Milestones.{base_of}
 use Rattle.definition.specs.Outcome.{no_start}
 use Rattle.definition.specs.declared.OpenStart.{OpenStart}
 use Rattle.state.specs.InnerSetters.{put_anchor, put_errors, put_warnings, put_infos}
 use Rattle.state.specs.declared.State.{State}
 use Rattle.state.specs.declared.Context.{Context}
+
+-- the first k words of a list, the last of them first
+unfoldable pub latest : List ℕ → ℕ → List ℕ
+latest words zero = []
+latest words (suc k) = get_or words k 0 ∷ latest words k
+
+-- the open starts of the first k entries, the last of them first
+unfoldable pub open_nodes : List ℕ → List ℕ → List OpenStart → ℕ → List Node
+open_nodes s t opens zero = []
+open_nodes s t opens (suc k) = node_at s t (get_or opens k no_start).node ∷ open_nodes s t opens k
 
 -- the definition's record
 abbrev pub state_of : List ℕ → List ℕ → List ℕ → List OpenStart → State → state.WalkState
@@ -28,8 +38,8 @@ state_of s t seen opens r =
       verse_outside_warned = r.verse_outside_warned;
       expected_chapter = r.expected_chapter;
       expected_verse = position_of r.expected_verse;
-      seen = latest_words seen r.seen_len;
-      open_starts = start_nodes s t opens r.open_len;
+      seen = latest seen r.seen_len;
+      open_starts = open_nodes s t opens r.open_len;
       verses = r.verses;
     }
 
@@ -41,6 +51,11 @@ counts_of r = record { errors = r.errors; warnings = r.warnings; infos = r.infos
 
 abbrev pub with_counts : State → Counts → State
 with_counts r c = put_errors c.errors (put_warnings c.warnings (put_infos c.infos r))
+
+-- the anchor that a node's number means to the siblings from a place on; 0 for none
+abbrev pub anchor_of : List ℕ → List ℕ → ℕ → ℕ → Option state.Anchor
+anchor_of s t zero at = none
+anchor_of s t (suc n) at = some (record { kind = kind_at t (suc n); passed = forest s t (past_node t (suc n)) at })
 
 -- the first k entries of the open starts are nodes of the tape with the lengths of their bases
 pub record Opens (s t : List ℕ) (opens : List OpenStart) (k : ℕ) : Type 0 where

@@ -1,4 +1,6 @@
 // The state of the walk: the record by value, and the context of a run of siblings.
+#![tactic(auto)]
+
 ghost use Rattle.std.specs.Prelude.{◌&&◌, ◌||◌, ◌≡◌, [], ◌<◌, eqb};
 ghost use Rattle.tape.specs.Nodes.{count, node_at};
 ghost use Rattle.findings.specs.Finding.{finding_of, severity_of};

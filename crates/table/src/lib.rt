@@ -1,4 +1,6 @@
 // The marker table: its layout, its entries, and what is looked up in it.
+#![tactic(auto)]
+
 ghost use Rattle.std.specs.Prelude.{◌≡◌, ◌+◌, ◌^◌, ◌<◌, ◌≤◌, not, length, drop, take};
 ghost use Rattle.std.proofs.Math.Option.{some};
 ghost use Rattle.text.specs.Pick;

@@ -1,4 +1,6 @@
 // The tally: how many findings of a list have each code.
+#![tactic(auto)]
+
 ghost use Rattle.std.specs.Prelude.{◌≡◌, ◌<◌, replicate};
 ghost use Rattle.std.proofs.Math.Option.{none};
 ghost use Rattle.buffer.specs.Over.{over};

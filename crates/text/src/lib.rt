@@ -1,4 +1,6 @@
 // Bytes as text: UTF-8, blanks, words and numbers.
+#![tactic(auto)]
+
 ghost use Rattle.std.specs.Prelude.{◌≡◌, ℕ, ◌+◌, ◌-◌, ◌*◌, ◌%◌, ◌<◌, ◌≤◌, true, not, ◌∷◌, [], eqb, length, drop, get_or, take};
 ghost use Rattle.text.specs.Pick.{range, within, same, cut, pick};
 ghost use Rattle.text.specs.Bytes;

@@ -28,7 +28,7 @@ use Rattle.text.specs.Number.{parsed}
 use Rattle.text.specs.Words.{trim_start}
 use Rattle.buffer.specs.Decimal.{decimal}
 use Rattle.message_texts.proofs.Decimals as decimals
-use Rattle.tape.specs.Nodes.{Node, byte, count, node_at, kind_at, start_at, len_at, link_at}
+use Rattle.tape.specs.Nodes.{Node, count, node_at, kind_at, start_at, len_at, link_at}
 use Rattle.tape.specs.Reading.{bad_span, tape_refusal}
 use Rattle.tape.specs.Forest.{Forest, Accepted, top}
 use Rattle.tape.specs.Alike.{BeginAlike}
@@ -46,11 +46,7 @@ use Rattle.definition.specs.Milestones.{Fits, base_of, visits, marks_by, marks, 
 use Rattle.definition.specs.Document.{walked, running, findings_by, findings, unclosed_of, is_unclosed, those, Beginning}
 use Rattle.definition.specs.Base.{base_findings, is_readable}
 use Rattle.definition.specs.Account.{visited_starts, visited_ends, pairs_of, mismatches_of}
-use Rattle.definition.specs.Outcome.{Lent, refusal, list_of, checked_of, of_severity, answer, list_after, seen_after, open_after, cleared, no_start, repeated}
-use Rattle.definition.specs.Sections.{is_border, begun, section_findings, reached, sections, verses_of, after_sections, findings_of_each, close_findings, Covering, StartsApart, joined_findings, sum_of, count_each}
-use Rattle.definition.specs.Carried.{CarriedRecord}
-use Rattle.definition.specs.Calls.{section_refusal, close_refusal, checked_for, carried_in, found_in, FromCalls, verses_by}
-use Rattle.definition.specs.SectionsExample.{two_numbers, example_sections, example_end}
+use Rattle.definition.specs.Outcome.{Lent, refusal, list_of, checked_of, answer, list_after, seen_after, open_after, cleared, no_start, repeated}
 use Rattle.definition.specs.declared.OpenStart.{OpenStart}
 use Rattle.definition.specs.Examples as examples
 use Rattle.definition.specs.contracts.OpenStart as open-start
@@ -63,18 +59,11 @@ use Rattle.definition.proofs.Paired as paired
 use Rattle.definition.proofs.Unreadable as unreadable
 use Rattle.definition.proofs.Counted as counted
 use Rattle.definition.proofs.Worked as worked
-use Rattle.definition.proofs.Sectioned as sectioned
-use Rattle.definition.proofs.OwnRecord as own-record
-use Rattle.definition.proofs.SectionsWorked as sections-worked
-use Rattle.validate.specs.Entry.{answer_of, lent}
+use Rattle.validate.specs.Entry.{answer_of}
 use Rattle.validate.specs.declared.Answer.{Answer}
 use Rattle.validate.specs.contracts.Answer as answers
 use Rattle.validate.proofs.check as entry
 use Rattle.validate.proofs.Lists as lists
-use Rattle.sections.specs.Written.{section_written, close_written, CallsWrote}
-use Rattle.sections.specs.Conditions.{SectionWrong, CloseWrong, GivenCall}
-use Rattle.sections.proofs.Words as written-calls
-use Rattle.sections.proofs.Numbers as call-numbers
 use Rattle.messages.specs.Message.{request_of, message_text}
 use Rattle.text.specs.Pick.{AllOf, cut}
 use Rattle.messages.proofs.HasMessage as message
@@ -458,56 +447,6 @@ without-unreadable-words l none-given whole = ap (those is_readable) (lists.uncu
 -- A document with both forms, by computation.
 pub listing-unreadable : listing table_file unreadable_source (examples.tape_of unreadable_nodes) ≡ unreadable_output
 listing-unreadable = printed.listing-unreadable
-
--- ---- Sections (document 02, K7)
-
--- "For every list of sections covering the top-level nodes in order, no MarkerOpen of one starting at a byte where another's starts, .. each section's findings are those the walk gives for its nodes (before them TextBeforeId, where the first node is among these), and joined, with the closing findings from close, they are the document's list."
-pub sections-as-asked : (l : Lent) → refusal l ≡ none → (ends : List ℕ) → Covering l.source l.tape ends → StartsApart l.tape 1 ends
-    → (sections l.table l.source l.tape begun ends ≡ findings_of_each l.table l.source l.tape 1 ends)
-    × (joined_findings (sections l.table l.source l.tape begun ends) ++ close_findings (after_sections l.table l.source l.tape begun ends) ≡ list_of l)
-sections-as-asked l none-given ends covering apart = sectioned.sections-as-asked l none-given ends covering apart
-
--- Without the condition on start offsets, which isn't needed: the walk reads the run of siblings from the anchor on, earlier sections' nodes too.
-pub sections-joined : (l : Lent) → refusal l ≡ none → (ends : List ℕ) → Covering l.source l.tape ends → joined_findings (sections l.table l.source l.tape begun ends) ++ close_findings (after_sections l.table l.source l.tape begun ends) ≡ list_of l
-sections-joined l none-given ends covering = sectioned.document-joined l none-given ends covering
-
--- "Section and close give a checked document's counts, for their own findings and verses." Their sums are the document's.
-pub sections-total : (l : Lent) → refusal l ≡ none → (ends : List ℕ) → Covering l.source l.tape ends → sum_of (count_each length (sections l.table l.source l.tape begun ends)) + length (close_findings (after_sections l.table l.source l.tape begun ends)) ≡ (checked_of l).total
-sections-total l none-given ends covering = sectioned.document-total l none-given ends covering
-
-pub sections-verses : (l : Lent) → refusal l ≡ none → (ends : List ℕ) → Covering l.source l.tape ends → sum_of (verses_of l.table l.source l.tape begun ends) ≡ (checked_of l).verses
-sections-verses l none-given ends covering = sectioned.document-verses l none-given ends covering
-
-pub sections-severities : (l : Lent) → refusal l ≡ none → (ends : List ℕ) → Covering l.source l.tape ends → (n : ℕ) → sum_of (count_each (of_severity n) (sections l.table l.source l.tape begun ends)) + of_severity n (close_findings (after_sections l.table l.source l.tape begun ends)) ≡ of_severity n (list_of l)
-sections-severities l none-given ends covering n = sectioned.document-severities l none-given ends covering n
-
--- The same of the words that the calls write, "findings lists being long enough": `CallsWrote` has the record, the working lists and the findings after begin and sections, each lent what the last one left.
-pub calls-joined : (table s t : List ℕ) {r : CarriedRecord} {seen : List ℕ} {opens : List OpenStart} {fs : List Finding} (list : List ℕ) → CallsWrote table s t r seen opens fs → close_refusal (lent table s t seen opens list) r ≡ none → (checked_for (close_findings (carried_in (lent table s t seen opens list) r)) 0 list).cut ≡ false
-    → fs ++ close_written table s t seen opens list r ≡ list_of (lent table s t seen opens list)
-calls-joined table s t list calls free fits = written-calls.words-joined table s t list calls free fits
-
-pub each-call : (table s t : List ℕ) {r : CarriedRecord} {seen : List ℕ} {opens : List OpenStart} {fs : List Finding} (list : List ℕ) (from to : ℕ) → CallsWrote table s t r seen opens fs → section_refusal (lent table s t seen opens list) r from to ≡ none → (checked_for (found_in (lent table s t seen opens list) r to) 0 list).cut ≡ false
-    → section_written table s t seen opens list r from to ≡ section_findings table s t (reached table s t r.place) to
-each-call table s t list from to calls free fits = written-calls.section-wrote table s t list from to calls free fits
-
-pub calls-verses : (l : Lent) → refusal l ≡ none → {r : CarriedRecord} (calls : FromCalls l.table l.source l.tape r l.seen l.open_starts) → r.place ≡ link_at l.tape 0 → verses_by l.table l.source l.tape calls ≡ (checked_of l).verses
-calls-verses l none-given calls at_end = written-calls.verses-joined l none-given calls at_end
-
--- "Answers, after 1 to 10: 19 ..": `SectionWrong` and `CloseWrong` have a case for each clause of 19. `GivenCall` has one case for 1 to 10, one for 19 and one for none: a number is given exactly where its condition holds.
-pub section-number : (l : Lent) (r : CarriedRecord) (from to : ℕ) (o : Option Refusal) → (section_refusal l r from to ≡ o) ↔ GivenCall (refusal l) (SectionWrong l r from to) r.place o
-section-number l r from to o = call-numbers.section-number l r from to o
-
-pub close-number : (l : Lent) (r : CarriedRecord) (o : Option Refusal) → (close_refusal l r ≡ o) ↔ GivenCall (refusal l) (CloseWrong l r) r.place o
-close-number l r o = call-numbers.close-number l r o
-
--- A record that the calls made is never turned back by 19 under its own tape, whose fields are bytes.
-pub record-passes : (l : Lent) → refusal l ≡ none → (r : CarriedRecord) → FromCalls l.table l.source l.tape r l.seen l.open_starts → ((k : ℕ) → byte l.tape k < 256)
-    → ((to : ℕ) → r.place ≤ to → is_border l.source l.tape to ≡ true → section_refusal l r r.place to ≡ none) × (r.place ≡ link_at l.tape 0 → close_refusal l r ≡ none)
-record-passes l none-given r calls bytes = (own-record.own-section-passes l none-given r calls bytes, own-record.own-close-passes l none-given r calls bytes)
-
--- Three sections of one document, by computation: the second `\ca` after a chapter keeps its finding in a section of its own.
-pub sections-example : (example_sections ≡ [] ∷ [] ∷ two_numbers.wanted ∷ []) × (close_findings example_end ≡ [])
-sections-example = sections-worked.sections-example
 
 -- ---- Examples
 

@@ -56,8 +56,7 @@ use Rattle.definition.specs.declared.OpenStart.{OpenStart}
 use Rattle.definition.specs.Examples as worked
 use Rattle.definition.proofs.Demand3.{checked-accepted}
 use Rattle.definition.proofs.Worked.{worked-examples, worked-accepted}
-use Rattle.definition.specs.Carried.{anchor_at, start_nodes, latest_words}
-use Rattle.state.specs.Inner.{Opens, state_of, counts_of, with_counts, with_anchor}
+use Rattle.state.specs.Inner.{Opens, state_of, anchor_of, open_nodes, latest, counts_of, with_counts, with_anchor}
 use Rattle.state.specs.InnerSetters.{put_has_id, put_has_chapter}
 use Rattle.state.specs.declared.State.{State}
 use Rattle.milestones.specs.Inner.{AmongMilestones, among_milestones, step_means, Placed, base_at, nearest_in, found_entry, removed, opens_by, paired_by, open_after_pair, with_opens}
@@ -320,7 +319,7 @@ open_here i = (after_milestone (entries.entry_of_info milestone_info) state_here
 
 -- nodes 5 and 9 meet what it requires
 milestone-allowed : Steppable (entries.entry_of_info milestone_info) here.source here.tape 5 here.open_starts fresh × Steppable (entries.entry_of_info milestone_info) here.source here.tape 9 here.open_starts fresh
-unfolding checks.given waits_by start_nodes half repeated ascii worked.example9 worked.tape_of equal name_part bytes_before chars_past word blank in_any blank_ranges utf8.decode utf8.decoded utf8.width_of utf8.width_by utf8.table3_7 utf8.begins
+unfolding checks.given waits_by open_nodes half repeated ascii worked.example9 worked.tape_of equal name_part bytes_before chars_past word blank in_any blank_ranges utf8.decode utf8.decoded utf8.width_of utf8.width_by utf8.table3_7 utf8.begins
 milestone-allowed = (
   record { spanned = record { inside = ltb-true 5 19 refl; fits = leb-true 18 57 refl }; low = ltb-true 5 4294967296 refl; known = none_open; more = ltb-true 0 19 refl; room = leb-true 0 count_limit refl },
   record { spanned = record { inside = ltb-true 9 19 refl; fits = leb-true 32 57 refl }; low = ltb-true 9 4294967296 refl; known = none_open; more = ltb-true 0 19 refl; room = leb-true 1 count_limit refl },
@@ -331,7 +330,7 @@ milestone-allowed = (
 
 -- the right results: an end has one finding, a start none, and it is open after it
 milestone-right : (counts_here 9 ≡ errors 1) × (counts_here 5 ≡ errors 0) × (open_here 5 ≡ node_at here.source here.tape 5 ∷ [])
-unfolding counted checks.given waits_by after_milestone_by start_nodes half latest_words ascii worked.example9 worked.tape_of equal name_part bytes_before chars_past word blank in_any blank_ranges utf8.decode utf8.decoded utf8.width_of utf8.width_by utf8.table3_7 utf8.begins
+unfolding counted checks.given waits_by after_milestone_by open_nodes half latest ascii worked.example9 worked.tape_of equal name_part bytes_before chars_past word blank in_any blank_ranges utf8.decode utf8.decoded utf8.width_of utf8.width_by utf8.table3_7 utf8.begins
 milestone-right = (refl, refl, refl)
 
 -- an end without an open start that has no finding
@@ -348,12 +347,12 @@ milestone-start-found l l' opens m = eqb-false 1 0 refl (ap (λ c. c.errors) (m.
 
 -- a start that is not added
 milestone-start-lost : (l l' : List ℕ) (opens : List OpenStart) → MilestonedHere 5 l opens l' fresh → ⊥
-unfolding start_nodes
+unfolding open_nodes
 milestone-start-lost l l' opens m = eqb-false 0 1 refl (ap (λ st. length st.open_starts) (m.step.state []) ∙ ap length milestone-right.2)
 
 -- a start that adds another node
 milestone-start-other : (l l' : List ℕ) (rest : List OpenStart) → MilestonedHere 5 l (start 7 ∷ rest) l' (with_opens fresh 1) → ⊥
-unfolding start_nodes
+unfolding open_nodes
 milestone-start-other l l' rest m = eqb-false 7 5 refl (ap (λ st. first_number st.open_starts) (m.step.state []) ∙ ap first_number milestone-right.2)
 
 -- ---- milestones::step_of
@@ -457,26 +456,26 @@ abbrev both_open : State
 both_open = with_opens fresh 2
 
 abbrev UnclosedHere : List ℕ → Counts → Type 0
-UnclosedHere l' c = Wrote (unclosed (start_nodes here.source here.tape (start 5 ∷ start 7 ∷ []) both_open.open_len)) (repeated 0 16) (counts_of both_open) l' c
+UnclosedHere l' c = Wrote (unclosed (open_nodes here.source here.tape (start 5 ∷ start 7 ∷ []) both_open.open_len)) (repeated 0 16) (counts_of both_open) l' c
 
 -- these inputs meet what it requires
 unclosed-allowed : Left here.source here.tape (start 5 ∷ start 7 ∷ []) both_open
-unfolding start_nodes unclosed
+unfolding open_nodes unclosed
 unclosed-allowed = record { known = nearest-allowed.0; room = leb-true 2 count_limit refl }
 
 -- the latest start first
 unclosed-latest-first : UnclosedHere (words7 ++ words5) (errors 2) → ⊥
-unfolding worked.example9 worked.tape_of half word start_nodes unclosed repeated put overlay counted
+unfolding worked.example9 worked.tape_of half word open_nodes unclosed repeated put overlay counted
 unclosed-latest-first w = eqb-false 7 5 refl (ap (word_in 4) w.words)
 
 -- one finding for both starts
 unclosed-once : UnclosedHere (words5 ++ repeated 0 8) (errors 1) → ⊥
-unfolding worked.example9 worked.tape_of half word start_nodes unclosed repeated put overlay counted
+unfolding worked.example9 worked.tape_of half word open_nodes unclosed repeated put overlay counted
 unclosed-once w = eqb-false 1 2 refl (ap (λ c. c.errors) w.counts)
 
 -- findings that are counted and not written
 unclosed-unwritten : UnclosedHere (repeated 0 16) (errors 2) → ⊥
-unfolding worked.example9 worked.tape_of half word start_nodes unclosed repeated put overlay counted
+unfolding worked.example9 worked.tape_of half word open_nodes unclosed repeated put overlay counted
 unclosed-unwritten w = eqb-false 0 16 refl (ap (word_in 1) w.words)
 
 -- ---- validate::check
@@ -1061,7 +1060,7 @@ listing-bare e = eqb-false (length output) (length (checked_lines 0 1 0 1)) refl
 
 -- the walk of some nodes of an example, from a record, as the promise has it
 abbrev walk_from : worked.Example → ℕ → ℕ → State → Walked
-walk_from x from to r = walk worked.example_table outside (anchor_at x.source (worked.tape_of x.nodes) r.anchor from) (forests.forest x.source (worked.tape_of x.nodes) from to) (state_of x.source (worked.tape_of x.nodes) (repeated 0 13) (repeated no_start 13) r)
+walk_from x from to r = walk worked.example_table outside (anchor_of x.source (worked.tape_of x.nodes) r.anchor from) (forests.forest x.source (worked.tape_of x.nodes) from to) (state_of x.source (worked.tape_of x.nodes) (repeated 0 13) (repeated no_start 13) r)
 
 -- so many warnings
 abbrev warnings : ℕ → Counts
@@ -1078,7 +1077,7 @@ anchor_kind (some a) = a.kind
 
 -- the right results: the children of `\p` have one warning in example 1; the anchor after its nodes is the chapter; the `\ca` of example 5 have no finding, from the start on or after the chapter
 walk-right : (counted (warnings 0) (walk_from worked.example1 1 9 fresh).findings ≡ warnings 1) × (anchor_kind (walk_from worked.example1 1 9 fresh).anchor ≡ 3) × (counted (warnings 0) (walk_from worked.example5 1 13 fresh).findings ≡ warnings 0) × (counted (warnings 0) (walk_from worked.example5 5 13 after_chapter).findings ≡ warnings 0)
-unfolding ascii worked.example_table worked.tape_of utf8.table3_7 utf8.begins utf8.width_by utf8.width_of utf8.decoded utf8.decode in_any blank_ranges blank chars_past bytes_before find_byte trim_start kept trim blank_text word_from all_digits value_from digits_from digits parsed half word nodes followed runs equal all one_of lines.lines lines.categories lines.roles entries.position entries.entries_of entries.entries entries.nth names.front_matter names.note_only books.book_codes books.code_from books.book_of attributes.attributes_findings name_part part_of verse_part verse_end next in_sequence label.label_of is_alternate is_published plain run_of start_offsets among checks.given checks.after_chapter checks.after_verse checks.leaf_checked checks.book_code checks.after_id checks.number_markers after_milestone_by open_checked_by walk_by counted worked.example1 worked.example5 latest_words start_nodes
+unfolding ascii worked.example_table worked.tape_of utf8.table3_7 utf8.begins utf8.width_by utf8.width_of utf8.decoded utf8.decode in_any blank_ranges blank chars_past bytes_before find_byte trim_start kept trim blank_text word_from all_digits value_from digits_from digits parsed half word nodes followed runs equal all one_of lines.lines lines.categories lines.roles entries.position entries.entries_of entries.entries entries.nth names.front_matter names.note_only books.book_codes books.code_from books.book_of attributes.attributes_findings name_part part_of verse_part verse_end next in_sequence label.label_of is_alternate is_published plain run_of start_offsets among checks.given checks.after_chapter checks.after_verse checks.leaf_checked checks.book_code checks.after_id checks.number_markers after_milestone_by open_checked_by walk_by counted worked.example1 worked.example5 latest open_nodes
 walk-right = (refl, refl, refl, refl)
 
 -- a walk that passes over the children of a marker
@@ -1086,11 +1085,11 @@ walk-no-children : (l l' : List ℕ) → Wrote (walk_from worked.example1 1 9 fr
 walk-no-children l l' w = eqb-false 0 1 refl (ap (λ c. c.warnings) (w.counts ∙ walk-right.0))
 
 -- a walk that hands no anchor on
-walk-anchor-lost : anchor_at (worked.example1).source (worked.tape_of (worked.example1).nodes) 0 9 ≡ (walk_from worked.example1 1 9 fresh).anchor → ⊥
+walk-anchor-lost : anchor_of (worked.example1).source (worked.tape_of (worked.example1).nodes) 0 9 ≡ (walk_from worked.example1 1 9 fresh).anchor → ⊥
 walk-anchor-lost e = eqb-false 0 3 refl (ap anchor_kind e ∙ walk-right.1)
 
 -- a walk that hands on the anchor of a marker's children, the verse that is node 6
-walk-anchor-of-children : anchor_at (worked.example1).source (worked.tape_of (worked.example1).nodes) 6 9 ≡ (walk_from worked.example1 1 9 fresh).anchor → ⊥
+walk-anchor-of-children : anchor_of (worked.example1).source (worked.tape_of (worked.example1).nodes) 6 9 ≡ (walk_from worked.example1 1 9 fresh).anchor → ⊥
 unfolding worked.example1 worked.tape_of
 walk-anchor-of-children e = eqb-false 4 3 refl (ap anchor_kind e ∙ walk-right.1)
 
@@ -1212,7 +1211,7 @@ VisitedAt x to r l seen opens l' q = Visited worked.example_table x.source (tape
 
 -- in example 1 its verse is out of sequence, and in example 13 it stands before any chapter; both meet what the visit requires
 visit-allowed : VisitAllowed worked.example1 9 after_chapter × VisitAllowed worked.example13 7 after_identification
-unfolding ascii worked.example_table worked.tape_of utf8.table3_7 utf8.begins utf8.width_by utf8.width_of utf8.decoded utf8.decode in_any blank_ranges blank chars_past bytes_before find_byte trim_start kept trim blank_text word_from all_digits value_from digits_from digits parsed half word nodes followed runs equal all one_of lines.lines lines.categories lines.roles entries.position entries.entries_of entries.entries entries.nth names.front_matter names.note_only books.book_codes books.code_from books.book_of attributes.attributes_findings name_part part_of verse_part verse_end next in_sequence label.label_of is_alternate is_published plain run_of start_offsets among checks.given checks.after_verse checks.leaf_checked checks.book_code checks.after_id checks.number_markers after_milestone_by open_checked_by walk_by latest_words start_nodes repeated worked.example1 worked.example13
+unfolding ascii worked.example_table worked.tape_of utf8.table3_7 utf8.begins utf8.width_by utf8.width_of utf8.decoded utf8.decode in_any blank_ranges blank chars_past bytes_before find_byte trim_start kept trim blank_text word_from all_digits value_from digits_from digits parsed half word nodes followed runs equal all one_of lines.lines lines.categories lines.roles entries.position entries.entries_of entries.entries entries.nth names.front_matter names.note_only books.book_codes books.code_from books.book_of attributes.attributes_findings name_part part_of verse_part verse_end next in_sequence label.label_of is_alternate is_published plain run_of start_offsets among checks.given checks.after_verse checks.leaf_checked checks.book_code checks.after_id checks.number_markers after_milestone_by open_checked_by walk_by latest open_nodes repeated worked.example1 worked.example13
 visit-allowed = (
   (
     record {
@@ -1308,7 +1307,7 @@ PassedAt x o i after to r numbers l seen l' q numbers' = PassedBy worked.example
 
 -- nodes 6 and 7 of example 1 are a verse and a Text, node 4 of example 5 is a chapter; all three meet what the visit requires
 leaf-allowed : PassAllowed worked.example1 in_paragraph 6 7 8 in_chapter × PassAllowed worked.example1 in_paragraph 7 8 8 in_chapter × PassAllowed worked.example5 outside 4 5 13 after_identification
-unfolding ascii worked.example_table worked.tape_of utf8.table3_7 utf8.begins utf8.width_by utf8.width_of utf8.decoded utf8.decode in_any blank_ranges blank chars_past bytes_before find_byte trim_start kept trim blank_text word_from all_digits value_from digits_from digits parsed half word nodes equal all lines.lines lines.categories lines.roles entries.position entries.entries_of entries.entries entries.nth name_part part_of verse_part in_sequence label.label_of among checks.given checks.leaf_checked latest_words start_nodes repeated worked.example1 worked.example5
+unfolding ascii worked.example_table worked.tape_of utf8.table3_7 utf8.begins utf8.width_by utf8.width_of utf8.decoded utf8.decode in_any blank_ranges blank chars_past bytes_before find_byte trim_start kept trim blank_text word_from all_digits value_from digits_from digits parsed half word nodes equal all lines.lines lines.categories lines.roles entries.position entries.entries_of entries.entries entries.nth name_part part_of verse_part in_sequence label.label_of among checks.given checks.leaf_checked latest open_nodes repeated worked.example1 worked.example5
 leaf-allowed = (
   record {
     inside = ltb-true 6 9 refl;
@@ -1350,7 +1349,7 @@ verse_checked = checks.leaf_checked worked.example_table in_paragraph (state_of 
 
 -- the right results: the verse has one warning and is counted; the `\ca` at byte 13 is attached to the chapter
 leaf-right : (counted (warnings 0) verse_checked.findings ≡ warnings 1) × (verse_checked.state.verses ≡ 1) × (numbers_after (worked.example5).source (tape_in worked.example5) 4 5 13 (5 ∷ []) ≡ 13 ∷ [])
-unfolding ascii worked.example_table worked.tape_of utf8.table3_7 utf8.begins utf8.width_by utf8.width_of utf8.decoded utf8.decode in_any blank_ranges blank chars_past bytes_before find_byte trim_start kept trim blank_text word_from all_digits value_from digits_from digits parsed half word nodes runs equal all lines.lines lines.categories lines.roles entries.position entries.entries_of entries.entries entries.nth name_part part_of verse_part verse_end next in_sequence label.label_of is_alternate is_published plain run_of start_offsets among checks.given checks.after_verse checks.leaf_checked counted latest_words start_nodes repeated worked.example1 worked.example5
+unfolding ascii worked.example_table worked.tape_of utf8.table3_7 utf8.begins utf8.width_by utf8.width_of utf8.decoded utf8.decode in_any blank_ranges blank chars_past bytes_before find_byte trim_start kept trim blank_text word_from all_digits value_from digits_from digits parsed half word nodes runs equal all lines.lines lines.categories lines.roles entries.position entries.entries_of entries.entries entries.nth name_part part_of verse_part verse_end next in_sequence label.label_of is_alternate is_published plain run_of start_offsets among checks.given checks.after_verse checks.leaf_checked counted latest open_nodes repeated worked.example1 worked.example5
 leaf-right = (refl, refl, refl)
 
 -- a visit that finds nothing of the verse, which is out of sequence

@@ -1,5 +1,7 @@
 // Makes documents at both sides of three limits, and one with labels at both sides of a fourth, checks them, and writes
 // the answers: trial items 13 to 16.
+#![tactic(auto)]
+
 ghost use Rattle.std.specs.Prelude.{◌≡◌, ◌+◌, ◌*◌, ◌≤◌, length};
 ghost use Rattle.definition.specs.Outcome.{answer, list_after, repeated, no_start};
 ghost use Rattle.validate.specs.Entry.{answer_of, lent};

@@ -1,5 +1,7 @@
 // Replays recorded answers: each document of standard input is checked, and what the check gives is compared with what is
 // recorded of it. The layout of the input is that of oracle/recorded/README.md.
+#![tactic(auto)]
+
 ghost use Rattle.std.specs.Prelude.{◌≡◌, ◌+◌, ◌*◌, ◌≤◌, length, set};
 
 use definition::OpenStart;

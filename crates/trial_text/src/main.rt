@@ -1,5 +1,7 @@
 // Runs the vectors of standard input through the crate `text`, and writes each line with its answer. A line is a letter, a
 // space and bytes or a code point in hexadecimal, or, for a number to parse, the text itself. A line that starts with `#` is copied.
+#![tactic(auto)]
+
 ghost use Rattle.std.specs.Prelude.{◌≡◌, ◌≤◌, length};
 ghost use Rattle.trial_text.specs.Hex.{hex_digit};
 

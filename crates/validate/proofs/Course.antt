@@ -16,8 +16,7 @@ use Rattle.definition.specs.Document.{text_before, unclosed}
 use Rattle.definition.specs.Outcome.{checked, checked_of, cleared, no_start}
 use Rattle.definition.proofs.Few.{text-few}
 use Rattle.definition.specs.declared.OpenStart.{OpenStart}
-use Rattle.definition.specs.Carried.{start_nodes}
-use Rattle.state.specs.Inner.{counts_of, with_counts}
+use Rattle.state.specs.Inner.{open_nodes, counts_of, with_counts}
 use Rattle.state.specs.declared.State.{State}
 use Rattle.closing.specs.Inner.{Left}
 use Rattle.walk.specs.Inner.{walk_at, Ready, RunWalked}
@@ -60,7 +59,7 @@ module _ {table index : List ℕ} {entries : ℕ} {s t seen : List ℕ} {opens :
       pub left-asks : Left s t opens' r
       left-asks = record { known = w.went.starts; room = unclosed-room fit l l₁ (counts_of q) b.text seen' opens' l₂ r went }
 
-      module _ (l₃ : List ℕ) (c₃ : Counts) (left : Wrote (unclosed (start_nodes s t opens' r.open_len)) l₂ (counts_of r) l₃ c₃) where
+      module _ (l₃ : List ℕ) (c₃ : Counts) (left : Wrote (unclosed (open_nodes s t opens' r.open_len)) l₂ (counts_of r) l₃ c₃) where
         pub end-asks : Endable r c₃
         end-asks = record { room = missing-room fit l l₁ (counts_of q) b.text seen' opens' l₂ r went l₃ c₃ left }
 

@@ -25,12 +25,10 @@ use Rattle.definition.specs.Walk.{walk}
 use Rattle.definition.specs.Walk as def
 use Rattle.definition.specs.Document.{text_before, unclosed, closing, walked, findings}
 use Rattle.definition.specs.Outcome.{Lent, add_if, of_severity, smaller, checked, checked_of, cleared, repeated}
-use Rattle.definition.specs.Calls.{checked_for}
 use Rattle.definition.proofs.Few.{text-few, walk-few, given-few, unclosed-length}
 use Rattle.definition.proofs.Counted.{Graded, graded}
 use Rattle.definition.specs.declared.OpenStart.{OpenStart}
-use Rattle.definition.specs.Carried.{latest_words, start_nodes}
-use Rattle.state.specs.Inner.{state_of, counts_of, with_counts, Opens}
+use Rattle.state.specs.Inner.{latest, open_nodes, state_of, counts_of, with_counts, Opens}
 use Rattle.state.specs.declared.State.{State}
 use Rattle.state.proofs.Opened.{starts-length}
 use Rattle.closing.specs.Inner.{missing_checks}
@@ -80,7 +78,7 @@ module _ {table index : List ℕ} {entries : ℕ} {s t seen : List ℕ} {opens :
         }
 
     walk_is : walk_at table s t outside 1 to seen opens (with_counts fresh c) ≡ walked table (top s t)
-    unfolding latest_words start_nodes
+    unfolding latest open_nodes
     walk_is = refl
 
     heavy : length (walk_at table s t outside 1 to seen opens (with_counts fresh c)).findings ≤ 16777232 * 65535
@@ -104,23 +102,23 @@ module _ {table index : List ℕ} {entries : ℕ} {s t seen : List ℕ} {opens :
       open-low : r.open_len ≤ 65535
       open-low = let k = walked-so.went.open_few in let f = few in omega arith
 
-      left_is : length (unclosed (start_nodes s t opens' r.open_len)) ≡ r.open_len
-      left_is = unclosed-length (start_nodes s t opens' r.open_len) ∙ starts-length s t opens' r.open_len
+      left_is : length (unclosed (open_nodes s t opens' r.open_len)) ≡ r.open_len
+      left_is = unclosed-length (open_nodes s t opens' r.open_len) ∙ starts-length s t opens' r.open_len
 
-      pub unclosed-room : Room (counts_of r) (unclosed (start_nodes s t opens' r.open_len))
+      pub unclosed-room : Room (counts_of r) (unclosed (open_nodes s t opens' r.open_len))
       unclosed-room = let a = total-after in let b = open-low in let e = left_is in omega arith
 
       -- after the unclosed starts
-      module _ (l₃ : List ℕ) (c₃ : Counts) (left : Wrote (unclosed (start_nodes s t opens' r.open_len)) l₂ (counts_of r) l₃ c₃) where
+      module _ (l₃ : List ℕ) (c₃ : Counts) (left : Wrote (unclosed (open_nodes s t opens' r.open_len)) l₂ (counts_of r) l₃ c₃) where
         pub missing-room : Room c₃ (given (missing_checks r))
         missing-room =
             let a = total-after in
             let b = open-low in
             let e = left_is in
             let g = given-few (missing_checks r) in
-            omega (arith, ap total left.counts ∙ counted-total (counts_of r) (unclosed (start_nodes s t opens' r.open_len)))
+            omega (arith, ap total left.counts ∙ counted-total (counts_of r) (unclosed (open_nodes s t opens' r.open_len)))
 
-        closing-is : closing (walked table (top s t)).state ≡ unclosed (start_nodes s t opens' r.open_len) ++ given (missing_checks r)
+        closing-is : closing (walked table (top s t)).state ≡ unclosed (open_nodes s t opens' r.open_len) ++ given (missing_checks r)
         unfolding closing
         closing-is = ap closing (sym (walked-so.went.state ∙ ap (λ (x : def.Walked). x.state) walk_is))
 
@@ -145,25 +143,22 @@ by-severity c (f ∷ fs) h = go f.severity h.0.0 (λ d. by-severity d fs h.1)
     go (suc (suc zero)) l k = let q = k (by_severity 2 c) in (omega (arith, q.0), omega (arith, q.1), omega (arith, q.2))
     go (suc (suc (suc n))) l k = absurd (omega arith)
 
--- the answer of a record whose counts are those of a list of findings
-module _ (fs : List Finding) (grades : Graded fs) (l l' : List ℕ) (q : State) (wrote : Wrote fs l none_yet l' (counts_of q)) where
+module _ {table index : List ℕ} {entries : ℕ} {s t seen : List ℕ} {opens : List OpenStart} (fit : Fit table index entries s t seen opens) (l l' : List ℕ) (q : State) (ran-so : Ran table s t l l' q) where
+  abbrev fs : List Finding
+  fs = findings table (top s t)
+
   counts-are : (q.errors ≡ of_severity 0 fs) × (q.warnings ≡ of_severity 1 fs) × (q.infos ≡ of_severity 2 fs)
   counts-are =
-      let g = by-severity none_yet fs grades in
-      let e = wrote.counts in
+      let g = by-severity none_yet fs (graded table (top s t)) in
+      let e = ran-so.wrote.counts in
       (ap (λ (c : Counts). c.errors) e ∙ g.0 ∙ zero-add _, ap (λ (c : Counts). c.warnings) e ∙ g.1 ∙ zero-add _, ap (λ (c : Counts). c.infos) e ∙ g.2 ∙ zero-add _)
 
   total-is : total (counts_of q) ≡ length fs
-  total-is = ap total wrote.counts ∙ counted-total none_yet fs ∙ zero-add _
+  total-is = ap total ran-so.wrote.counts ∙ counted-total none_yet fs ∙ zero-add _
 
-  pub reported-for : (n : ℕ) → n ≡ room l → reported q n ≡ checked (checked_for fs q.verses l)
-  unfolding checked_for
-  reported-for n e = rw (total-is, e, counts-are.0, counts-are.1, counts-are.2)
-
-module _ {table index : List ℕ} {entries : ℕ} {s t seen : List ℕ} {opens : List OpenStart} (fit : Fit table index entries s t seen opens) (l l' : List ℕ) (q : State) (ran-so : Ran table s t l l' q) where
   pub finished : (n : ℕ) → n ≡ room l → reported q n ≡ checked (checked_of (lent table s t seen opens l))
-  unfolding checked_for checked_of
-  finished n e = reported-for (findings table (top s t)) (graded table (top s t)) l l' q ran-so.wrote n e ∙ rw ran-so.verses
+  unfolding checked_of
+  finished n e = rw (total-is, e, counts-are.0, counts-are.1, counts-are.2, ran-so.verses)
 
 -- the whole of a list cleared
 pub cleared-whole : {A : Type 0} (nothing : A) (n : ℕ) (xs : List A) → length xs ≡ n → cleared nothing n xs ≡ repeated nothing n

@@ -1,4 +1,6 @@
 // The check of a document: whatever is lent, the answer and every lent list at exit are the definition's.
+#![tactic(auto)]
+
 ghost use Rattle.std.specs.Prelude.{◌≡◌, ◌/◌, ◌≤◌, length};
 ghost use Rattle.std.proofs.Math.Option.{none};
 ghost use Rattle.tape.specs.Nodes.{link_at};
@@ -57,7 +59,7 @@ fn begun(source: &[u8], tape: &[u8], to: usize, list: &mut [u64]) -> State
 }
 
 // The record after the findings of the open starts that are left.
-pub fn ended(rec: State, list: &mut [u64], left: Counts) -> State
+fn ended(rec: State, list: &mut [u64], left: Counts) -> State
     requires { Endable rec left }
     ensures { MissingWritten rec left list.old list.new result }
 {
@@ -239,14 +241,14 @@ pub fn check_input(
     }
 }
 
-pub fn node_count(tape: &[u8]) -> usize
+fn node_count(tape: &[u8]) -> usize
     ensures { result ≡ count tape.now }
 {
     tape.len() / 16
 }
 
 // The answer of a document after its walk, by the length of the findings list.
-pub fn reported(r: State, len: usize) -> Answer
+fn reported(r: State, len: usize) -> Answer
     requires { total (counts_of r) ≤ count_limit }
     ensures { answer_of result ≡ reported r (len / 8) }
 {

@@ -10,8 +10,7 @@ use Rattle.tape.specs.Forest.{forest}
 use Rattle.table.specs.Entries.{entry_of_info}
 use Rattle.cursor.specs.Inner.{Run}
 use Rattle.attachment.specs.Attached.{starts_of}
-use Rattle.definition.specs.Carried.{anchor_at}
-use Rattle.state.specs.Inner.{context_of, starts_for, counts_of}
+use Rattle.state.specs.Inner.{context_of, anchor_of, starts_for, counts_of}
 use Rattle.marker_checks.specs.InnerVisit.{own_at, MarkerVisited}
 use Rattle.findings.specs.Inner.{Room}
 use Rattle.attachment.proofs.Attached as Attached-T
@@ -23,8 +22,8 @@ use Rattle.marker_checks.proofs.visit_marker as visit-marker-F
 abbrev pub terms : Terms
 terms = stated-as visit-marker-F.Symbol.name (of_struct State-T.the_type State-T.TheLaws.the_laws State-T.TheLaws.the_plain)
     (shr u8 ∷ val (of_struct MarkerInfo-T.the_type MarkerInfo-T.TheLaws.the_laws MarkerInfo-T.TheLaws.the_plain) ∷ shr u8 ∷ shr u8 ∷ val (of_number w64) ∷ val (of_number w64) ∷ val (of_struct Context-T.the_type Context-T.TheLaws.the_laws Context-T.TheLaws.the_plain) ∷ val (of_struct Attached-T.the_type Attached-T.TheLaws.the_laws Attached-T.TheLaws.the_plain) ∷ val (of_struct State-T.the_type State-T.TheLaws.the_laws State-T.TheLaws.the_plain) ∷ mut u64 ∷ [])
-    (λ table₀ m₀ source₀ tape₀ i₀ to₀ context₀ numbers₀ rec₀ list₀. ((m₀.name_start + m₀.name_len ≤ length table₀) × (Run source₀ tape₀ i₀ to₀) × (i₀ < to₀) × (is_open (kind_at tape₀ i₀) ≡ true) × (starts_of numbers₀ ≡ starts_for (anchor_at source₀ tape₀ rec₀.anchor i₀) (forest source₀ tape₀ i₀ to₀)) × Room (counts_of rec₀) (own_at table₀ source₀ tape₀ (context_of context₀) (anchor_at source₀ tape₀ rec₀.anchor i₀) (entry_of_info m₀) i₀ to₀ rec₀)) ∷ [])
-    (λ table₀ m₀ source₀ tape₀ i₀ to₀ context₀ numbers₀ rec₀ list₀ r z. (MarkerVisited table₀ source₀ tape₀ (context_of context₀) (anchor_at source₀ tape₀ rec₀.anchor i₀) (entry_of_info m₀) i₀ to₀ list₀ rec₀ z.0 r) ∷ [])
+    (λ table₀ m₀ source₀ tape₀ i₀ to₀ context₀ numbers₀ rec₀ list₀. ((m₀.name_start + m₀.name_len ≤ length table₀) × (Run source₀ tape₀ i₀ to₀) × (i₀ < to₀) × (is_open (kind_at tape₀ i₀) ≡ true) × (starts_of numbers₀ ≡ starts_for (anchor_of source₀ tape₀ rec₀.anchor i₀) (forest source₀ tape₀ i₀ to₀)) × Room (counts_of rec₀) (own_at table₀ source₀ tape₀ (context_of context₀) (anchor_of source₀ tape₀ rec₀.anchor i₀) (entry_of_info m₀) i₀ to₀ rec₀)) ∷ [])
+    (λ table₀ m₀ source₀ tape₀ i₀ to₀ context₀ numbers₀ rec₀ list₀ r z. (MarkerVisited table₀ source₀ tape₀ (context_of context₀) (anchor_of source₀ tape₀ rec₀.anchor i₀) (entry_of_info m₀) i₀ to₀ list₀ rec₀ z.0 r) ∷ [])
 
 pub known : Known terms visit-marker-F.signature (λ M 𝓤 𝓛 at_mem run. visit-marker-F.spec 𝓛 at_mem run)
 known M 𝓤 𝓛 𝓜 𝓡 γ r at met x cs = cited 𝓤 𝓛.H _ 𝓜 𝓡 γ terms.name r at met (bound_at (rule-of terms x).pars cs)

@@ -33,8 +33,7 @@ use Rattle.definition.specs.Checks.{entry_of, leaf_checked, given}
 use Rattle.definition.specs.Walk.{walk_by, walk, with_findings}
 use Rattle.definition.specs.Walk as def
 use Rattle.definition.specs.declared.OpenStart.{OpenStart}
-use Rattle.definition.specs.Carried.{anchor_at}
-use Rattle.state.specs.Inner.{state_of, counts_of, starts_for, VerseBounded, Opens}
+use Rattle.state.specs.Inner.{state_of, counts_of, anchor_of, starts_for, VerseBounded, Opens}
 use Rattle.state.specs.declared.State.{State}
 use Rattle.walk.specs.Inner.{Leafy, Passable, PassedBy, Anchored, walk_at, Ready, Went, RunWalked, open_checked_at, below, visit_findings, visit_state, Visited, Visitable, anchor_after, LeafPassed, numbers_after}
 use Rattle.walk.proofs.Entries.{entry_read, entry-inside}
@@ -49,7 +48,7 @@ pub record Going (table index : List ℕ) (entries : ℕ) (s t : List ℕ) (dept
   pub left : Left w₀.findings l₀ (counts_of r₀) (walk_at table s t o i to seen opens r).findings l (counts_of r)
   pub state : (walk_at table s t o i to seen opens r).state ≡ w₀.state
   pub anchor : (walk_at table s t o i to seen opens r).anchor ≡ w₀.anchor
-  pub attached : starts_of numbers ≡ starts_for (anchor_at s t r.anchor i) (forest s t i to)
+  pub attached : starts_of numbers ≡ starts_for (anchor_of s t r.anchor i) (forest s t i to)
   pub room : Room (counts_of r₀) w₀.findings
   pub begun : from ≤ i
   pub within : i ≤ to
@@ -57,7 +56,7 @@ pub record Going (table index : List ℕ) (entries : ℕ) (s t : List ℕ) (dept
   pub open_few : r.open_len + (to - i) ≤ r₀.open_len + (to - from)
   pub verses_few : r.verses + (to - i) ≤ r₀.verses + (to - from)
 
-pub going_start : (table index : List ℕ) (entries : ℕ) (s t : List ℕ) (depth : ℕ) (o : state.WalkContext) (from to : ℕ) (seen : List ℕ) (opens : List OpenStart) (l : List ℕ) (r : State) (numbers : Attached) → Ready table index entries s t depth from to seen opens r → Room (counts_of r) (walk_at table s t o from to seen opens r).findings → starts_of numbers ≡ starts_for (anchor_at s t r.anchor from) (forest s t from to) → Going table index entries s t depth o from to (walk_at table s t o from to seen opens r) l r seen opens l r numbers from
+pub going_start : (table index : List ℕ) (entries : ℕ) (s t : List ℕ) (depth : ℕ) (o : state.WalkContext) (from to : ℕ) (seen : List ℕ) (opens : List OpenStart) (l : List ℕ) (r : State) (numbers : Attached) → Ready table index entries s t depth from to seen opens r → Room (counts_of r) (walk_at table s t o from to seen opens r).findings → starts_of numbers ≡ starts_for (anchor_of s t r.anchor from) (forest s t from to) → Going table index entries s t depth o from to (walk_at table s t o from to seen opens r) l r seen opens l r numbers from
 going_start table index entries s t depth o from to seen opens l r numbers ready room h =
     let k = nested-le ready.nested in
     record {
@@ -96,7 +95,7 @@ module _ {table index : List ℕ} {entries : ℕ} {s t : List ℕ} {depth : ℕ}
               open_few = omega arith;
               verses_few = omega arith;
             };
-        anchor = ap (anchor_at s t r.anchor) (sym z) ∙ (rw done at g.anchor);
+        anchor = ap (anchor_of s t r.anchor) (sym z) ∙ (rw done at g.anchor);
         anchored = subst (Anchored t depth r.anchor) z g.ready.anchored;
       }
 
@@ -127,7 +126,7 @@ module _ {table index : List ℕ} {entries : ℕ} {s t : List ℕ} {depth : ℕ}
 
     -- the step to the next node, from what the step gives
     stepped : (seen' : List ℕ) (opens' : List OpenStart) (l' : List ℕ) (q : State) (numbers' : Attached) (fs : List Finding) (st : WalkState) → length seen' ≡ length seen → length opens' ≡ length opens
-        → walk_at table s t o i to seen opens r ≡ with_findings fs (walk table o (anchor_at s t q.anchor next) (forest s t next to) st)
+        → walk_at table s t o i to seen opens r ≡ with_findings fs (walk table o (anchor_of s t q.anchor next) (forest s t next to) st)
         → state_of s t seen' opens' q ≡ st
         → Wrote fs l (counts_of r) l' (counts_of q)
         → Opens s t opens' q.open_len
@@ -136,7 +135,7 @@ module _ {table index : List ℕ} {entries : ℕ} {s t : List ℕ} {depth : ℕ}
         → q.open_len ≤ r.open_len + (next - i)
         → q.verses ≤ r.verses + (next - i)
         → Anchored t depth q.anchor next
-        → starts_of numbers' ≡ starts_for (anchor_at s t q.anchor next) (forest s t next to)
+        → starts_of numbers' ≡ starts_for (anchor_of s t q.anchor next) (forest s t next to)
         → Going table index entries s t depth o from to w₀ l₀ r₀ seen' opens' l' q numbers' next
     stepped seen' opens' l' q numbers' fs st ls lo is state wrote starts bounded sf of vf anchored attached =
         let lt = going-later in
@@ -177,7 +176,7 @@ module _ {table index : List ℕ} {entries : ℕ} {s t : List ℕ} {depth : ℕ}
 
     -- a leaf
     module _ (leafy : is_open (kind_at t i) ≡ false) where
-      leaf-is : walk_at table s t o i to seen opens r ≡ with_findings (leaf_checked table o (state_of s t seen opens r) (node_at s t i)).findings (walk table o (anchor_at s t (anchor_after t i r.anchor) next) (forest s t next to) (leaf_checked table o (state_of s t seen opens r) (node_at s t i)).state)
+      leaf-is : walk_at table s t o i to seen opens r ≡ with_findings (leaf_checked table o (state_of s t seen opens r) (node_at s t i)).findings (walk table o (anchor_of s t (anchor_after t i r.anchor) next) (forest s t next to) (leaf_checked table o (state_of s t seen opens r) (node_at s t i)).state)
       leaf-is = walk-leaf s t depth i to g.ready.accepted g.ready.nested g.ready.start g.ready.within more leafy table o r.anchor (state_of s t seen opens r) g.ready.anchored
 
       pub leaf_room : Room (counts_of r) (leaf_checked table o (state_of s t seen [] r) (node_at s t i)).findings
@@ -210,7 +209,7 @@ module _ {table index : List ℕ} {entries : ℕ} {s t : List ℕ} {depth : ℕ}
       open-anchored : Anchored t depth r.anchor next
       open-anchored = anchored-past s t depth i to g.ready.accepted g.ready.nested g.ready.start g.ready.within more r.anchor g.ready.anchored
 
-      open-starts : starts_of numbers ≡ starts_for (anchor_at s t r.anchor next) (forest s t next to)
+      open-starts : starts_of numbers ≡ starts_for (anchor_of s t r.anchor next) (forest s t next to)
       open-starts = g.attached ∙ starts-past s t depth i to g.ready.accepted g.ready.nested g.ready.start g.ready.within more r.anchor g.ready.anchored
 
       pub going-skip : entry_of table (node_at s t i) ≡ none → Going table index entries s t depth o from to w₀ l₀ r₀ seen opens l r numbers next
@@ -220,7 +219,7 @@ module _ {table index : List ℕ} {entries : ℕ} {s t : List ℕ} {depth : ℕ}
           refl (wrote_none l (counts_of r)) g.ready.starts g.ready.bounded (omega arith) (omega arith) (omega arith) open-anchored open-starts
 
       module _ (e : Entry) (known : entry_of table (node_at s t i) ≡ some e) where
-        open_is : walk_at table s t o i to seen opens r ≡ with_findings (visit_findings table s t o e i to seen opens r) (walk table o (anchor_at s t r.anchor next) (forest s t next to) (visit_state table s t o e i to seen opens r))
+        open_is : walk_at table s t o i to seen opens r ≡ with_findings (visit_findings table s t o e i to seen opens r) (walk table o (anchor_of s t r.anchor next) (forest s t next to) (visit_state table s t o e i to seen opens r))
         open_is = walk-open s t depth i to g.ready.accepted g.ready.nested g.ready.start g.ready.within more opened table o r.anchor (state_of s t seen opens r) e g.ready.anchored known
 
         pub visit-room : Room (counts_of r) (visit_findings table s t o e i to seen opens r)

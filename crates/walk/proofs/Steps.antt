@@ -27,8 +27,7 @@ use Rattle.definition.specs.State as state
 use Rattle.definition.specs.Checks.{entry_of, leaf_checked}
 use Rattle.definition.specs.Walk.{leaf_anchor, open_checked, inside, with_findings, after_node, then_walk, by_entry, walk_by, walk}
 use Rattle.definition.specs.Walk as def
-use Rattle.definition.specs.Carried.{anchor_at}
-use Rattle.state.specs.Inner.{state_of, counts_of, starts_for, with_anchor, VerseBounded}
+use Rattle.state.specs.Inner.{state_of, counts_of, anchor_of, starts_for, with_anchor, VerseBounded}
 use Rattle.state.specs.declared.State.{State}
 use Rattle.walk.specs.Inner.{Anchored, nowhere, behind, anchor_after, numbers_after, LeafPassed, Leafy, Leaved, Unchanged, PassedBy}
 use Rattle.chapter_verse.specs.InnerVisit.{LeafVisited}
@@ -44,7 +43,7 @@ open-walk table o a x c r st e h =
     rw h (ap (λ (l : List Finding). record { findings = l; anchor = (walk table o (past a (node x c end)) r w.state).anchor; state = (walk table o (past a (node x c end)) r w.state).state }) (sym (append_assoc t.findings w.findings (walk table o (past a (node x c end)) r w.state).findings)))
 
 -- an anchor by its number
-anchor-at : (s t : List ℕ) (i at : ℕ) → 1 ≤ i → anchor_at s t i at ≡ some (record { kind = kind_at t i; passed = forest s t (past_node t i) at })
+anchor-at : (s t : List ℕ) (i at : ℕ) → 1 ≤ i → anchor_of s t i at ≡ some (record { kind = kind_at t i; passed = forest s t (past_node t i) at })
 anchor-at s t zero at h = absurd (omega arith)
 anchor-at s t (suc n) at h = refl
 
@@ -63,7 +62,7 @@ module _ (s t : List ℕ) (d i to : ℕ) (ok : Accepted s t) (nested : Nested t 
   next-later = (past-later s t i to run more, past-inside s t i to run more)
 
   -- the anchor is the same to the siblings after the node, one more being passed
-  pub anchor-past : (n : ℕ) → Anchored t d n i → past (anchor_at s t n i) (forest s t i next) ≡ anchor_at s t n next
+  pub anchor-past : (n : ℕ) → Anchored t d n i → past (anchor_of s t n i) (forest s t i next) ≡ anchor_of s t n next
   anchor-past n nowhere = refl
   anchor-past (suc n) (behind l r) = ap (λ (f : Forest). some (record { kind = kind_at t (suc n); passed = f })) (sym (forest-join s t r first))
 
@@ -72,19 +71,19 @@ module _ (s t : List ℕ) (d i to : ℕ) (ok : Accepted s t) (nested : Nested t 
   anchored-past (suc n) (behind l r) = behind l (nested-join r first)
 
   -- and so are the numbers attached to it
-  pub starts-past : (n : ℕ) → Anchored t d n i → starts_for (anchor_at s t n i) (forest s t i to) ≡ starts_for (anchor_at s t n next) (forest s t next to)
+  pub starts-past : (n : ℕ) → Anchored t d n i → starts_for (anchor_of s t n i) (forest s t i to) ≡ starts_for (anchor_of s t n next) (forest s t next to)
   starts-past n nowhere = refl
   starts-past (suc n) (behind l r) =
       ap (λ (f : Forest). start_offsets (attached_numbers (kind_at t (suc n)) f)) (sym (forest-join s t r nested) ∙ forest-join s t (nested-join r first) (rest-nested s t d i to ok nested from within more))
 
   -- a leaf
   module _ (leafy : is_open (kind_at t i) ≡ false) where
-    pub leaf-anchor : (n : ℕ) → Anchored t d n i → leaf_anchor (anchor_at s t n i) (node_at s t i) ≡ anchor_at s t (anchor_after t i n) next
+    pub leaf-anchor : (n : ℕ) → Anchored t d n i → leaf_anchor (anchor_of s t n i) (node_at s t i) ≡ anchor_of s t (anchor_after t i n) next
     leaf-anchor n a = go (numbered (kind_at t i)) refl
       where
-        go : (v : Bool) → numbered (kind_at t i) ≡ v → pick v (some (record { kind = kind_at t i; passed = end })) (past (anchor_at s t n i) (leaf (node_at s t i) end)) ≡ anchor_at s t (pick v i n) next
+        go : (v : Bool) → numbered (kind_at t i) ≡ v → pick v (some (record { kind = kind_at t i; passed = end })) (past (anchor_of s t n i) (leaf (node_at s t i) end)) ≡ anchor_of s t (pick v i n) next
         go true e = sym (anchor-at s t i next from ∙ ap (λ (f : Forest). some (record { kind = kind_at t i; passed = f })) (forest-done s t next next (omega arith)))
-        go false e = ap (past (anchor_at s t n i)) (sym (one-leaf s t d i to ok nested from within more leafy)) ∙ anchor-past n a
+        go false e = ap (past (anchor_of s t n i)) (sym (one-leaf s t d i to ok nested from within more leafy)) ∙ anchor-past n a
 
     pub leaf-anchored : (n : ℕ) → Anchored t d n i → Anchored t d (anchor_after t i n) next
     leaf-anchored n a = go (numbered (kind_at t i)) i refl
@@ -97,16 +96,16 @@ module _ (s t : List ℕ) (d i to : ℕ) (ok : Accepted s t) (nested : Nested t 
             behind below (done z)
         go false j e = anchored-past n a
 
-    pub leaf-starts : (n : ℕ) (given : List ℕ) → Anchored t d n i → given ≡ starts_for (anchor_at s t n i) (forest s t i to) → numbers_after s t i next to given ≡ starts_for (anchor_at s t (anchor_after t i n) next) (forest s t next to)
+    pub leaf-starts : (n : ℕ) (given : List ℕ) → Anchored t d n i → given ≡ starts_for (anchor_of s t n i) (forest s t i to) → numbers_after s t i next to given ≡ starts_for (anchor_of s t (anchor_after t i n) next) (forest s t next to)
     unfolding followed
     leaf-starts n given a h = go (numbered (kind_at t i))
       where
-        go : (v : Bool) → pick v (start_offsets (attached_numbers (kind_at t i) (forest s t next to))) given ≡ starts_for (anchor_at s t (pick v i n) next) (forest s t next to)
+        go : (v : Bool) → pick v (start_offsets (attached_numbers (kind_at t i) (forest s t next to))) given ≡ starts_for (anchor_of s t (pick v i n) next) (forest s t next to)
         go true = sym (ap (λ (a : Option Anchor). starts_for a (forest s t next to)) (anchor-at s t i next from) ∙ ap (λ (f : Forest). start_offsets (attached_numbers (kind_at t i) (followed f (forest s t next to)))) (forest-done s t next next (omega arith)))
         go false = h ∙ starts-past n a
 
     -- the walk from a leaf on
-    pub walk-leaf : (table : List ℕ) (o : state.WalkContext) (n : ℕ) (st : WalkState) → Anchored t d n i → walk table o (anchor_at s t n i) (forest s t i to) st ≡ with_findings (leaf_checked table o st (node_at s t i)).findings (walk table o (anchor_at s t (anchor_after t i n) next) (forest s t next to) (leaf_checked table o st (node_at s t i)).state)
+    pub walk-leaf : (table : List ℕ) (o : state.WalkContext) (n : ℕ) (st : WalkState) → Anchored t d n i → walk table o (anchor_of s t n i) (forest s t i to) st ≡ with_findings (leaf_checked table o st (node_at s t i)).findings (walk table o (anchor_of s t (anchor_after t i n) next) (forest s t next to) (leaf_checked table o st (node_at s t i)).state)
     unfolding walk_by
     walk-leaf table o n st a = rw (forest-at-leaf s t i to run more leafy, leaf-anchor n a)
 
@@ -118,18 +117,18 @@ module _ (s t : List ℕ) (d i to : ℕ) (ok : Accepted s t) (nested : Nested t 
     abbrev c : Forest
     c = forest s t (i + 1) (link_at t i)
 
-    open-anchor : (n : ℕ) → Anchored t d n i → past (anchor_at s t n i) (node x c end) ≡ anchor_at s t n next
-    open-anchor n a = ap (past (anchor_at s t n i)) (sym (one-open s t d i to ok nested from within more opened)) ∙ anchor-past n a
+    open-anchor : (n : ℕ) → Anchored t d n i → past (anchor_of s t n i) (node x c end) ≡ anchor_of s t n next
+    open-anchor n a = ap (past (anchor_of s t n i)) (sym (one-open s t d i to ok nested from within more opened)) ∙ anchor-past n a
 
     -- without a table entry it is passed over
-    pub walk-skip : (table : List ℕ) (o : state.WalkContext) (n : ℕ) (st : WalkState) → Anchored t d n i → entry_of table x ≡ none → walk table o (anchor_at s t n i) (forest s t i to) st ≡ walk table o (anchor_at s t n next) (forest s t next to) st
+    pub walk-skip : (table : List ℕ) (o : state.WalkContext) (n : ℕ) (st : WalkState) → Anchored t d n i → entry_of table x ≡ none → walk table o (anchor_of s t n i) (forest s t i to) st ≡ walk table o (anchor_of s t n next) (forest s t next to) st
     unfolding walk_by
     walk-skip table o n st a e = rw (forest-at-open s t i to run more opened, e, open-anchor n a)
 
-    pub walk-open : (table : List ℕ) (o : state.WalkContext) (n : ℕ) (st : WalkState) (e : Entry) → Anchored t d n i → entry_of table x ≡ some e → walk table o (anchor_at s t n i) (forest s t i to) st ≡ with_findings ((open_checked table o (anchor_at s t n i) st e x c (forest s t i to)).findings ++ (walk table (inside o e) none c (open_checked table o (anchor_at s t n i) st e x c (forest s t i to)).state).findings) (walk table o (anchor_at s t n next) (forest s t next to) (walk table (inside o e) none c (open_checked table o (anchor_at s t n i) st e x c (forest s t i to)).state).state)
+    pub walk-open : (table : List ℕ) (o : state.WalkContext) (n : ℕ) (st : WalkState) (e : Entry) → Anchored t d n i → entry_of table x ≡ some e → walk table o (anchor_of s t n i) (forest s t i to) st ≡ with_findings ((open_checked table o (anchor_of s t n i) st e x c (forest s t i to)).findings ++ (walk table (inside o e) none c (open_checked table o (anchor_of s t n i) st e x c (forest s t i to)).state).findings) (walk table o (anchor_of s t n next) (forest s t next to) (walk table (inside o e) none c (open_checked table o (anchor_of s t n i) st e x c (forest s t i to)).state).state)
     unfolding walk_by
     walk-open table o n st e a h =
-        rw (forest-at-open s t i to run more opened) (open-walk table o (anchor_at s t n i) x c (forest s t next to) st e h ∙ rw (open-anchor n a))
+        rw (forest-at-open s t i to run more opened) (open-walk table o (anchor_of s t n i) x c (forest s t next to) st e h ∙ rw (open-anchor n a))
 
 -- the anchor that a run begins with
 module _ (s t : List ℕ) (d n from to : ℕ) (ok : Accepted s t) (nested : Nested t d from to) (within : to ≤ count t) (a : Anchored t d n from) (some-anchor : n ≡ 0 → ⊥) where
@@ -151,14 +150,14 @@ module _ (s t : List ℕ) (d n from to : ℕ) (ok : Accepted s t) (nested : Nest
       go nowhere h = absurd (h refl)
       go {n} (behind l r) h = record { accepted = ok; depth = d; nested = nested-join r nested; from = past-some (holds_nodes (kind_at t n)) (link_at t n) n; inside = within }
 
-  pub begun-starts : (k p : ℕ) (xs : List ℕ) → k ≡ kind_at t n → p ≡ past_node t n → xs ≡ start_offsets (attached_numbers k (forest s t p to)) → xs ≡ starts_for (anchor_at s t n from) (forest s t from to)
+  pub begun-starts : (k p : ℕ) (xs : List ℕ) → k ≡ kind_at t n → p ≡ past_node t n → xs ≡ start_offsets (attached_numbers k (forest s t p to)) → xs ≡ starts_for (anchor_of s t n from) (forest s t from to)
   begun-starts k p xs e f h = h ∙ rw (e, f) (go a some-anchor)
     where
-      go : {n : ℕ} → Anchored t d n from → (n ≡ 0 → ⊥) → start_offsets (attached_numbers (kind_at t n) (forest s t (past_node t n) to)) ≡ starts_for (anchor_at s t n from) (forest s t from to)
+      go : {n : ℕ} → Anchored t d n from → (n ≡ 0 → ⊥) → start_offsets (attached_numbers (kind_at t n) (forest s t (past_node t n) to)) ≡ starts_for (anchor_of s t n from) (forest s t from to)
       go nowhere h = absurd (h refl)
       go {n} (behind l r) h = ap (λ (f : Forest). start_offsets (attached_numbers (kind_at t n) f)) (forest-join s t r nested)
 
-pub begun-nothing : (s t : List ℕ) (n from : ℕ) (f : Forest) → n ≡ 0 → [] ≡ starts_for (anchor_at s t n from) f
+pub begun-nothing : (s t : List ℕ) (n from : ℕ) (f : Forest) → n ≡ 0 → [] ≡ starts_for (anchor_of s t n from) f
 begun-nothing s t n from f e = rw e
 
 -- whether a kind is that of a Chapter or a Verse

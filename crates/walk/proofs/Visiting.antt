@@ -29,8 +29,7 @@ use Rattle.definition.specs.Milestones.{milestone_checks, after_milestone}
 use Rattle.definition.specs.Walk.{walk, open_checked_by, inside}
 use Rattle.definition.specs.Walk as def
 use Rattle.definition.specs.declared.OpenStart.{OpenStart}
-use Rattle.definition.specs.Carried.{anchor_at}
-use Rattle.state.specs.Inner.{state_of, counts_of, with_counts, with_anchor, VerseBounded, Opens}
+use Rattle.state.specs.Inner.{state_of, counts_of, anchor_of, with_counts, with_anchor, VerseBounded, Opens}
 use Rattle.state.specs.declared.State.{State}
 use Rattle.marker_checks.specs.InnerVisit.{is_id, children_at, own_at, MarkerVisited}
 use Rattle.milestones.specs.InnerStep.{MilestoneStep, Milestoned, Steppable}
@@ -67,7 +66,7 @@ module _ {table index : List ℕ} {entries : ℕ} {s t : List ℕ} {depth : ℕ}
   st₁ = after_id (is_id table e) (state_of s t seen opens r) c
 
   abbrev own : List Finding
-  own = own_at table s t o (anchor_at s t r.anchor i) e i to r
+  own = own_at table s t o (anchor_of s t r.anchor i) e i to r
 
   abbrev milestone : List Finding
   milestone = given (milestone_checks e st₁ x)
@@ -118,7 +117,7 @@ module _ {table index : List ℕ} {entries : ℕ} {s t : List ℕ} {depth : ℕ}
   link-later = open-later s t i to visit-run v.able.more v.able.opened
 
   -- after the checks of the marker
-  module _ (l₁ : List ℕ) (r₁ : State) (marked : MarkerVisited table s t o (anchor_at s t r.anchor i) e i to l r l₁ r₁) where
+  module _ (l₁ : List ℕ) (r₁ : State) (marked : MarkerVisited table s t o (anchor_of s t r.anchor i) e i to l r l₁ r₁) where
     same-open : r₁.open_len ≡ r.open_len
     same-open = marked.same.opens
 
@@ -230,7 +229,7 @@ pub record Entered (table index : List ℕ) (entries : ℕ) (s t : List ℕ) (de
   pub visit : Visit table index entries s t depth o i to e numbers seen opens l r
   pub l₁ : List ℕ
   pub r₁ : State
-  pub marked : MarkerVisited table s t o (anchor_at s t r.anchor i) e i to l r l₁ r₁
+  pub marked : MarkerVisited table s t o (anchor_of s t r.anchor i) e i to l r l₁ r₁
   pub long : length opens₂ ≡ length opens
   pub done : Milestoned e s t i opens l₁ r₁ opens₂ l₂ r₂
 
@@ -245,7 +244,7 @@ pub record Inner (table index : List ℕ) (entries : ℕ) (s t : List ℕ) (dept
   pub context : o' ≡ inside o e
 
 module _ {table index : List ℕ} {entries : ℕ} {s t : List ℕ} {depth : ℕ} {o : state.WalkContext} {i to : ℕ} {e : Entry} {numbers : Attached} {seen : List ℕ} {opens : List OpenStart} {l : List ℕ} {r : State} where
-  pub steppable : (v : Visit table index entries s t depth o i to e numbers seen opens l r) (l₁ : List ℕ) (r₁ : State) → MarkerVisited table s t o (anchor_at s t r.anchor i) e i to l r l₁ r₁ → Steppable e s t i opens r₁
+  pub steppable : (v : Visit table index entries s t depth o i to e numbers seen opens l r) (l₁ : List ℕ) (r₁ : State) → MarkerVisited table s t o (anchor_of s t r.anchor i) e i to l r l₁ r₁ → Steppable e s t i opens r₁
   steppable v l₁ r₁ marked =
       let low = visit-low v in
       record {
@@ -261,10 +260,10 @@ module _ {table index : List ℕ} {entries : ℕ} {s t : List ℕ} {depth : ℕ}
   visited-skipped v b b-is h =
       let k : can_skip_marker_at table s t o e i r.has_chapter ≡ true = sym b-is ∙ h in
       let q : eqb e.category milestone_category ≡ false = skipped-category (cut e.name table) e o r.has_chapter (children_at s t i) k in
-      let m = skipped-marked table s t o (anchor_at s t r.anchor i) e i to r k l in
+      let m = skipped-marked table s t o (anchor_of s t r.anchor i) e i to r k l in
       visited-without-children v l r m l opens r refl (no-milestone e s t i opens l r v.ready.starts (rw q)) (texts-skipped (children_at s t i) (skipped-texts (cut e.name table) e o r.has_chapter (children_at s t i) k))
 
-  pub enters : (v : Visit table index entries s t depth o i to e numbers seen opens l r) (l₁ : List ℕ) (r₁ : State) → MarkerVisited table s t o (anchor_at s t r.anchor i) e i to l r l₁ r₁ → (l₂ : List ℕ) (opens₂ : List OpenStart) (r₂ : State) → length opens₂ ≡ length opens → Milestoned e s t i opens l₁ r₁ opens₂ l₂ r₂ → Entered table index entries s t depth o i to e numbers seen opens l r l₂ opens₂ r₂
+  pub enters : (v : Visit table index entries s t depth o i to e numbers seen opens l r) (l₁ : List ℕ) (r₁ : State) → MarkerVisited table s t o (anchor_of s t r.anchor i) e i to l r l₁ r₁ → (l₂ : List ℕ) (opens₂ : List OpenStart) (r₂ : State) → length opens₂ ≡ length opens → Milestoned e s t i opens l₁ r₁ opens₂ l₂ r₂ → Entered table index entries s t depth o i to e numbers seen opens l r l₂ opens₂ r₂
   enters v l₁ r₁ marked l₂ opens₂ r₂ long done = record { visit = v; l₁ = l₁; r₁ = r₁; marked = marked; long = long; done = done }
 
   module _ {l₂ : List ℕ} {opens₂ : List OpenStart} {r₂ : State} (x : Entered table index entries s t depth o i to e numbers seen opens l r l₂ opens₂ r₂) (link : ℕ) (link-is : link ≡ link_at t i) where

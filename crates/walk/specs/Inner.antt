@@ -16,8 +16,7 @@ use Rattle.definition.specs.State as state
 use Rattle.definition.specs.Walk.{open_checked, inside, walk}
 use Rattle.definition.specs.Walk as def
 use Rattle.definition.specs.declared.OpenStart.{OpenStart}
-use Rattle.definition.specs.Carried.{anchor_at}
-use Rattle.state.specs.Inner.{state_of, counts_of, starts_for, VerseBounded, Opens}
+use Rattle.state.specs.Inner.{state_of, counts_of, anchor_of, starts_for, VerseBounded, Opens}
 use Rattle.state.specs.declared.State.{State}
 use Rattle.text.specs.Pick.{pick}
 use Rattle.table.specs.Inner.{Indexed}
@@ -30,7 +29,7 @@ pub data Anchored (t : List ℕ) (d : ℕ) : ℕ → ℕ → Type 0 where
 
 -- the walk of the nodes from one up to another, from a record with its lists
 abbrev pub walk_at : List ℕ → List ℕ → List ℕ → state.WalkContext → ℕ → ℕ → List ℕ → List OpenStart → State → def.Walked
-walk_at table s t o from to seen opens r = walk table o (anchor_at s t r.anchor from) (forest s t from to) (state_of s t seen opens r)
+walk_at table s t o from to seen opens r = walk table o (anchor_of s t r.anchor from) (forest s t from to) (state_of s t seen opens r)
 
 -- the nodes from one up to another, with the lists long enough for what they can add
 pub record Ready (table index : List ℕ) (entries : ℕ) (s t : List ℕ) (depth from to : ℕ) (seen : List ℕ) (opens : List OpenStart) (r : State) : Type 0 where
@@ -59,13 +58,13 @@ pub record Went (s t : List ℕ) (fs : List Finding) (st : WalkState) (n : ℕ) 
 -- and so is the last anchor, to what follows the run
 pub record RunWalked (s t : List ℕ) (w : def.Walked) (depth from to : ℕ) (l : List ℕ) (r : State) (seen : List ℕ) (opens : List OpenStart) (l' : List ℕ) (q : State) : Type 0 where
   pub went : Went s t w.findings w.state (to - from) l r seen opens l' q
-  pub anchor : anchor_at s t q.anchor to ≡ w.anchor
+  pub anchor : anchor_of s t q.anchor to ≡ w.anchor
   pub anchored : Anchored t depth q.anchor to
 
 -- a marker with its table entry, and its children
 abbrev pub open_checked_at : List ℕ → List ℕ → List ℕ → state.WalkContext → Entry → ℕ → ℕ → List ℕ → List OpenStart → State → NodeChecked
 open_checked_at table s t o e i to seen opens r =
-    open_checked table o (anchor_at s t r.anchor i) (state_of s t seen opens r) e (node_at s t i) (forest s t (i + 1) (link_at t i)) (forest s t i to)
+    open_checked table o (anchor_of s t r.anchor i) (state_of s t seen opens r) e (node_at s t i) (forest s t (i + 1) (link_at t i)) (forest s t i to)
 
 abbrev pub below : List ℕ → List ℕ → List ℕ → state.WalkContext → Entry → ℕ → NodeChecked → def.Walked
 below table s t o e i w = walk table (inside o e) none (forest s t (i + 1) (link_at t i)) w.state
@@ -86,7 +85,7 @@ pub record Visited (table s t : List ℕ) (o : state.WalkContext) (e : Entry) (i
 pub record Visitable (s t : List ℕ) (i to : ℕ) (numbers : Attached) (r : State) : Type 0 where
   pub more : i < to
   pub opened : is_open (kind_at t i) ≡ true
-  pub attached : starts_of numbers ≡ starts_for (anchor_at s t r.anchor i) (forest s t i to)
+  pub attached : starts_of numbers ≡ starts_for (anchor_of s t r.anchor i) (forest s t i to)
 
 -- a leaf, of which a Chapter or Verse is the new anchor
 abbrev pub anchor_after : List ℕ → ℕ → ℕ → ℕ

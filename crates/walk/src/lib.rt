@@ -1,4 +1,6 @@
 // The walk over a document: a run of siblings, and the visit of one node, each one level deeper.
+#![tactic(auto)]
+
 ghost use Rattle.std.specs.Prelude.{◌≡◌, [], ◌+◌, ◌<◌, ◌≤◌, length};
 ghost use Rattle.tape.specs.Nodes.{node_at, kind_at};
 ghost use Rattle.tape.specs.Nodes.{count};
@@ -8,8 +10,7 @@ ghost use Rattle.numbers.specs.Label.{numbered};
 ghost use Rattle.cursor.specs.Inner.{Run, Spanned};
 ghost use Rattle.attachment.specs.Attached.{starts_of};
 ghost use Rattle.definition.specs.Checks.{leaf_checked};
-ghost use Rattle.definition.specs.Carried.{anchor_at};
-ghost use Rattle.state.specs.Inner.{state_of, context_of, starts_for, counts_of, VerseBounded};
+ghost use Rattle.state.specs.Inner.{state_of, context_of, anchor_of, starts_for, counts_of, VerseBounded};
 ghost use Rattle.walk.specs.Inner.{Ready, RunWalked, Visited, Visitable, Anchored, walk_at, visit_findings, LeafPassed, numbers_after, Passable, PassedBy, can_skip_children};
 ghost use Rattle.table.specs.Inner.{Indexed};
 ghost use Rattle.findings.specs.Inner.{Room};
@@ -29,7 +30,7 @@ fn anchored(
     to: usize,
 ) -> Attached
     requires { (Accepted source.now tape.now) × (Nested tape.now depth from to) × (to ≤ count tape.now) × (Anchored tape.now depth anchor from) }
-    ensures { starts_of result ≡ starts_for (anchor_at source.now tape.now anchor from) (forest source.now tape.now from to) }
+    ensures { starts_of result ≡ starts_for (anchor_of source.now tape.now anchor from) (forest source.now tape.now from to) }
 {
     if anchor == 0 {
         return Attached {

@@ -8,7 +8,7 @@ use std::thread;
 use std::time::Instant;
 
 use oracle::arguments::numbers;
-use oracle::document::Document;
+use oracle::document::{Document, kind};
 use oracle::exhaustive::{
     every_label, every_nesting, every_pair_of_bases, every_pair_of_labels, every_pair_of_spans,
     every_row_of_milestones, every_tape,
@@ -17,7 +17,7 @@ use oracle::faults;
 use oracle::generate::{generate, lengths, quoted};
 use oracle::published::overflow_is_noticed;
 use oracle::refusals::DEEPEST;
-use oracle::samples;
+use oracle::samples::{self, Builder, entry};
 use oracle::whole::{
     Comparison, Counts, Source, all_threads, compare_lists, compare_seeds, expect_all_reached,
     failure_message,
@@ -102,7 +102,12 @@ fn labels() -> Result<Counts, String> {
 /// A verse inside as many markers as may nest, checked on a small stack.
 fn deepest() -> Result<Counts, String> {
     let check = || {
-        let document = samples::nested(DEEPEST);
+        let mut builder = Builder::default();
+        for _ in 0..DEEPEST {
+            builder.open(0, "\\p");
+        }
+        builder.leaf(kind::VERSE, 1, "\\v 1", 1);
+        let document = builder.under(&[entry("p", 3, 2), entry("v", 2, 0)]);
         let mut comparison = Comparison::default();
         for seed in 0..200 {
             compare(&mut comparison, &document, seed)?;

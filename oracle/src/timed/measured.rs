@@ -61,17 +61,17 @@ pub struct Measured {
 }
 
 /// The lists that are lent to the check and kept from one document to the next.
-pub(super) struct Lists {
-    pub(super) seen: Vec<u32>,
-    pub(super) opens: Vec<OpenStart>,
-    pub(super) list: Vec<u64>,
+struct Lists {
+    seen: Vec<u32>,
+    opens: Vec<OpenStart>,
+    list: Vec<u64>,
     checker: Checker,
 }
 
 impl Lists {
     /// Lists long enough for each of the documents, which have so many findings together. They don't begin as zeros, so that
     /// their memory is there before the first round.
-    pub(super) fn new(documents: &[Document], findings: u64) -> Lists {
+    fn new(documents: &[Document], findings: u64) -> Lists {
         let counts = documents.iter().map(Document::node_count);
         let n = counts.max().unwrap_or(0);
         let open = OpenStart {
@@ -101,7 +101,7 @@ impl Lists {
     }
 
     /// Checks each document: the seconds of all together, and the number of findings.
-    pub(super) fn run(&mut self, documents: &[Document]) -> (f64, u64) {
+    fn run(&mut self, documents: &[Document]) -> (f64, u64) {
         let table = &documents[0].table;
         let (mut seconds, mut total) = (0.0, 0);
         for document in documents {

@@ -4,7 +4,6 @@ use std::fmt::Write;
 
 use super::FINDING_WORDS;
 use super::accounts::Paired;
-use super::sections;
 use crate::drafts::Shown;
 use crate::reached::Reached;
 
@@ -37,8 +36,6 @@ pub struct Counts {
     pub shown: Shown,
     /// Milestones of the accepted.
     pub paired: Paired,
-    /// Calls of begin, section and close.
-    pub sections: sections::Shown,
     pub reached: Reached,
 }
 
@@ -62,7 +59,6 @@ impl Counts {
         self.too_deep += other.too_deep;
         self.shown.add_all(&other.shown);
         self.paired.add(&other.paired);
-        self.sections.add(&other.sections);
         self.reached.add(&other.reached);
     }
 

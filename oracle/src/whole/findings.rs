@@ -45,16 +45,6 @@ fn published_words(found: &Found) -> Result<[u64; FINDING_WORDS], String> {
     ])
 }
 
-/// A finding's words are those of a published one, as far as that says them.
-pub fn same_words(words: [u64; FINDING_WORDS], found: &Found) -> Result<(), String> {
-    let mut expected = published_words(found)?;
-    expected[NODE] = words[NODE];
-    if found.code == 32 {
-        expected[FIRST] = words[FIRST];
-    }
-    agree("a finding", words, expected)
-}
-
 /// Whether a node can be the one that a finding of this code is about: its span, and its kind.
 fn is_about(document: &Document, words: &[u64; FINDING_WORDS]) -> bool {
     let node = words[NODE] as usize;
@@ -115,7 +105,13 @@ pub fn same_findings(report: &Report, theirs: &[Found]) -> Result<(), String> {
         .collect();
     agree("findings without code 35", ours.len(), theirs.len())?;
     for (ours, found) in ours.iter().zip(theirs) {
-        same_words(words(ours), found)?;
+        let words = words(ours);
+        let mut expected = published_words(found)?;
+        expected[NODE] = words[NODE];
+        if found.code == 32 {
+            expected[FIRST] = words[FIRST];
+        }
+        agree("a finding", words, expected)?;
         agree("a text", ours.message(), found.message.as_str())?;
     }
     Ok(())

@@ -13,8 +13,6 @@ pub struct Slots {
     pub tape: Slot<u8>,
     pub seen: Slot<u32>,
     pub opens: Slot<OpenStart>,
-    /// The record of a document in sections.
-    pub carried: Slot<u64>,
     pub list: Slot<u64>,
     pub ends: Slot<u64>,
     pub text: Slot<u8>,
@@ -138,46 +136,6 @@ impl Slots {
             self.table.list(),
             self.source.list(),
             self.nodes.list_mut(),
-            self.out.list_mut(),
-        );
-    }
-
-    pub fn begin(&mut self) {
-        raw::begin(
-            self.table.list(),
-            self.source.list(),
-            self.tape.list(),
-            self.carried.list_mut(),
-            self.seen.list_mut(),
-            self.opens.list_mut(),
-            self.out.list_mut(),
-        );
-    }
-
-    pub fn section(&mut self, from: u64, to: u64) {
-        raw::section(
-            self.table.list(),
-            self.source.list(),
-            self.tape.list(),
-            from,
-            to,
-            self.carried.list_mut(),
-            self.seen.list_mut(),
-            self.opens.list_mut(),
-            self.list.list_mut(),
-            self.out.list_mut(),
-        );
-    }
-
-    pub fn close(&mut self) {
-        raw::close(
-            self.table.list(),
-            self.source.list(),
-            self.tape.list(),
-            self.carried.list_mut(),
-            self.seen.list_mut(),
-            self.opens.list_mut(),
-            self.list.list_mut(),
             self.out.list_mut(),
         );
     }

@@ -4,9 +4,7 @@ use std::fs;
 use std::path::{Path, PathBuf};
 
 use harkoxin::raw::{self, MessageRequest, OpenStart};
-use harkoxin::{
-    Carried, Node, NodeKind, OwnedTape, Refusal, Report, Sections, Table, Tape, check_bytes,
-};
+use harkoxin::{Node, NodeKind, Refusal, Report, Table, Tape, check_bytes};
 
 pub const TABLE: &str = "name=id\ncategory=identification\nrole=excluded\n\
     name=c\ncategory=chapter\nrole=content\n\
@@ -45,26 +43,6 @@ impl Document {
         }
     }
 
-    /// A text under the table of USFM 3.1, read to a tape of its own.
-    pub fn of_text(text: &str) -> Document {
-        let table = Document::example("own-text").table;
-        let tape = OwnedTape::read(&Table::new(&table), text).unwrap();
-        Document {
-            source: text.as_bytes().to_vec(),
-            tape: tape.as_tape().as_bytes().to_vec(),
-            table,
-        }
-    }
-
-    /// A text whose sections have to know much of those before them: chapters twice and out of order, verses with letters, numbers
-    /// of chapters that are misplaced or too many, milestones that cross, verses outside paragraphs, text before its `id`.
-    pub fn book() -> Document {
-        Document::of_text(
-            "words\\id GEN\\c 1\\v 1\\ca 2\\ca*\\p\\qt-s\\*\\v 2a b\\ts-s\\*\\c 2\\ca 2\\ca*\\ca 3\\ca*\\v 1\\p\\v 3 c\\qt-e\\*\
-             \\c 2\\p\\v 1 d\\v 1b\\v 1a\\qt-e\\*\\qt-s\\*",
-        )
-    }
-
     pub fn listing() -> Document {
         Document::of(TABLE, SOURCE, &NODES)
     }
@@ -95,35 +73,6 @@ impl Document {
         self.tape().len()
     }
 
-    pub fn borders(&self) -> Vec<usize> {
-        self.tape().borders().collect()
-    }
-
-    /// Whether the node at a place is of this kind.
-    pub fn has(&self, kind: NodeKind, place: usize) -> bool {
-        self.tape().get(place).is_some_and(|node| node.kind == kind)
-    }
-
-    pub fn begin(&self) -> Result<Sections<'_>, Refusal> {
-        Sections::begin(&self.table(), &self.source, &self.tape())
-    }
-
-    pub fn resume(&self, carried: &Carried) -> Result<Sections<'_>, Refusal> {
-        Sections::resume(&self.table(), &self.source, &self.tape(), carried)
-    }
-
-    /// The reports of the sections that end at these places, and that of the close.
-    pub fn in_sections(&self, ends: &[usize]) -> Vec<Report> {
-        let mut sections = self.begin().unwrap();
-        let mut reports: Vec<Report> = Vec::new();
-        for &end in ends {
-            reports.push(sections.section(end).unwrap());
-            assert_eq!(sections.place(), end);
-        }
-        reports.push(sections.close().unwrap());
-        reports
-    }
-
     pub fn raw_check(&self, lists: &mut Lists) {
         raw::check(
             &self.table,
@@ -150,46 +99,6 @@ impl Document {
         );
     }
 
-    pub fn raw_begin(&self, carried: &mut [u64], lists: &mut Lists) {
-        raw::begin(
-            &self.table,
-            &self.source,
-            &self.tape,
-            carried,
-            &mut lists.seen,
-            &mut lists.opens,
-            &mut lists.out,
-        );
-    }
-
-    pub fn raw_section(&self, from: u64, to: u64, carried: &mut [u64], lists: &mut Lists) {
-        raw::section(
-            &self.table,
-            &self.source,
-            &self.tape,
-            from,
-            to,
-            carried,
-            &mut lists.seen,
-            &mut lists.opens,
-            &mut lists.list,
-            &mut lists.out,
-        );
-    }
-
-    pub fn raw_close(&self, carried: &mut [u64], lists: &mut Lists) {
-        raw::close(
-            &self.table,
-            &self.source,
-            &self.tape,
-            carried,
-            &mut lists.seen,
-            &mut lists.opens,
-            &mut lists.list,
-            &mut lists.out,
-        );
-    }
-
     pub fn raw_message(&self, request: MessageRequest, text: &mut [u8], out: &mut [u64]) {
         raw::message(&self.table, &self.source, &self.tape, request, text, out);
     }
@@ -209,12 +118,6 @@ impl Document {
         raw::messages(table, source, tape, list, ends, text, &mut out);
         out
     }
-}
-
-/// Number 19, with the expected node.
-pub fn out_of_order(place: usize) -> Refusal {
-    let (number, place) = (19, place as u64);
-    Refusal { number, place }
 }
 
 /// The lists that a check is lent.

@@ -1,6 +1,5 @@
 //! The binding with the library behind it.
 
-mod carried;
 mod common;
 mod documents;
 mod folders;
@@ -10,8 +9,6 @@ mod marks;
 mod nodes;
 mod positions;
 mod raw;
-mod raw_sections;
 mod reading;
 mod refusals;
-mod sections;
 mod unreadable;

@@ -2,7 +2,7 @@
 
 use harkoxin::{MarkerId, Node, NodeKind, Tape};
 
-use crate::common::{Document, NODES, Numbers, SOURCE, TABLE};
+use crate::common::{Document, NODES, SOURCE, TABLE};
 
 #[test]
 fn nodes_are_a_tape_without_a_copy() {
@@ -32,50 +32,6 @@ fn fields_stand_in_their_order() {
     };
     let bytes = [8, 2, 3, 4, 5, 6, 7, 8, 9, 10, 11, 12, 13, 14, 15, 16];
     assert_eq!(Tape::from_nodes(&[node]).as_bytes(), bytes);
-    assert_eq!(Tape::from_bytes(&bytes).get(0), Some(node));
-}
-
-#[test]
-fn a_tape_gives_its_whole_nodes() {
-    let bytes = Document::example("listing").tape;
-    let tape = Tape::from_bytes(&bytes[..bytes.len() - 1]);
-    let nodes: Vec<Node> = (0..).map_while(|place| tape.get(place)).collect();
-    assert_eq!(nodes, NODES[..8]);
-    assert_eq!(tape.get(usize::MAX), None);
-}
-
-#[test]
-fn a_byte_of_a_tape_has_its_kind() {
-    for kind in 0..=u8::MAX {
-        let bytes = [kind, 0, 0, 0, 0, 0, 0, 0, 0, 0, 0, 0, 0, 0, 0, 0];
-        let node = Tape::from_bytes(&bytes).get(0);
-        let number = node.map(|node| node.kind as u8);
-        assert_eq!(number, (kind < 9).then_some(kind));
-    }
-}
-
-#[test]
-fn the_borders_of_any_bytes_come_to_an_end() {
-    assert_eq!(
-        Tape::from_nodes(&NODES).borders().collect::<Vec<_>>(),
-        [1, 4, 5, 9]
-    );
-    assert_eq!(Tape::from_bytes(&[]).borders().collect::<Vec<_>>(), [1]);
-    let numbers = &mut Numbers::from_seed(8);
-    for _ in 0..2_000 {
-        let mut nodes = NODES;
-        nodes[0].link = numbers.word() as u32;
-        let node = &mut nodes[numbers.below(9)];
-        (node.kind, node.link) = (
-            NodeKind::MarkerOpen,
-            numbers.word() as u32 >> numbers.below(32),
-        );
-        let borders: Vec<usize> = Tape::from_nodes(&nodes).borders().collect();
-        assert!(
-            borders.is_sorted_by(|one, next| one < next) && borders.len() <= 9,
-            "{borders:?}"
-        );
-    }
 }
 
 #[test]

@@ -114,14 +114,13 @@ fn each_number_has_its_explanation() {
         (16, "source byte", "isn't in the table"),
         (17, "source byte", "without its open"),
         (18, "nodes needed", "too short for the nodes"),
-        (19, "expected node", "where the last one ended"),
     ] {
         let refusal = Refusal { number, place: 77 };
         assert!(refusal.explanation().contains(words), "{refusal}");
         let start = format!("refused by number {number} ({unit} 77): ");
         assert_eq!(refusal.to_string(), start + refusal.explanation());
     }
-    for number in [0, 20, u64::MAX] {
+    for number in [0, 19, u64::MAX] {
         let refusal = Refusal { number, place: 0 };
         assert_eq!(refusal.explanation(), "the number is unknown");
     }

@@ -5,14 +5,14 @@ use native.Mathlib.Omega.{arith}
 use mathlib.Core.Path.{◌≡◌, refl, sym, ◌∙◌}
 use lib.ListN.{length}
 use Rattle.attachment.specs.Attached.{among}
-use Rattle.definition.specs.Carried.{latest_words}
+use Rattle.state.specs.Inner.{latest}
 use Rattle.chapter_verse.proofs.Seen.{seen_here, seen-past, seen_none}
 use borrow.Author.Rules.{rules}
 use Rattle.chapter_verse.proofs.is_among_few.Statement.{statement}
 use Rattle.chapter_verse.proofs.is_among_few.Tie as tie
 
 abbrev invariant-loop : tie.invariant-loop
-invariant-loop seen k num i₀ i = (i ≤ length seen) × (among num (latest_words seen i) ≡ among num (latest_words seen k))
+invariant-loop seen k num i₀ i = (i ≤ length seen) × (among num (latest seen i) ≡ among num (latest seen k))
 
 abbrev decreases-loop : tie.decreases-loop
 decreases-loop seen k num i₀ i = i

@@ -6,14 +6,14 @@ use native.Mathlib.Omega.{arith}
 use native.Mathlib.Nat.{add-zero}
 use mathlib.Core.Path.{◌≡◌, refl, ap, ◌∙◌}
 use Rattle.attachment.specs.Attached.{among}
-use Rattle.definition.specs.Carried.{latest_words}
+use Rattle.state.specs.Inner.{latest}
 use Rattle.chapter_verse.proofs.Seen.{block_more}
 use borrow.Author.Rules.{rules}
 use Rattle.chapter_verse.proofs.is_in_block.Statement.{statement}
 use Rattle.chapter_verse.proofs.is_in_block.Tie as tie
 
 abbrev invariant-loop : tie.invariant-loop
-invariant-loop seen at num found₀ i₀ found i = (i ≤ 16) × ((found || among num (latest_words seen at)) ≡ among num (latest_words seen (at + i)))
+invariant-loop seen at num found₀ i₀ found i = (i ≤ 16) × ((found || among num (latest seen at)) ≡ among num (latest seen (at + i)))
 
 abbrev decreases-loop : tie.decreases-loop
 decreases-loop seen at num found₀ i₀ found i = 16 - i
@@ -47,7 +47,7 @@ returns c =
     let a = c.before.before.args in
     let l = c.before.loop in
     let e : l.i ≡ 16 = omega arith in
-    l.invariant.1 ∙ ap (λ (i : ℕ). among a.num (latest_words a.seen.now (a.at + i))) e
+    l.invariant.1 ∙ ap (λ (i : ℕ). among a.num (latest a.seen.now (a.at + i))) e
 
 pub is-in-block-spec : {M : Type 1} → statement M
 is-in-block-spec =

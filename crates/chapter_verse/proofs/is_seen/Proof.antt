@@ -6,13 +6,13 @@ use mathlib.Core.Path.{◌≡◌, refl, sym, ap, ◌∙◌}
 use mathlib.Core.Bool.{Bool, true, false, ◌||◌}
 use lib.ListN.{length}
 use Rattle.attachment.specs.Attached.{among}
-use Rattle.definition.specs.Carried.{latest_words}
+use Rattle.state.specs.Inner.{latest}
 use borrow.Author.Rules.{rules}
 use Rattle.chapter_verse.proofs.is_seen.Statement.{statement}
 use Rattle.chapter_verse.proofs.is_seen.Tie as tie
 
 abbrev invariant-loop : tie.invariant-loop
-invariant-loop seen k num i₀ i = (i ≤ length seen) × (among num (latest_words seen i) ≡ among num (latest_words seen k))
+invariant-loop seen k num i₀ i = (i ≤ length seen) × (among num (latest seen i) ≡ among num (latest seen k))
 
 abbrev decreases-loop : tie.decreases-loop
 decreases-loop seen k num i₀ i = i
@@ -24,12 +24,12 @@ is-in-block-requires : tie.Need-is-in-block-requires invariant-loop decreases-lo
 is-in-block-requires c κs = omega arith
 
 -- what the block says of the words up to its end
-block : (c : tie.After-is-in-block invariant-loop decreases-loop) (r : Bool) → c.is-in-block.result ≡ r → (r || among c.before.before.before.before.args.num (latest_words c.before.before.before.before.args.seen.now (c.before.before.loop.i - 16))) ≡ among c.before.before.before.before.args.num (latest_words c.before.before.before.before.args.seen.now c.before.before.before.before.args.k)
+block : (c : tie.After-is-in-block invariant-loop decreases-loop) (r : Bool) → c.is-in-block.result ≡ r → (r || among c.before.before.before.before.args.num (latest c.before.before.before.before.args.seen.now (c.before.before.loop.i - 16))) ≡ among c.before.before.before.before.args.num (latest c.before.before.before.before.args.seen.now c.before.before.before.before.args.k)
 block c r h =
     let a = c.before.before.before.before.args in
     let l = c.before.before.loop in
     let e : l.i - 16 + 16 ≡ l.i = omega (arith, c.before.loop-test.true) in
-    ap (λ (x : Bool). (x || among a.num (latest_words a.seen.now (l.i - 16)))) (sym h) ∙ c.is-in-block.ensures ∙ ap (λ (i : ℕ). among a.num (latest_words a.seen.now i)) e ∙ l.invariant.1
+    ap (λ (x : Bool). (x || among a.num (latest a.seen.now (l.i - 16)))) (sym h) ∙ c.is-in-block.ensures ∙ ap (λ (i : ℕ). among a.num (latest a.seen.now i)) e ∙ l.invariant.1
 
 returns : tie.Need-returns invariant-loop decreases-loop
 returns c = block c.before true c.if1.true

@@ -16,8 +16,7 @@ use Rattle.cursor.specs.Names.{name_of}
 use Rattle.cursor.proofs.Runs.{run-below, run-spanned}
 use Rattle.attachment.specs.Attached.{among}
 use Rattle.definition.specs.Checks.{Check, given, b_name, inline_content, number_markers, attached_to}
-use Rattle.definition.specs.Carried.{anchor_at}
-use Rattle.state.specs.Inner.{context_of}
+use Rattle.state.specs.Inner.{context_of, anchor_of}
 use Rattle.marker_checks.specs.InnerVisit.{children_at}
 use Rattle.marker_checks.proofs.Children.{children}
 use Rattle.marker_checks.proofs.Whole.{place_part}
@@ -40,10 +39,10 @@ filled c =
     let a = c.before.before.before.before.before.before.before.args in
     c.filled-blank-line.ensures ∙ ap (λ (n : ℕ). (equal a.name.now b_name && inline_content (forest a.source.now a.tape.now (a.i + 1) n))) c.before.before.link_at.ensures
 
-misplaced : (c : tie.After-is-misplaced) → let a = c.before.before.before.before.before.before.before.before.before.args in c.is-misplaced.result ≡ (one_of number_markers a.name.now && (one_of number_markers (name_of (node_at a.source.now a.tape.now a.i).text) && not (attached_to (anchor_at a.source.now a.tape.now a.rec.anchor a.i) (forest a.source.now a.tape.now a.i a.to) (start_at a.tape.now a.i))))
+misplaced : (c : tie.After-is-misplaced) → let a = c.before.before.before.before.before.before.before.before.before.args in c.is-misplaced.result ≡ (one_of number_markers a.name.now && (one_of number_markers (name_of (node_at a.source.now a.tape.now a.i).text) && not (attached_to (anchor_of a.source.now a.tape.now a.rec.anchor a.i) (forest a.source.now a.tape.now a.i a.to) (start_at a.tape.now a.i))))
 misplaced c =
     let a = c.before.before.before.before.before.before.before.before.before.args in
-    c.is-misplaced.ensures ∙ ap (λ (v : Bool). (one_of number_markers a.name.now && (one_of number_markers (name_of (node_at a.source.now a.tape.now a.i).text) && not v))) (ap (among (start_at a.tape.now a.i)) c.before.before.before.before.before.before.before.before.before.requires.3 ∙ attached-is (anchor_at a.source.now a.tape.now a.rec.anchor a.i) (forest a.source.now a.tape.now a.i a.to) _)
+    c.is-misplaced.ensures ∙ ap (λ (v : Bool). (one_of number_markers a.name.now && (one_of number_markers (name_of (node_at a.source.now a.tape.now a.i).text) && not v))) (ap (among (start_at a.tape.now a.i)) c.before.before.before.before.before.before.before.before.before.requires.3 ∙ attached-is (anchor_of a.source.now a.tape.now a.rec.anchor a.i) (forest a.source.now a.tape.now a.i a.to) _)
 
 left-1 : (c : tie.After-push-for-node) → Due c.before.before.before.before.before.before.before.before.before.before.before 1 c.push-for-node.new.1.1.1.1.1.1.0 c.push-for-node.result
 left-1 c =

@@ -9,8 +9,7 @@ use Rattle.table.specs.Entries.{entry_of_info}
 use Rattle.cursor.proofs.Runs.{run-below, run-spanned}
 use Rattle.findings.specs.Finding.{Finding}
 use Rattle.definition.specs.Checks.{Check, given}
-use Rattle.definition.specs.Carried.{anchor_at}
-use Rattle.state.specs.Inner.{context_of, starts_for}
+use Rattle.state.specs.Inner.{context_of, anchor_of, starts_for}
 use Rattle.state.specs.declared.State.{State}
 use Rattle.marker_checks.proofs.Children.{children}
 use Rattle.marker_checks.proofs.Whole.{id_part, place_part, content_part, row_part, attribute_part, room-id, room-place, room-content, room_row, room-attributes, wrote-all, own_room, marked}
@@ -89,7 +88,7 @@ place-findings-requires c κs =
     let p = c.before.before.before.before.before.before.before.before.before.before.before.before.before.before.before.requires in
     let w₁ = c.before.before.before.id-findings in
     let s = c.before.before.before.before.before in
-    (p.1, p.2, p.3, p.4 ∙ ap (λ (j : ℕ). starts_for (anchor_at a.source.now a.tape.now j a.i) (forest a.source.now a.tape.now a.i a.to)) (sym (ap (λ (q : State). q.anchor) c.before.before.before.before.before.before.after-id.ensures)), room-place (ids s) (placed s) (content s) (row s) (attributes s) a.list.now c.before.before.before.before.before.counts.result (room s) w₁.new.1.1.1.1.1.1.0 w₁.result w₁.ensures)
+    (p.1, p.2, p.3, p.4 ∙ ap (λ (j : ℕ). starts_for (anchor_of a.source.now a.tape.now j a.i) (forest a.source.now a.tape.now a.i a.to)) (sym (ap (λ (q : State). q.anchor) c.before.before.before.before.before.before.after-id.ensures)), room-place (ids s) (placed s) (content s) (row s) (attributes s) a.list.now c.before.before.before.before.before.counts.result (room s) w₁.new.1.1.1.1.1.1.0 w₁.result w₁.ensures)
 
 content-findings-requires : tie.Need-content-findings-requires
 content-findings-requires c κs =

@@ -8,7 +8,7 @@ use borrow.Author.Rules.{rules}
 use lib.ListN.{length}
 use Rattle.reader_spec.specs.Answer.{nodes_read}
 use Rattle.reader_spec.specs.InnerWriting.{will_hold}
-use Rattle.second_pass.proofs.Whole.{Going, Turn, nodes-few, root-fits, going_start, whole_is, few_open, fair-here, size_fits, turned, last-ready, all-written}
+use Rattle.second_pass.proofs.Whole.{Going, Turn, nodes-few, root-fits, going_start, whole_is, few-open, fair-here, size_fits, turned, last-ready, all-written}
 use Rattle.second_pass.proofs.write_nodes.Statement.{statement}
 use Rattle.second_pass.proofs.write_nodes.Tie as tie
 
@@ -102,7 +102,7 @@ depth-after-requires c κs =
     let l = c.before.before.before.before.before.before.before.before.before in
     let s = start l in
     let i = l.loop in
-    few_open _ s.args.table.now s.args.s.now i.t i.w i.at i.depth s.pre.2.legible i.invariant.1
+    few-open _ s.args.table.now s.args.s.now i.t i.w i.at i.depth s.pre.2.legible i.invariant.1
 
 loop-less : tie.Need-loop-smaller invariant-loop decreases-loop
 loop-less c = let h = turn c.before.before.before.before.before.before in omega (arith, h.inside, h.some)

@@ -6,8 +6,7 @@ use Rattle.tape.specs.Forest.{forest}
 use Rattle.table.specs.Entries.{entry_of_info}
 use Rattle.cursor.specs.Inner.{Run}
 use Rattle.attachment.specs.Attached.{starts_of}
-use Rattle.definition.specs.Carried.{anchor_at}
-use Rattle.state.specs.Inner.{context_of, starts_for, counts_of}
+use Rattle.state.specs.Inner.{context_of, anchor_of, starts_for, counts_of}
 use Rattle.walk.specs.Inner.{Ready, Visitable, walk_at, visit_findings, below}
 use Rattle.findings.specs.Inner.{Room}
 use Rattle.marker_checks.specs.InnerVisit.{own_at}
@@ -110,6 +109,6 @@ module _ {M : Type 1} {𝓤 : Ura M} (𝓛 : Logic 𝓤) (𝓣 : Tables 𝓤 �
       first ! $ keep ! (span 4 45 (0 ∷ 49 ∷ 1 ∷ 2 ∷ 3 ∷ 50 ∷ 51 ∷ 52 ∷ [])) $ ends ! ρ refl tt tt refl (rec₀, (seen₀, (opens₀, (list₀, tt)))) (refl, (refl, (refl, tt))) (visited-skipped (visit-with (context_of context₀) (entry_of_info m₀) list₀ req.0 req.1 req.3) _ s-can-skip-marker.1 (is_true z-can-skip-marker.0 h-can-skip-marker)) refl)
       (λ h-can-skip-marker. skip-then ! $
       move ! (3 ∷ []) $ opens-ref ! tt (of_struct State-T.the_type State-T.TheLaws.the_laws State-T.TheLaws.the_plain) rec-at rec₀ (λ open-2. assigns ! (of_opd ! (load ! (from ! (hop ! (look ! 18 refl) (stop !))) (look_raw ! 0 refl))) (from ! (stop !)) (init ! 22 refl ((LL.lawful State-T.the_type State-L.the_laws 𝓛).typed rec₀ _ open-2).0) $ shuts-ref ! tt (of_struct State-T.the_type State-T.TheLaws.the_laws State-T.TheLaws.the_plain) rec-at rec₀ rec₀ open-2 $
-      reslices ! 20 30 31 refl refl refl tt refl refl refl (tt, (tt, (record { fits = list-room.0 }, tt))) $ move ! (1 ∷ 2 ∷ 3 ∷ 52 ∷ []) $ let req-visit-marker : (m₀.name_start + m₀.name_len ≤ length table₀) × (Run source₀ tape₀ i₀ to₀) × (i₀ < to₀) × (is_open (kind_at tape₀ i₀) ≡ true) × (starts_of numbers₀ ≡ starts_for (anchor_at source₀ tape₀ rec₀.anchor i₀) (forest source₀ tape₀ i₀ to₀)) × Room (counts_of rec₀) (own_at table₀ source₀ tape₀ (context_of context₀) (anchor_at source₀ tape₀ rec₀.anchor i₀) (entry_of_info m₀) i₀ to₀ rec₀) = (req.2, visit-run (visit-with (context_of context₀) (entry_of_info m₀) list₀ req.0 req.1 req.3), req.1.more, req.1.opened, req.1.attached, own_room (visit-with (context_of context₀) (entry_of_info m₀) list₀ req.0 req.1 req.3)) in calls-into 𝓛 𝓣 visit-marker-C.terms ((table_at, table₀), (m₀, ((source-at, source₀), ((tape-at, tape₀), (i₀, (to₀, (context₀, (numbers₀, (rec₀, ((list_at, list₀), tt)))))))))) ! (m₀-is, ((refl, i₀-is), ((refl, to₀-is), (context₀-is, (numbers₀-is, (open-2, tt)))))) req-visit-marker known-visit-marker (and_then ! (cell ! 4 refl) (and_then ! (cell ! 12 refl) (and_then ! (cell ! 7 refl) (and_then ! (cell ! 8 refl) (and_then ! (cell ! 9 refl) (and_then ! (cell ! 10 refl) (and_then ! (cell ! 13 refl) (and_then ! (cell ! 14 refl) (and_then ! (cell ! 19 refl) (and_then ! (cell ! 29 refl) (no_more !))))))))))) 23 (λ _. refl) refl (λ z-visit-marker s-visit-marker.
+      reslices ! 20 30 31 refl refl refl tt refl refl refl (tt, (tt, (record { fits = list-room.0 }, tt))) $ move ! (1 ∷ 2 ∷ 3 ∷ 52 ∷ []) $ let req-visit-marker : (m₀.name_start + m₀.name_len ≤ length table₀) × (Run source₀ tape₀ i₀ to₀) × (i₀ < to₀) × (is_open (kind_at tape₀ i₀) ≡ true) × (starts_of numbers₀ ≡ starts_for (anchor_of source₀ tape₀ rec₀.anchor i₀) (forest source₀ tape₀ i₀ to₀)) × Room (counts_of rec₀) (own_at table₀ source₀ tape₀ (context_of context₀) (anchor_of source₀ tape₀ rec₀.anchor i₀) (entry_of_info m₀) i₀ to₀ rec₀) = (req.2, visit-run (visit-with (context_of context₀) (entry_of_info m₀) list₀ req.0 req.1 req.3), req.1.more, req.1.opened, req.1.attached, own_room (visit-with (context_of context₀) (entry_of_info m₀) list₀ req.0 req.1 req.3)) in calls-into 𝓛 𝓣 visit-marker-C.terms ((table_at, table₀), (m₀, ((source-at, source₀), ((tape-at, tape₀), (i₀, (to₀, (context₀, (numbers₀, (rec₀, ((list_at, list₀), tt)))))))))) ! (m₀-is, ((refl, i₀-is), ((refl, to₀-is), (context₀-is, (numbers₀-is, (open-2, tt)))))) req-visit-marker known-visit-marker (and_then ! (cell ! 4 refl) (and_then ! (cell ! 12 refl) (and_then ! (cell ! 7 refl) (and_then ! (cell ! 8 refl) (and_then ! (cell ! 9 refl) (and_then ! (cell ! 10 refl) (and_then ! (cell ! 13 refl) (and_then ! (cell ! 14 refl) (and_then ! (cell ! 19 refl) (and_then ! (cell ! 29 refl) (no_more !))))))))))) 23 (λ _. refl) refl (λ z-visit-marker s-visit-marker.
       reslices ! 20 33 34 refl refl refl tt refl refl refl (tt, (tt, (record { fits = opens-room.0 }, tt))) $ reslices ! 21 35 36 refl refl refl tt refl refl refl (tt, (tt, (record { fits = list-room.0 }, tt))) $ move ! (1 ∷ 2 ∷ 52 ∷ 3 ∷ []) $ let req-milestone : Steppable (entry_of_info m₀) source₀ tape₀ i₀ opens₀ z-visit-marker.0 = steppable (visit-with (context_of context₀) (entry_of_info m₀) list₀ req.0 req.1 req.3) _ _ s-visit-marker.1.1 in calls-into 𝓛 𝓣 milestone-C.terms (m₀, ((source-at, source₀), ((tape-at, tape₀), (i₀, ((Opens-at, opens₀), (z-visit-marker.0, ((list_at, z-visit-marker.1.0), tt))))))) ! (m₀-is, ((refl, i₀-is), (s-visit-marker.0, tt))) req-milestone known-milestone (and_then ! (cell ! 13 refl) (and_then ! (cell ! 8 refl) (and_then ! (cell ! 9 refl) (and_then ! (cell ! 10 refl) (and_then ! (cell ! 32 refl) (and_then ! (cell ! 21 refl) (and_then ! (cell ! 34 refl) (no_more !)))))))) 25 (λ _. refl) refl (λ z-milestone s-milestone.
       forget ! 24 refl $ forget ! 30 refl $ forget ! 31 refl $ forget ! 32 refl $ forget ! 33 refl $ forget ! 34 refl $ forget ! 35 refl $ forget ! 36 refl $ forget ! 37 refl $ say ! (φ-after-paired (rec₀, (z-milestone.0, (z-milestone.1.0, (z-milestone.1.1.0, tt))))) (open-2, (s-milestone.0, (s-milestone.1.0, ((s-milestone.1.1.0 ∙ s-visit-marker.1.0), (refl, enters (visit-with (context_of context₀) (entry_of_info m₀) list₀ req.0 req.1 req.3) _ _ s-visit-marker.1.1 _ _ _ s-milestone.1.0 s-milestone.1.1.1))))) $ keep ! (0 ∷ span 7 45 (5 ∷ 52 ∷ 1 ∷ 2 ∷ 6 ∷ 53 ∷ 3 ∷ 4 ∷ [])) $ from-after-paired l0 l1 l2 l3 l4 l5 l6 l7 l8 l9 l10 l11 l12 l13 l14 l15 l16 l17 l18 l19 l20 l21 l22 l23 l24 l25 l26 l27 l28 l29 l30 l31 l32 l33 l34 l35 l36 l37 l38 l39 l40 l41 l42 l43 (rec₀, (z-milestone.0, (z-milestone.1.0, (z-milestone.1.1.0, tt))))))))))

@@ -5,8 +5,7 @@ use Rattle.tape.specs.Nodes.{count}
 use Rattle.tape.specs.Forest.{forest, Nested, Accepted}
 use Rattle.table.specs.Entries.{entry_of_info}
 use Rattle.attachment.specs.Attached.{starts_of}
-use Rattle.definition.specs.Carried.{anchor_at}
-use Rattle.state.specs.Inner.{context_of, starts_for, counts_of}
+use Rattle.state.specs.Inner.{context_of, anchor_of, starts_for, counts_of}
 use Rattle.walk.specs.Inner.{Ready, Visitable, Anchored, walk_at, visit_findings, Passable, below}
 use Rattle.table.specs.Inner.{Indexed}
 use Rattle.findings.specs.Inner.{Room}
@@ -60,7 +59,7 @@ module _ {M : Type 1} {𝓤 : Ura M} (𝓛 : Logic 𝓤) (𝓣 : Tables 𝓤 �
   ρ = rule-of walk-C.terms ((table_at, table₀), ((index_at, index₀), (entries₀, ((source-at, source₀), ((tape-at, tape₀), (from₀, (to₀, (depth₀, (context₀, ((rec-at, rec₀), ((seen_at, seen₀), ((Opens-at, opens₀), ((list_at, list₀), tt)))))))))))))
 
   abbrev φ-after-numbers : (Attached × Unit {0}) → Type 0
-  φ-after-numbers x-after-numbers = (Is Attached-T.the_row x-after-numbers.0 (LL.val Attached-T.the_type Attached-L.the_laws x-after-numbers.0 ∷ [])) × ((starts_of x-after-numbers.0 ≡ starts_for (anchor_at source₀ tape₀ rec₀.anchor from₀) (forest source₀ tape₀ from₀ to₀)))
+  φ-after-numbers x-after-numbers = (Is Attached-T.the_row x-after-numbers.0 (LL.val Attached-T.the_type Attached-L.the_laws x-after-numbers.0 ∷ [])) × ((starts_of x-after-numbers.0 ≡ starts_for (anchor_of source₀ tape₀ rec₀.anchor from₀) (forest source₀ tape₀ from₀ to₀)))
 
   from-after-numbers : (l0 l1 l2 l3 l4 l5 l6 l7 l8 l9 l10 l11 l12 l13 l14 l15 l16 l17 l18 l19 l20 l21 l22 l23 l24 l25 l26 l27 l28 l29 l30 l31 l32 l33 l34 : ℕ) (x-after-numbers : Attached × Unit {0}) → Sq 𝓛 (Stands 𝓤 H (φ-after-numbers x-after-numbers) (env-of (code.walk-function).locals (l0 ∷ l1 ∷ l2 ∷ l3 ∷ l4 ∷ l5 ∷ l6 ∷ l7 ∷ l8 ∷ l9 ∷ l10 ∷ l11 ∷ l12 ∷ l13 ∷ l14 ∷ l15 ∷ l16 ∷ l17 ∷ l18 ∷ l19 ∷ l20 ∷ l21 ∷ l22 ∷ l23 ∷ l24 ∷ l25 ∷ l26 ∷ l27 ∷ l28 ∷ l29 ∷ l30 ∷ l31 ∷ l32 ∷ l33 ∷ l34 ∷ [])) (empty ∷ full (fat_val table_at) ∷ full (fat_val index_at) ∷ full (vint w64 entries₀) ∷ full (fat_val source-at) ∷ full (fat_val tape-at) ∷ full (vint w64 from₀) ∷ full (vint w64 to₀) ∷ full (vint w64 depth₀) ∷ full (LL.val Context-T.the_type Context-L.the_laws context₀) ∷ full (ptr_val rec-at) ∷ full (fat_val seen_at) ∷ full (fat_val Opens-at) ∷ full (fat_val list_at) ∷ full (LL.val Attached-T.the_type Attached-L.the_laws x-after-numbers.0) ∷ []) (‵ (HasShr u8 table_at table₀) ∷ ‵ (HasShr u64 index_at index₀) ∷ ‵ (HasShr u8 source-at source₀) ∷ ‵ (HasShr u8 tape-at tape₀) ∷ ‵ (HasRef State-T.the_row rec-at rec₀) ∷ ‵ (HasMut u32 seen_at seen₀) ∷ ‵ (HasMut OpenStart-T.the_row Opens-at opens₀) ∷ ‵ (HasMut u64 list_at list₀) ∷ [])) (runs 𝓣.C 𝓣.Λ (env-of (code.walk-function).locals (l0 ∷ l1 ∷ l2 ∷ l3 ∷ l4 ∷ l5 ∷ l6 ∷ l7 ∷ l8 ∷ l9 ∷ l10 ∷ l11 ∷ l12 ∷ l13 ∷ l14 ∷ l15 ∷ l16 ∷ l17 ∷ l18 ∷ l19 ∷ l20 ∷ l21 ∷ l22 ∷ l23 ∷ l24 ∷ l25 ∷ l26 ∷ l27 ∷ l28 ∷ l29 ∷ l30 ∷ l31 ∷ l32 ∷ l33 ∷ l34 ∷ [])) mir_of.t-3 (at_ret (env-of (code.walk-function).locals (l0 ∷ l1 ∷ l2 ∷ l3 ∷ l4 ∷ l5 ∷ l6 ∷ l7 ∷ l8 ∷ l9 ∷ l10 ∷ l11 ∷ l12 ∷ l13 ∷ l14 ∷ l15 ∷ l16 ∷ l17 ∷ l18 ∷ l19 ∷ l20 ∷ l21 ∷ l22 ∷ l23 ∷ l24 ∷ l25 ∷ l26 ∷ l27 ∷ l28 ∷ l29 ∷ l30 ∷ l31 ∷ l32 ∷ l33 ∷ l34 ∷ [])) (Leaves 𝓛 ρ)))
   unfolding after_turn
