@@ -61,6 +61,7 @@ high-code row l (Memᴰ.tail (Memᴰ.tail (Memᴰ.tail (Memᴰ.tail (Memᴰ.tail
 high-code row l (Memᴰ.tail (Memᴰ.tail (Memᴰ.tail (Memᴰ.tail (Memᴰ.tail (Memᴰ.tail (Memᴰ.head e))))))) b h = let f = two_bytes (range 0xF0 0xF0) (range 0x90 0xBF) (range 0x80 0xBF ∷ range 0x80 0xBF ∷ []) row l e b in rw e (omega arith)
 high-code row l (Memᴰ.tail (Memᴰ.tail (Memᴰ.tail (Memᴰ.tail (Memᴰ.tail (Memᴰ.tail (Memᴰ.tail (Memᴰ.head e)))))))) b h = let f = two_bytes (range 0xF1 0xF3) (range 0x80 0xBF) (range 0x80 0xBF ∷ range 0x80 0xBF ∷ []) row l e b in rw e (omega arith)
 high-code row l (Memᴰ.tail (Memᴰ.tail (Memᴰ.tail (Memᴰ.tail (Memᴰ.tail (Memᴰ.tail (Memᴰ.tail (Memᴰ.tail (Memᴰ.head e))))))))) b h = let f = two_bytes (range 0xF4 0xF4) (range 0x80 0x8F) (range 0x80 0xBF ∷ range 0x80 0xBF ∷ []) row l e b in rw e (omega arith)
+high-code row l (mathlib.Core.List.Memᴰ.tail (mathlib.Core.List.Memᴰ.tail (mathlib.Core.List.Memᴰ.tail (mathlib.Core.List.Memᴰ.tail (mathlib.Core.List.Memᴰ.tail (mathlib.Core.List.Memᴰ.tail (mathlib.Core.List.Memᴰ.tail (mathlib.Core.List.Memᴰ.tail (mathlib.Core.List.Memᴰ.tail x38))))))))) b h = elim x38 [ ]
 
 -- the code point that starts at a byte above ASCII lies above it too
 pub high-decode : (b : ℕ) (s : List ℕ) → 0x80 ≤ b → 0x80 ≤ (decode (b ∷ s)).cp

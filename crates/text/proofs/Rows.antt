@@ -88,6 +88,7 @@ pub every_in : (p : List Range → Bool) (rows : List (List Range)) (row : List 
 unfolding every
 every_in p (q ∷ rows) row e (mathlib.Core.List.Memᴰ.head h) = rw h (and_left (p q) (every p rows) e)
 every_in p (q ∷ rows) row e (mathlib.Core.List.Memᴰ.tail m) = every_in p rows row (and_right (p q) (every p rows) e) m
+every_in p [] row e x'' = elim x'' [ ]
 
 -- a row has from 1 to 4 bytes
 sized : List Range → Bool
@@ -174,6 +175,7 @@ above_in h ((q ∷ qs) ∷ rows) r rs e (mathlib.Core.List.Memᴰ.head p) =
     let same : q ≡ r = cc in
     rw (← same) (ltb-true h q.lo (and_left (ltb h q.lo) (above h rows) e))
 above_in h ((q ∷ qs) ∷ rows) r rs e (mathlib.Core.List.Memᴰ.tail m) = above_in h rows r rs (and_right (ltb h q.lo) (above h rows) e) m
+above_in h [] r rs e m = elim m [ ]
 
 row-among : (rows : List (List Range)) (r : Range) (rs : List Range) (b : ℕ) (s : List ℕ) → rising rows ≡ true → Memᴰ (r ∷ rs) rows → r.lo ≤ b → b ≤ r.hi → width_by rows (b ∷ s) ≡ pick (begins rs s) (suc (length rs)) 0
 unfolding rising
@@ -186,6 +188,7 @@ row-among ((q ∷ qs) ∷ rows) r rs b s e (mathlib.Core.List.Memᴰ.head p) g h
 row-among ((q ∷ qs) ∷ rows) r rs b s e (mathlib.Core.List.Memᴰ.tail m) g h =
     let high : q.hi < r.lo = above_in q.hi rows r rs (and_left (above q.hi rows) (rising rows) e) m in
     over q qs rows b s (omega arith) ∙ row-among rows r rs b s (and_right (above q.hi rows) (rising rows) e) m g h
+row-among [] r rs b s e m g h = elim m [ ]
 
 -- a first byte in the first range of a row
 pub row_in : (r : Range) (rs : List Range) (b : ℕ) (s : List ℕ) → Memᴰ (r ∷ rs) table3_7 → r.lo ≤ b → b ≤ r.hi → width_of (b ∷ s) ≡ pick (begins rs s) (suc (length rs)) 0
