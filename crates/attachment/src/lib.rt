@@ -11,7 +11,7 @@ ghost use Rattle.text.specs.Bytes.{equal};
 
 // The start offsets of the numbers that are attached to one chapter or verse, at most one of each sort.
 // How many they are, and the first and the second; fields pass in registers, where an enum would be copied.
-#[derive(Drop)]
+#[derive(Clone, Copy)]
 pub struct Attached {
     pub count: u32,
     pub first: u32,

@@ -22,7 +22,7 @@ use findings::{
 use table::DefaultAttribute;
 
 // The Attribute node that is checked, and the node that owns it.
-#[derive(Drop)]
+#[derive(Clone, Copy)]
 pub struct Where {
     pub start: u64,
     pub len: u64,

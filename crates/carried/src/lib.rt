@@ -18,7 +18,7 @@ use table::{Info, MarkerInfo};
 
 // What the walk knows between two sections: the node where the next begins, the flags, what is expected next, how many entries of the
 // two working lists count, and the node of the last anchor or 0. Whatever a caller writes here has a defined outcome.
-#[derive(Drop)]
+#[derive(Clone, Copy)]
 pub struct CarriedRecord {
     pub place: u64,
     pub has_id: bool,

@@ -17,28 +17,28 @@ ghost use Rattle.table.specs.Inner.{Indexed};
 use table::{Info, MarkerId};
 
 // Where a node's text stands in the source.
-#[derive(Drop)]
+#[derive(Clone, Copy)]
 pub struct NodeSpan {
     pub start: u32,
     pub len: u32,
 }
 
 // Where the name stands in a node's text.
-#[derive(Drop)]
+#[derive(Clone, Copy)]
 pub struct NameSpan {
     pub start: usize,
     pub end: usize,
 }
 
 // A node's number, if there is such a node.
-#[derive(Drop)]
+#[derive(Clone, Copy)]
 pub enum Place {
     At(usize),
     Nowhere,
 }
 
 // The number of a chapter or a verse.
-#[derive(Drop)]
+#[derive(Clone, Copy)]
 pub enum NumberRead {
     Is(u32),
     NoNumber,

@@ -94,14 +94,14 @@ pub const EMPTY_VALUE_FORM: u64 = 2;
 
 pub const UNTERMINATED_FORM: u64 = 3;
 
-#[derive(Drop)]
+#[derive(Clone, Copy)]
 pub enum Severity {
     Error,
     Warning,
     Info,
 }
 
-#[derive(Drop)]
+#[derive(Clone, Copy)]
 pub struct Finding {
     pub severity: Severity,
     pub code: u64,
@@ -114,7 +114,7 @@ pub struct Finding {
 }
 
 // How many findings of each severity there are, with room in the list or without.
-#[derive(Drop)]
+#[derive(Clone, Copy)]
 pub struct Counts {
     pub errors: u64,
     pub warnings: u64,

@@ -17,7 +17,7 @@ ghost use Rattle.first_pass.specs.Counted.{count_of, one, run_count, nodes_in, b
 use pieces::Piece;
 
 // Number 16 or 17 with its place, or how many nodes there are, the root among them.
-#[derive(Drop)]
+#[derive(Clone, Copy)]
 pub enum Surveyed {
     Nodes(usize),
     Fault(u64, usize),

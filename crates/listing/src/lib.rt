@@ -232,7 +232,7 @@ fn place(start: u64, len: usize) -> usize
 }
 
 // What a finding's lines show beside its message.
-#[derive(Drop)]
+#[derive(Clone, Copy)]
 struct Listed {
     severity: u64,
     code: u64,
@@ -300,7 +300,7 @@ fn put_whole<'a>(
 }
 
 // A piece of a listing: where its bytes end, and which finding is next.
-#[derive(Drop)]
+#[derive(Clone, Copy)]
 pub struct Piece {
     pub end: usize,
     pub next: usize,

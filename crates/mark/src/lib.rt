@@ -15,7 +15,7 @@ const MOST_COUNTED: u64 = 1000000;
 const FULL_MARK: u64 = 10000;
 
 // Loss and mark, in hundredths; or number 14 or 15 with its place.
-#[derive(Drop)]
+#[derive(Clone, Copy)]
 pub enum MarkAnswer {
     Marked(u64, u64),
     Refused(u64, u64),

@@ -36,7 +36,7 @@ use table::Info;
 use validate::InputCheck;
 
 // Of a finding's words, those that its text depends on.
-#[derive(Drop)]
+#[derive(Clone, Copy)]
 pub struct MessageRequest {
     pub code: u64,
     pub form: u64,
@@ -46,14 +46,14 @@ pub struct MessageRequest {
 }
 
 // The length of the written text, or the number that turns it back with its place.
-#[derive(Drop)]
+#[derive(Clone, Copy)]
 pub enum MessageAnswer {
     Written(usize),
     Refused(u64, u64),
 }
 
 // How many texts are written and how many bytes they take; where not all are, what turns the next one back.
-#[derive(Drop)]
+#[derive(Clone, Copy)]
 pub enum MessagesAnswer {
     All(usize, usize),
     Stopped(usize, usize, u64, u64),

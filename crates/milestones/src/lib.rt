@@ -20,7 +20,7 @@ use state::State;
 use table::MarkerInfo;
 
 // An entry among the open starts, if there is one.
-#[derive(Drop)]
+#[derive(Clone, Copy)]
 pub enum Found {
     At(usize),
     Nothing,
@@ -28,7 +28,7 @@ pub enum Found {
 
 // What a marker is among milestones: a start as an entry of the open starts, an end with the place of its base in the source, or
 // neither.
-#[derive(Drop)]
+#[derive(Clone, Copy)]
 pub enum Step {
     Start(OpenStart),
     End(usize, usize),
@@ -36,7 +36,7 @@ pub enum Step {
 }
 
 // How many open starts there are after a marker, or that it is an end without an open start.
-#[derive(Drop)]
+#[derive(Clone, Copy)]
 pub enum Paired {
     Now(usize),
     Alone,

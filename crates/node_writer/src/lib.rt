@@ -12,7 +12,7 @@ ghost use Rattle.node_writer.specs.Written.{text_limit, Ready, written, closed, 
 
 // Where the writing is: the next node's number, and the innermost open node, 0 for none. Until its close comes, the link of
 // an open node is the number of the open node around it, so that no list of open nodes is needed.
-#[derive(Drop)]
+#[derive(Clone, Copy)]
 pub struct Written {
     pub next: usize,
     pub top: usize,

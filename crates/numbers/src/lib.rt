@@ -20,20 +20,20 @@ use table::Info;
 use text::Parsed;
 
 // The letter of a verse position, `9a`, or none.
-#[derive(Drop)]
+#[derive(Clone, Copy)]
 pub enum Suffix {
     Letter(u8),
     None,
 }
 
-#[derive(Drop)]
+#[derive(Clone, Copy)]
 pub struct VersePart {
     pub num: u64,
     pub suffix: Suffix,
 }
 
 // What is read of a part of a label: a position, or nothing, for want of a digit or since the number is over 4,294,967,295.
-#[derive(Drop)]
+#[derive(Clone, Copy)]
 pub enum PartRead {
     Is(VersePart),
     NoDigits,
@@ -41,7 +41,7 @@ pub enum PartRead {
 }
 
 // Where a label stands in its node's text, and whether that is in the marker's name.
-#[derive(Drop)]
+#[derive(Clone, Copy)]
 pub struct LabelSpan {
     pub start: usize,
     pub end: usize,
@@ -49,7 +49,7 @@ pub struct LabelSpan {
 }
 
 // What the check of the labels finds: nothing, or the node whose name is cut inside a character (number 9).
-#[derive(Drop)]
+#[derive(Clone, Copy)]
 pub enum LabelCheck {
     Good,
     Split(usize),

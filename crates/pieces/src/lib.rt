@@ -19,7 +19,7 @@ use table::{Category, Info, Lookup, MarkerId, MarkerInfo};
 
 // What a text has at a place, with the numbers of bytes that belong to it. Names, links and a run's first `|` are left out, since the
 // pass that only counts needs few of them.
-#[derive(Drop)]
+#[derive(Clone, Copy)]
 pub enum Piece {
     // Up to a backslash or the end.
     Run(usize),

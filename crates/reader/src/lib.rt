@@ -19,7 +19,7 @@ use table::Layout;
 use validate::InputCheck;
 
 // How many nodes the text has, the root among them; or the number that turns it back, with its place.
-#[derive(Drop)]
+#[derive(Clone, Copy)]
 pub enum ReadAnswer {
     Read(u64),
     Refused(u64, u64),

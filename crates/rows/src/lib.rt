@@ -15,13 +15,13 @@ use findings::{Counts, Finding, Severity};
 use text::Parsed;
 
 // The first and the last column of a cell.
-#[derive(Drop)]
+#[derive(Clone, Copy)]
 pub struct Columns {
     pub start: u32,
     pub end: u32,
 }
 
-#[derive(Drop)]
+#[derive(Clone, Copy)]
 pub enum Cell {
     At(Columns),
     NoColumns,

@@ -15,7 +15,7 @@ use numbers::VersePart;
 use table::MarkerInfo;
 
 // The running record: flags, what is expected next, how long the two working lists are, the verses visited, the node of the latest anchor or 0, and the counts of findings.
-#[derive(Drop)]
+#[derive(Clone, Copy)]
 pub struct State {
     pub has_id: bool,
     pub has_chapter: bool,
@@ -34,7 +34,7 @@ pub struct State {
 }
 
 // Whether a run of siblings is in a body paragraph, in a note, in a character marker.
-#[derive(Drop)]
+#[derive(Clone, Copy)]
 pub struct Context {
     pub in_body_para: bool,
     pub in_note: bool,

@@ -15,14 +15,14 @@ ghost use Rattle.table.specs.Inner.{lines_of, triples, name_length, value_of, st
 ghost use Rattle.text.specs.Bytes.{one_of, starting};
 
 // A place in the marker table.
-#[derive(Drop)]
+#[derive(Clone, Copy)]
 pub struct MarkerId(pub u16);
 
 // A place in the book list.
-#[derive(Drop)]
+#[derive(Clone, Copy)]
 pub struct BookId(pub u8);
 
-#[derive(Drop)]
+#[derive(Clone, Copy)]
 pub enum Category {
     Identification,
     Chapter,
@@ -34,7 +34,7 @@ pub enum Category {
     Other,
 }
 
-#[derive(Drop)]
+#[derive(Clone, Copy)]
 pub enum TextRole {
     Content,
     Excluded,
@@ -65,7 +65,7 @@ pub const EXCLUDED: u64 = 1;
 pub const BOUNDARY: u64 = 2;
 
 // An entry: where its name stands in the table's text, and its other two lines.
-#[derive(Drop)]
+#[derive(Clone, Copy)]
 pub struct MarkerInfo {
     pub name_start: usize,
     pub name_len: usize,
@@ -74,33 +74,33 @@ pub struct MarkerInfo {
 }
 
 // What a marker number stands for.
-#[derive(Drop)]
+#[derive(Clone, Copy)]
 pub enum Info {
     Known(MarkerInfo),
     Missing,
 }
 
 // What the check of the layout finds: the number of entries, or the place of number 1.
-#[derive(Drop)]
+#[derive(Clone, Copy)]
 pub enum Layout {
     Good(usize),
     Bad(usize),
 }
 
-#[derive(Drop)]
+#[derive(Clone, Copy)]
 pub enum Lookup {
     Found(MarkerId),
     Unknown,
 }
 
-#[derive(Drop)]
+#[derive(Clone, Copy)]
 pub enum Book {
     Known(BookId),
     Unknown,
 }
 
 // The attribute that a marker's bare value sets.
-#[derive(Drop)]
+#[derive(Clone, Copy)]
 pub enum DefaultAttribute {
     Lemma,
     Gloss,
@@ -113,21 +113,21 @@ pub enum DefaultAttribute {
 }
 
 // The position of a word in a list, or a name's length, if there is one.
-#[derive(Drop)]
+#[derive(Clone, Copy)]
 enum Value {
     Known(usize),
     Unknown,
 }
 
 // A good line's value and the place of the next line.
-#[derive(Drop)]
+#[derive(Clone, Copy)]
 enum Step {
     Good(usize, usize),
     Bad,
 }
 
 // An entry in one word and the place of the next marker, or the place of a bad line.
-#[derive(Drop)]
+#[derive(Clone, Copy)]
 enum Marker {
     Good(u64, usize),
     Bad(usize),

@@ -9,7 +9,7 @@ ghost use Rattle.findings.specs.Written.{whole_records};
 ghost use Rattle.findings.specs.Codes.{code_count};
 
 // The counts are written, or the list is turned back: the number and the place.
-#[derive(Drop)]
+#[derive(Clone, Copy)]
 pub enum Tallied {
     Counted,
     Refused(u64, u64),

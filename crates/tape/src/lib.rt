@@ -9,7 +9,7 @@ ghost use Rattle.tape.specs.Nodes.{count, half, word, kind_at, marker_at, start_
 ghost use Rattle.tape.specs.Reading.{bad_span, opens_to, tape_check_refusal, tape_refusal};
 ghost use Rattle.tape.specs.Inner.{Sized, Known, Opened, Closed, Held, Stepped, span_after, root_by, lastly, from_one, Clear, Paired};
 
-#[derive(Drop)]
+#[derive(Clone, Copy)]
 pub enum NodeKind {
     Root,
     MarkerOpen,
@@ -42,7 +42,7 @@ pub const BLOCK_END: u8 = 7;
 pub const ERROR: u8 = 8;
 
 // What the check of a tape finds: nothing, or the number that it is turned back with (4 to 8 in this order) and its place.
-#[derive(Drop)]
+#[derive(Clone, Copy)]
 pub enum TapeCheck {
     Good,
     Length,
@@ -54,7 +54,7 @@ pub enum TapeCheck {
 
 // How far the reading of opens and closes has come: how many opens are not yet closed, and the number and the place that it
 // stopped at, or 0.
-#[derive(Drop)]
+#[derive(Clone, Copy)]
 pub struct Reading {
     pub depth: usize,
     pub number: u64,

@@ -13,21 +13,21 @@ ghost use Rattle.text.specs.Number.{digit, digits, parsed, number_of};
 ghost use Rattle.text.specs.Inner.{Ascii, eight_bytes, four_bytes, High, Ended, Led, Passed, blank_is};
 
 // Whether a text is well formed, or where its first ill-formed sequence starts.
-#[derive(Drop)]
+#[derive(Clone, Copy)]
 pub enum Utf8 {
     WellFormed,
     IllFormed(usize),
 }
 
 // A code point, and how many bytes it takes.
-#[derive(Drop)]
+#[derive(Clone, Copy)]
 pub struct Decoded {
     pub cp: u32,
     pub width: usize,
 }
 
 // What reading a number finds.
-#[derive(Drop)]
+#[derive(Clone, Copy)]
 pub enum Parsed {
     Value(u32),
     NotANumber,

@@ -17,7 +17,7 @@ const FILL_WORD: u64 = 7;
 const UNWRITTEN: u64 = 9;
 
 // What differs first of a finding.
-#[derive(Drop)]
+#[derive(Clone, Copy)]
 enum Field {
     None,
     Missing,
@@ -32,7 +32,7 @@ enum Field {
 }
 
 // What differs first of a document.
-#[derive(Drop)]
+#[derive(Clone, Copy)]
 enum Outcome {
     Same,
     // The file ends inside its record.
@@ -51,7 +51,7 @@ enum Outcome {
 }
 
 // A document's record: where it ends, how many of its findings agree, and the outcome.
-#[derive(Drop)]
+#[derive(Clone, Copy)]
 struct Compared {
     end: usize,
     findings: u64,

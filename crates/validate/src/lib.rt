@@ -94,7 +94,7 @@ fn run(
     ended(rec, list, left)
 }
 
-#[derive(Drop)]
+#[derive(Clone, Copy)]
 pub struct Report {
     pub total: u64,
     pub written: u64,
@@ -105,7 +105,7 @@ pub struct Report {
 }
 
 // A checked document, one whose list is cut, or the number that turns it back with its place.
-#[derive(Drop)]
+#[derive(Clone, Copy)]
 pub enum Answer {
     Checked(Report),
     Cut(Report),
@@ -113,7 +113,7 @@ pub enum Answer {
 }
 
 // Whether one of the numbers turns it back; if none does, how many entries the table has.
-#[derive(Drop)]
+#[derive(Clone, Copy)]
 pub enum InputCheck {
     Accepted(usize),
     Refused(u64, u64),

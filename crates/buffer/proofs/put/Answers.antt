@@ -1,0 +1,15 @@
+-- `buffer::put` meets its contract.
+use Prim.Native.Nat.{◌-◌}
+use native.Mathlib.Omega.{arith}
+use mathlib.Core.Path.{refl}
+use Rattle.buffer.proofs.Writing.{writing_start, writing-on, writing-done}
+use Rattle.buffer.proofs.put.Goals as goal
+
+pub loop-i-init : goal.loop-i-init
+loop-i-init c = writing_start _ _ _
+
+pub loop-i-preserved : goal.loop-i-preserved
+loop-i-preserved c = writing-on _ _ _ _ _ c.loop-i.invariant (omega arith) (omega arith)
+
+pub returns : goal.returns
+returns c = record { list = writing-done _ _ _ _ _ c.loop-i.invariant (omega arith); end = refl }
