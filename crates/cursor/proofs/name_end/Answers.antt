@@ -52,41 +52,30 @@ loop-i-preserved-then-three_at c =
     let e = sym c.holds.ensures ∙ c.if-holds.true in
     (three-inside, l.invariant.1 ∙ three-past c.args.s.now l.i (omega arith) e three-wide)
 
--- the turn that a character is decoded in
-abbrev top : goal.After-decode_at-d → goal.At-loop-i
-top d = d.before.before.before.before.before.before.before.before
-
-abbrev source : goal.After-decode_at-d → List ℕ
-source d = (top d).before.before.args.s.now
-
 pub returns-then-ends_name : goal.returns-then-ends_name
 returns-then-ends_name c =
-    let d = c in
-    let l = (top d).loop in
+    let l = c.loop-i in
     let x = c.ends_name in
-    let y = tested-by ends_name (source d) l.i d.decode_at-d.result x.result _ d.decode_at-d.ensures x.ensures c.if-ends_name.true in
-    record { is = sym (l.inv.1 ∙ stops ends_name (source d) l.i (omega arith) y); inside = omega arith }
+    let y = tested-by ends_name c.args.s.now l.i c.decode_at-d.result x.result _ c.decode_at-d.ensures x.ensures c.if-ends_name.true in
+    record { is = sym (l.invariant.1 ∙ stops ends_name c.args.s.now l.i (omega arith) y); inside = omega arith }
 
 pub overflow_add-i-in-loop-i : goal.overflow_add-i-in-loop-i
 overflow_add-i-in-loop-i c =
-    let wide : c.decode_at-d.result.width ≡ (decode (drop (top d).loop.i (source d))).width = ap (λ (x : Decoded). x.width) c.decode_at-d.ensures in
-    let d = c in
-    omega (arith, in-text (source d) (top d).loop.i (omega arith), wide)
+    let wide : c.decode_at-d.result.width ≡ (decode (drop c.loop-i.i c.args.s.now)).width = ap (λ (x : Decoded). x.width) c.decode_at-d.ensures in
+    omega (arith, in-text c.args.s.now c.loop-i.i (omega arith), wide)
 
 pub loop-i-smaller : goal.loop-i-smaller
 loop-i-smaller c =
-    let wide : c.decode_at-d.result.width ≡ (decode (drop (top d).loop.i (source d))).width = ap (λ (x : Decoded). x.width) c.decode_at-d.ensures in
-    let d = c in
-    omega (arith, in-text (source d) (top d).loop.i (omega arith), wide)
+    let wide : c.decode_at-d.result.width ≡ (decode (drop c.loop-i.i c.args.s.now)).width = ap (λ (x : Decoded). x.width) c.decode_at-d.ensures in
+    omega (arith, in-text c.args.s.now c.loop-i.i (omega arith), wide)
 
 pub loop-i-preserved : goal.loop-i-preserved
 loop-i-preserved c =
-    let wide : c.decode_at-d.result.width ≡ (decode (drop (top d).loop.i (source d))).width = ap (λ (x : Decoded). x.width) c.decode_at-d.ensures in
-    let d = c in
-    let l = (top d).loop in
+    let wide : c.decode_at-d.result.width ≡ (decode (drop c.loop-i.i c.args.s.now)).width = ap (λ (x : Decoded). x.width) c.decode_at-d.ensures in
+    let l = c.loop-i in
     let x = c.ends_name in
-    let y = tested-by ends_name (source d) l.i d.decode_at-d.result x.result _ d.decode_at-d.ensures x.ensures c.if-ends_name.false in
-    (omega (arith, in-text (source d) l.i (omega arith), wide), l.inv.1 ∙ past ends_name (source d) l.i d.decode_at-d.result.width (omega arith) wide)
+    let y = tested-by ends_name c.args.s.now l.i c.decode_at-d.result x.result _ c.decode_at-d.ensures x.ensures c.if-ends_name.false in
+    (omega (arith, in-text c.args.s.now l.i (omega arith), wide), l.invariant.1 ∙ past ends_name c.args.s.now l.i c.decode_at-d.result.width (omega arith) wide y)
 
 pub returns : goal.returns
 returns c =

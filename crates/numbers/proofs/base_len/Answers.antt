@@ -1,0 +1,6 @@
+-- `numbers::base_len` meets its contract.
+use Rattle.numbers.proofs.Labels.{base-own}
+use Rattle.numbers.proofs.base_len.Goals as goal
+
+pub returns-in-Missing : goal.returns-in-Missing
+returns-in-Missing c = base-own c.args.info c.args.name.now c.in-Missing.is

@@ -1,0 +1,52 @@
+-- `numbers::label_check` meets its contract. The invariant: a search from here on finds what the whole search does.
+use Prim.Native.Nat.{◌-◌}
+use mathlib.Core.Path.{refl, sym, ap, ◌∙◌}
+use native.Mathlib.Omega.{arith}
+use Rattle.refusals.specs.Refusal.{split_label}
+use Rattle.refusals.proofs.First.{first-end}
+use Rattle.numbers.specs.Label.{bad_label, label_check_refusal}
+use Rattle.numbers.proofs.Gathered.{first-there, first-later}
+use Rattle.numbers.proofs.Labels.{all-labels}
+use Rattle.numbers.proofs.label_check.Goals as goal
+
+pub loop-i-init : goal.loop-i-init
+loop-i-init c =
+    let s = c in
+    let a = s.args in
+    (s.requires.0, s.requires.1, refl, omega arith, all-labels a.table.now a.source.now a.tape.now)
+
+pub split_in-requires : goal.split_in-requires
+split_in-requires c =
+    let v = c.loop-i.invariant in
+    let e = c.least-next.ensures in
+    (v.0, v.1, v.3, omega arith, omega arith, omega arith)
+
+pub returns-in-Split : goal.returns-in-Split
+returns-in-Split c =
+    let a = c.args in
+    let l = c.loop-i in
+    let m = c.least-next in
+    let e = m.ensures in
+    let x = c.split_in in
+    sym (first-there (bad_label a.table.now a.source.now a.tape.now) l.i m.result _ (omega arith) (omega arith) (label_check_refusal x.result) c.in-Split.at (ap label_check_refusal c.in-Split.is) x.ensures) ∙ l.invariant.4
+
+pub loop-i-smaller : goal.loop-i-smaller
+loop-i-smaller c =
+    let e = c.least-next.ensures in
+    omega arith
+
+pub loop-i-preserved : goal.loop-i-preserved
+loop-i-preserved c =
+    let a = c.args in
+    let l = c.loop-i in
+    let v = l.invariant in
+    let m = c.least-next in
+    let e = m.ensures in
+    let x = c.split_in in
+    (v.0, v.1, v.2, omega (arith, v.3), sym (first-later (bad_label a.table.now a.source.now a.tape.now) l.i m.result _ (omega arith) (omega arith) (label_check_refusal x.result) (ap label_check_refusal c.in_default.is) x.ensures) ∙ v.4)
+
+pub returns : goal.returns
+returns c =
+    let a = c.args in
+    let l = c.loop-i in
+    sym (first-end split_label (bad_label a.table.now a.source.now a.tape.now) _ l.i (omega arith)) ∙ l.invariant.4
