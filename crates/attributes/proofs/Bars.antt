@@ -5,11 +5,8 @@ use mathlib.Core.Bool.{true, false, false≢true}
 use mathlib.Core.List.{List, [], ◌∷◌}
 use Prim.Native.Nat.{ℕ, ◌-◌}
 use lib.ListN.{length, take, drop}
-use denote.Enum.Declared.{tag_of}
-use types.Run.{OneOf, miss}
 use Rattle.table.specs.declared.DefaultAttribute.{DefaultAttribute}
 use Rattle.table.specs.declared.DefaultAttribute.TheVariants.{Lemma, Gloss, Href, Loc, LinkHref, Id, Who, NoDefault}
-use Rattle.table.specs.contracts.DefaultAttribute as declared
 use Rattle.text.proofs.Cuts.{rest_all}
 use Rattle.table.specs.Names.{attribute_name}
 use Rattle.attributes.specs.Attributes.{after_bar, has_default}
@@ -24,7 +21,7 @@ bar-no [] h = refl
 bar-no (b ∷ s) h = rw h
 
 -- the arm of all variants but the last
-pub some-default : (d : DefaultAttribute) → OneOf (0 ∷ 1 ∷ 2 ∷ 3 ∷ 4 ∷ 5 ∷ 6 ∷ []) (tag_of declared.the_type d) → true ≡ has_default (attribute_name d)
+pub some-default : (d : DefaultAttribute) → (d ≡ NoDefault → ⊥) → true ≡ has_default (attribute_name d)
 some-default Lemma h = refl
 some-default Gloss h = refl
 some-default Href h = refl
@@ -32,4 +29,4 @@ some-default Loc h = refl
 some-default LinkHref h = refl
 some-default Id h = refl
 some-default Who h = refl
-some-default NoDefault h = absurd (miss (0 ∷ 1 ∷ 2 ∷ 3 ∷ 4 ∷ 5 ∷ 6 ∷ []) 7 tt h)
+some-default NoDefault h = absurd (h refl)

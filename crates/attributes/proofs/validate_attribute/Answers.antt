@@ -14,23 +14,20 @@ use Rattle.text.specs.Pick.{cut, pick}
 use Rattle.text.specs.Words.{trim}
 use Rattle.attributes.proofs.validate_attribute.Goals as goal
 
-abbrev Due : goal.Start → List Kind → Type 0
-Due c ks =
-    let a = c.args in
-    Owing a.w (at a.w (attribute_kinds (name_of a.marker.now) a.text.now)) a.list.now a.c ks a.list.now a.c
-
 pub push_error-requires : goal.push_error-requires
 push_error-requires c =
     let is_body : c.trim-body.result.now ≡ body c.args.text.now = c.trim-body.ensures ∙ ap (λ (s : List _). cut (trim s) s) c.after_bar.ensures in
-    let due_all : Due c (attribute_kinds (name_of c.args.marker.now) c.args.text.now) = let a = c.args in owing-start a.w (attribute_kinds (name_of a.marker.now) a.text.now) a.list.now a.c c.requires in
-    let due-none : Due c (empty_list ∷ []) = let a = c.args in owing-as (kinds-none (name_of a.marker.now) a.text.now c.trim-body.result.now is_body c.if-body-eq0.true) due_all in
+    let Due : List Kind → Type 0 = λ ks. let a = c.args in Owing a.w (at a.w (attribute_kinds (name_of a.marker.now) a.text.now)) a.list.now a.c ks a.list.now a.c in
+    let due_all : Due (attribute_kinds (name_of c.args.marker.now) c.args.text.now) = let a = c.args in owing-start a.w (attribute_kinds (name_of a.marker.now) a.text.now) a.list.now a.c c.requires in
+    let due-none : Due (empty_list ∷ []) = let a = c.args in owing-as (kinds-none (name_of a.marker.now) a.text.now c.trim-body.result.now is_body c.if-body-eq0.true) due_all in
     owing-room empty_list true [] (finding_of_kind c.args.w empty_list 0) refl due-none
 
 pub returns-then-body-eq0 : goal.returns-then-body-eq0
 returns-then-body-eq0 c =
     let is_body : c.trim-body.result.now ≡ body c.args.text.now = c.trim-body.ensures ∙ ap (λ (s : List _). cut (trim s) s) c.after_bar.ensures in
-    let due_all : Due c (attribute_kinds (name_of c.args.marker.now) c.args.text.now) = let a = c.args in owing-start a.w (attribute_kinds (name_of a.marker.now) a.text.now) a.list.now a.c c.requires in
-    let due-none : Due c (empty_list ∷ []) = let a = c.args in owing-as (kinds-none (name_of a.marker.now) a.text.now c.trim-body.result.now is_body c.if-body-eq0.true) due_all in
+    let Due : List Kind → Type 0 = λ ks. let a = c.args in Owing a.w (at a.w (attribute_kinds (name_of a.marker.now) a.text.now)) a.list.now a.c ks a.list.now a.c in
+    let due_all : Due (attribute_kinds (name_of c.args.marker.now) c.args.text.now) = let a = c.args in owing-start a.w (attribute_kinds (name_of a.marker.now) a.text.now) a.list.now a.c c.requires in
+    let due-none : Due (empty_list ∷ []) = let a = c.args in owing-as (kinds-none (name_of a.marker.now) a.text.now c.trim-body.result.now is_body c.if-body-eq0.true) due_all in
     owing-end (owing-wrote empty_list true [] (finding_of_kind c.args.w empty_list 0) refl due-none c.push_error.ensures)
 
 pub scan_list-requires : goal.scan_list-requires
@@ -48,13 +45,15 @@ returns-then-find_byte-body c =
 pub push_if-requires : goal.push_if-requires
 push_if-requires c =
     let is_body : c.trim-body.result.now ≡ body c.args.text.now = c.trim-body.ensures ∙ ap (λ (s : List _). cut (trim s) s) c.after_bar.ensures in
-    let due_all : Due c (attribute_kinds (name_of c.args.marker.now) c.args.text.now) = let a = c.args in owing-start a.w (attribute_kinds (name_of a.marker.now) a.text.now) a.list.now a.c c.requires in
-    let due-bare : Due c (pick (not c.has_default-known.result) (no_default ∷ []) [] ++ []) = let a = c.args in let e = c in owing-as (kinds-bare (name_of a.marker.now) a.text.now e.trim-body.result.now is_body e.if-body-eq0.false e.find_byte.result e.find_byte.ensures c.has_default-known.result (c.has_default-known.ensures ∙ ap has_default (c.default_attribute.ensures ∙ ap default_name c.name_of.ensures)) e.if-find_byte-body.false) due_all in
+    let Due : List Kind → Type 0 = λ ks. let a = c.args in Owing a.w (at a.w (attribute_kinds (name_of a.marker.now) a.text.now)) a.list.now a.c ks a.list.now a.c in
+    let due_all : Due (attribute_kinds (name_of c.args.marker.now) c.args.text.now) = let a = c.args in owing-start a.w (attribute_kinds (name_of a.marker.now) a.text.now) a.list.now a.c c.requires in
+    let due-bare : Due (pick (not c.has_default-known.result) (no_default ∷ []) [] ++ []) = let a = c.args in let e = c in owing-as (kinds-bare (name_of a.marker.now) a.text.now e.trim-body.result.now is_body e.if-body-eq0.false e.find_byte.result e.find_byte.ensures c.has_default-known.result (c.has_default-known.ensures ∙ ap has_default (c.default_attribute.ensures ∙ ap default_name c.name_of.ensures)) e.if-find_byte-body.false) due_all in
     owing-room no_default (not c.has_default-known.result) [] (finding_of c.finding-bare.result) c.finding-bare.ensures due-bare
 
 pub returns : goal.returns
 returns c =
     let is_body : c.trim-body.result.now ≡ body c.args.text.now = c.trim-body.ensures ∙ ap (λ (s : List _). cut (trim s) s) c.after_bar.ensures in
-    let due_all : Due c (attribute_kinds (name_of c.args.marker.now) c.args.text.now) = let a = c.args in owing-start a.w (attribute_kinds (name_of a.marker.now) a.text.now) a.list.now a.c c.requires in
-    let due-bare : Due c (pick (not c.has_default-known.result) (no_default ∷ []) [] ++ []) = let a = c.args in let e = c in owing-as (kinds-bare (name_of a.marker.now) a.text.now e.trim-body.result.now is_body e.if-body-eq0.false e.find_byte.result e.find_byte.ensures c.has_default-known.result (c.has_default-known.ensures ∙ ap has_default (c.default_attribute.ensures ∙ ap default_name c.name_of.ensures)) e.if-find_byte-body.false) due_all in
+    let Due : List Kind → Type 0 = λ ks. let a = c.args in Owing a.w (at a.w (attribute_kinds (name_of a.marker.now) a.text.now)) a.list.now a.c ks a.list.now a.c in
+    let due_all : Due (attribute_kinds (name_of c.args.marker.now) c.args.text.now) = let a = c.args in owing-start a.w (attribute_kinds (name_of a.marker.now) a.text.now) a.list.now a.c c.requires in
+    let due-bare : Due (pick (not c.has_default-known.result) (no_default ∷ []) [] ++ []) = let a = c.args in let e = c in owing-as (kinds-bare (name_of a.marker.now) a.text.now e.trim-body.result.now is_body e.if-body-eq0.false e.find_byte.result e.find_byte.ensures c.has_default-known.result (c.has_default-known.ensures ∙ ap has_default (c.default_attribute.ensures ∙ ap default_name c.name_of.ensures)) e.if-find_byte-body.false) due_all in
     owing-end (owing-wrote no_default (not c.has_default-known.result) [] (finding_of c.finding-bare.result) c.finding-bare.ensures due-bare c.push_if.ensures)

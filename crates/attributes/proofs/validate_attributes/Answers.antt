@@ -34,11 +34,7 @@ pub loop-i-preserved : goal.loop-i-preserved
 loop-i-preserved c =
     let a = c.args in
     let l = c.loop-i in
-    let p = c.attribute_at-r in
-    rw c.past_node-i.ensures (along-next a.owner a.source.now a.tape.now l.invariant (omega arith) p.auto.1.1.1.1.0 p.ensures)
-
-pub shape_of-list : goal.shape_of-list
-shape_of-list c = c.loop-i.invariant.same
+    rw c.past_node-i.ensures (along-next a.owner a.source.now a.tape.now l.invariant (omega arith) c.attribute_at-r.auto.list c.attribute_at-r.ensures)
 
 pub returns : goal.returns
 returns c =

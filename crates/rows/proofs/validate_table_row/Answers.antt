@@ -37,8 +37,7 @@ out_of_order-f-requires c = let g = c.loop-i.invariant.0 in run-below _ _ _ _ g.
 pub push_if-c-requires : goal.push_if-c-requires
 push_if-c-requires c =
     let g = c.loop-i.invariant.0 in
-    let k = c.in-At.given in
-    fits g c.loop-i-test.true (range_of k.0.0) (sym c.cell_at.ensures ∙ ap cell_of k.1) (finding_of c.out_of_order-f.result) c.out_of_order-f.ensures
+    fits g c.loop-i-test.true (range_of c.in-At.columns) (sym c.cell_at.ensures ∙ ap cell_of c.in-At.is) (finding_of c.out_of_order-f.result) c.out_of_order-f.ensures
 
 pub loop-i-smaller : goal.loop-i-smaller
 loop-i-smaller c =
@@ -49,12 +48,7 @@ loop-i-smaller c =
 pub loop-i-preserved : goal.loop-i-preserved
 loop-i-preserved c =
     let v = c.loop-i.invariant in
-    let k = c.in-At.given in
-    let w = c.push_if-c in
-    (passed v.0 c.loop-i-test.true (range_of k.0.0) (sym c.cell_at.ensures ∙ ap cell_of k.1) (finding_of c.out_of_order-f.result) c.out_of_order-f.ensures c.past_node-next.result w.new.0 w.result c.past_node-next.ensures w.ensures, w.auto.0 ∙ v.1)
-
-pub shape_of-list : goal.shape_of-list
-shape_of-list c = c.loop-i.invariant.1
+    (passed v.0 c.loop-i-test.true (range_of c.in-At.columns) (sym c.cell_at.ensures ∙ ap cell_of c.in-At.is) (finding_of c.out_of_order-f.result) c.out_of_order-f.ensures c.past_node-next.result c.push_if-c.new.list c.push_if-c.result c.past_node-next.ensures c.push_if-c.ensures, c.push_if-c.auto.list ∙ v.1)
 
 pub returns : goal.returns
 returns c = done c.loop-i.invariant.0 c.loop-i-test.false
