@@ -9,30 +9,27 @@ use Rattle.pieces.proofs.named_piece.Goals as goal
 
 pub returns-in_default : goal.returns-in_default
 returns-in_default c =
-    let start : tie.Start = c in
-    let looked : found_of c.lookup.result ≡ looked_up start.args.table.now (name_of start.args.l.now) = let name = c.name_start-start in let s = start in c.lookup.ensures ∙ ap (looked_up s.args.table.now) (name-cut s.args.l.now (record { start = name.result; end = s.args.end }) (record { begins = name.ensures.is; stops = s.pre.2.is; inside = s.pre.2.inside })) in
+    let looked : found_of c.lookup.result ≡ looked_up c.args.table.now (name_of c.args.l.now) = let name = c.name_start-start in let s = c in c.lookup.ensures ∙ ap (looked_up s.args.table.now) (name-cut s.args.l.now (record { start = name.result; end = s.args.end }) (record { begins = name.ensures.is; stops = s.requires.2.is; inside = s.requires.2.inside })) in
     let k = c in
-    let a = start.args in
+    let a = k.args in
     marker-unknown a.table.now a.l.now k.lookup.result looked c.in_default.is
 
 pub returns-in_default-info : goal.returns-in_default-info
 returns-in_default-info c =
-    let start : tie.Start = c in
-    let looked : found_of c.lookup.result ≡ looked_up start.args.table.now (name_of start.args.l.now) = let name = c.name_start-start in let s = start in c.lookup.ensures ∙ ap (looked_up s.args.table.now) (name-cut s.args.l.now (record { start = name.result; end = s.args.end }) (record { begins = name.ensures.is; stops = s.pre.2.is; inside = s.pre.2.inside })) in
+    let looked : found_of c.lookup.result ≡ looked_up c.args.table.now (name_of c.args.l.now) = let name = c.name_start-start in let s = c in c.lookup.ensures ∙ ap (looked_up s.args.table.now) (name-cut s.args.l.now (record { start = name.result; end = s.args.end }) (record { begins = name.ensures.is; stops = s.requires.2.is; inside = s.requires.2.inside })) in
     let f = c in
     let d = f in
     let k = d in
-    let a = start.args in
+    let a = k.args in
     marker-missing a.table.now a.l.now k.lookup.result looked d.in-Found.id d.in-Found.is (sym f.info.ensures ∙ ap info_of c.in_default-info.is)
 
 pub returns : goal.returns
 returns c =
-    let start : tie.Start = c in
-    let looked : found_of c.lookup.result ≡ looked_up start.args.table.now (name_of start.args.l.now) = let name = c.name_start-start in let s = start in c.lookup.ensures ∙ ap (looked_up s.args.table.now) (name-cut s.args.l.now (record { start = name.result; end = s.args.end }) (record { begins = name.ensures.is; stops = s.pre.2.is; inside = s.pre.2.inside })) in
+    let looked : found_of c.lookup.result ≡ looked_up c.args.table.now (name_of c.args.l.now) = let name = c.name_start-start in let s = c in c.lookup.ensures ∙ ap (looked_up s.args.table.now) (name-cut s.args.l.now (record { start = name.result; end = s.args.end }) (record { begins = name.ensures.is; stops = s.requires.2.is; inside = s.requires.2.inside })) in
     let i = c in
     let f = i in
     let d = f in
     let k = d in
-    let a = start.args in
+    let a = k.args in
     let entry = sym f.info.ensures ∙ ap info_of i.in-Known.is in
     marker-known a.table.now a.l.now k.lookup.result looked d.in-Found.id d.in-Found.is i.in-Known.info entry _ (c.known_piece.ensures a.table.now entry)

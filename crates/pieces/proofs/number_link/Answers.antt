@@ -27,18 +27,15 @@ link_of r = number_or0 (read_of r)
 
 pub returns-in-Is : goal.returns-in-Is
 returns-in-Is c =
-    let start : tie.Start = c in
-    let linked : link_of c.parse_verse_part.result ≡ link_by (nth (entries start.args.table.now) start.args.m) start.args.l.now = let k = c in let f = k.info in link-read _ start.args.l.now _ f.result k.in-Known.info c.parse_verse_part.result f.ensures k.in-Known.is c.number_label.ensures c.parse_verse_part.ensures in
+    let linked : link_of c.parse_verse_part.result ≡ link_by (nth (entries c.args.table.now) c.args.m) c.args.l.now = let k = c in let f = k.info in link-read _ c.args.l.now _ f.result k.in-Known.info c.parse_verse_part.result f.ensures k.in-Known.is c.number_label.ensures c.parse_verse_part.ensures in
     sym (ap link_of c.in-Is.is) ∙ linked
 
 pub returns-in-NoDigits : goal.returns-in-NoDigits
 returns-in-NoDigits c =
-    let start : tie.Start = c in
-    let linked : link_of c.parse_verse_part.result ≡ link_by (nth (entries start.args.table.now) start.args.m) start.args.l.now = let k = c in let f = k.info in link-read _ start.args.l.now _ f.result k.in-Known.info c.parse_verse_part.result f.ensures k.in-Known.is c.number_label.ensures c.parse_verse_part.ensures in
+    let linked : link_of c.parse_verse_part.result ≡ link_by (nth (entries c.args.table.now) c.args.m) c.args.l.now = let k = c in let f = k.info in link-read _ c.args.l.now _ f.result k.in-Known.info c.parse_verse_part.result f.ensures k.in-Known.is c.number_label.ensures c.parse_verse_part.ensures in
     sym (ap link_of c.in-NoDigits.is) ∙ linked
 
 pub returns-in-TooLarge : goal.returns-in-TooLarge
 returns-in-TooLarge c =
-    let start : tie.Start = c in
-    let linked : link_of c.parse_verse_part.result ≡ link_by (nth (entries start.args.table.now) start.args.m) start.args.l.now = let k = c in let f = k.info in link-read _ start.args.l.now _ f.result k.in-Known.info c.parse_verse_part.result f.ensures k.in-Known.is c.number_label.ensures c.parse_verse_part.ensures in
+    let linked : link_of c.parse_verse_part.result ≡ link_by (nth (entries c.args.table.now) c.args.m) c.args.l.now = let k = c in let f = k.info in link-read _ c.args.l.now _ f.result k.in-Known.info c.parse_verse_part.result f.ensures k.in-Known.is c.number_label.ensures c.parse_verse_part.ensures in
     sym (ap link_of c.in-TooLarge.is) ∙ linked

@@ -33,40 +33,36 @@ loop-i-preserved-then-holds c =
 
 pub returns-then-is_blank : goal.returns-then-is_blank
 returns-then-is_blank c =
-    let top : tie.At-loop invariant-loop decreases-loop = c in
-    let source : List ℕ = top.before.before.args.l.now in
+    let source : List ℕ = c.args.l.now in
     let d = c in
-    let l = top.loop in
+    let l = d.loop-i in
     let x = c.is_blank in
     let y = tested-by blank source l.i d.decode_at-d.result x.result _ d.decode_at-d.ensures x.ensures c.if-is_blank.true in
-    record { is = sym (l.inv.1 ∙ stops-blank source l.i (omega arith) y); inside = omega arith }
+    record { is = sym (l.invariant.1 ∙ stops-blank source l.i (omega arith) y); inside = omega arith }
 
 pub overflow_add-i-in-loop-i : goal.overflow_add-i-in-loop-i
 overflow_add-i-in-loop-i c =
-    let top : tie.At-loop invariant-loop decreases-loop = c in
-    let source : List ℕ = top.before.before.args.l.now in
-    let wide : c.decode_at-d.result.width ≡ (decode (drop top.loop.i source)).width = ap (λ (x : Decoded). x.width) c.decode_at-d.ensures in
+    let source : List ℕ = c.args.l.now in
+    let wide : c.decode_at-d.result.width ≡ (decode (drop c.loop-i.i source)).width = ap (λ (x : Decoded). x.width) c.decode_at-d.ensures in
     let d = c in
-    omega (arith, in-text source top.loop.i (omega arith), wide)
+    omega (arith, in-text source d.loop-i.i (omega arith), wide)
 
 pub loop-i-smaller : goal.loop-i-smaller
 loop-i-smaller c =
-    let top : tie.At-loop invariant-loop decreases-loop = c in
-    let source : List ℕ = top.before.before.args.l.now in
-    let wide : c.decode_at-d.result.width ≡ (decode (drop top.loop.i source)).width = ap (λ (x : Decoded). x.width) c.decode_at-d.ensures in
+    let source : List ℕ = c.args.l.now in
+    let wide : c.decode_at-d.result.width ≡ (decode (drop c.loop-i.i source)).width = ap (λ (x : Decoded). x.width) c.decode_at-d.ensures in
     let d = c in
-    omega (arith, in-text source top.loop.i (omega arith), wide)
+    omega (arith, in-text source d.loop-i.i (omega arith), wide)
 
 pub loop-i-preserved : goal.loop-i-preserved
 loop-i-preserved c =
-    let top : tie.At-loop invariant-loop decreases-loop = c in
-    let source : List ℕ = top.before.before.args.l.now in
-    let wide : c.decode_at-d.result.width ≡ (decode (drop top.loop.i source)).width = ap (λ (x : Decoded). x.width) c.decode_at-d.ensures in
+    let source : List ℕ = c.args.l.now in
+    let wide : c.decode_at-d.result.width ≡ (decode (drop c.loop-i.i source)).width = ap (λ (x : Decoded). x.width) c.decode_at-d.ensures in
     let d = c in
-    let l = top.loop in
+    let l = d.loop-i in
     let x = c.is_blank in
     let y = tested-by blank source l.i d.decode_at-d.result x.result _ d.decode_at-d.ensures x.ensures c.if-is_blank.false in
-    (omega (arith, in-text source l.i (omega arith), wide), l.inv.1 ∙ past_word source l.i (omega arith) d.if-b-eq92.false d.decode_at-d.result.width wide y)
+    (omega (arith, in-text source l.i (omega arith), wide), l.invariant.1 ∙ past_word source l.i (omega arith) d.if-b-eq92.false d.decode_at-d.result.width wide y)
 
 pub returns : goal.returns
 returns c =
