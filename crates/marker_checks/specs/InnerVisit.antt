@@ -33,12 +33,12 @@ abbrev pub children_at : List ℕ → List ℕ → ℕ → Forest
 children_at s t i = forest s t (i + 1) (link_at t i)
 
 -- of node i in a run that ends at `to`; the working lists may be any
-abbrev pub field_own : List ℕ → List ℕ → List ℕ → state.WalkContext → Option Anchor → Entry → ℕ → ℕ → State → List Finding
-field_own table s t o a e i to r =
+abbrev pub own_at : List ℕ → List ℕ → List ℕ → state.WalkContext → Option Anchor → Entry → ℕ → ℕ → State → List Finding
+own_at table s t o a e i to r =
     own_findings (cut e.name table) (after_id (is_id table e) (state_of s t [] [] r) (children_at s t i)) o a (state_of s t [] [] r) e (node_at s t i) (children_at s t i) (forest s t i to)
 
 pub record MarkerVisited (table s t : List ℕ) (o : state.WalkContext) (a : Option Anchor) (e : Entry) (i to : ℕ) (l : List ℕ) (r : State) (l' : List ℕ) (q : State) : Type 0 where
-  pub wrote : Wrote (field_own table s t o a e i to r) l (counts_of r) l' (counts_of q)
+  pub wrote : Wrote (own_at table s t o a e i to r) l (counts_of r) l' (counts_of q)
   pub state : (seen : List ℕ) (opens : List OpenStart) → state_of s t seen opens q ≡ after_id (is_id table e) (state_of s t seen opens r) (children_at s t i)
   pub same : SameLists r q
   pub verse : q.expected_verse ≡ r.expected_verse

@@ -1,0 +1,33 @@
+-- `chapter_verse::verse_after` meets its contract.
+use mathlib.Core.Path.{refl, sym, ap, ◌∙◌}
+use Rattle.numbers.specs.Verse.{position_of, read_of}
+use Rattle.chapter_verse.proofs.Positions.{stays, last-readable, next-of-last}
+use Rattle.chapter_verse.proofs.verse_after.Goals as goal
+
+pub end_read-requires : goal.end_read-requires
+end_read-requires c =
+    let s = c in
+    sym (ap read_of c.in-Is.is) ∙ s.requires.1
+
+pub next_expected-requires : goal.next_expected-requires
+next_expected-requires c =
+    let s = c in
+    let e = c.end_read in
+    last-readable s.args.label.now s.args.read s.requires.1 c.in-Is.start c.in-Is.is e.result e.ensures c.end_or.result c.end_or.ensures
+
+pub returns-in-Is : goal.returns-in-Is
+returns-in-Is c =
+    let q = c in
+    let s = q in
+    let e = q.end_read in
+    next-of-last s.args.label.now s.args.read s.requires.1 q.in-Is.start q.in-Is.is e.result e.ensures q.end_or.result q.end_or.ensures c.next_expected.result (position_of s.args.v) c.next_expected.ensures
+
+pub returns-in-NoDigits : goal.returns-in-NoDigits
+returns-in-NoDigits c =
+    let s = c in
+    stays s.args.label.now s.args.read s.requires.1 s.args.v s.requires.0 (rw c.in-NoDigits.is refl)
+
+pub returns-in-TooLarge : goal.returns-in-TooLarge
+returns-in-TooLarge c =
+    let s = c in
+    stays s.args.label.now s.args.read s.requires.1 s.args.v s.requires.0 (rw c.in-TooLarge.is refl)
