@@ -8,7 +8,6 @@ use native.Mathlib.Omega.{arith}
 use lib.Dec.{eqb, ltb, leb}
 use lib.ListN.{length, set, drop, take}
 use denote.Enum.Declared.{tag_of}
-use types.Run.{OneOf, miss}
 use borrow.Author.Tests.{eq-eqb, ne_eqb}
 use Rattle.text.specs.Pick.{pick}
 use Rattle.text.specs.Bytes.{equal}
@@ -25,43 +24,43 @@ use Rattle.pieces.proofs.Places.{rest-is}
 use Rattle.first_pass.specs.Counted.{one, run_count, nodes_in, block_after, innermost_place, close_number, piece_number, place_kept, ReadyFor, InnermostClosed}
 
 -- the arms of all variants that have none of their own
-pub block_same : (p : Piece) (b : Bool) → OneOf (0 ∷ 1 ∷ 4 ∷ 5 ∷ 6 ∷ 7 ∷ []) (tag_of declared.the_type p) → b ≡ block_after p b
-block_same (found.Run n) b h = refl
-block_same (found.Close n) b h = refl
-block_same (found.Block m n) b h = absurd (miss (0 ∷ 1 ∷ 4 ∷ 5 ∷ 6 ∷ 7 ∷ []) 2 tt h)
-block_same (found.Chapter m n) b h = absurd (miss (0 ∷ 1 ∷ 4 ∷ 5 ∷ 6 ∷ 7 ∷ []) 3 tt h)
-block_same (found.Verse m n) b h = refl
-block_same (found.Inline m n) b h = refl
-block_same (found.Milestone m n x y) b h = refl
-block_same (found.Fault k) b h = refl
+pub block_same : (p : Piece) (b : Bool) → ((m n : ℕ) → p ≡ found.Block m n → ⊥) → ((m n : ℕ) → p ≡ found.Chapter m n → ⊥) → b ≡ block_after p b
+block_same (found.Run n) b h0 h1 = refl
+block_same (found.Close n) b h0 h1 = refl
+block_same (found.Block m n) b h0 h1 = absurd (h0 m n refl)
+block_same (found.Chapter m n) b h0 h1 = absurd (h1 m n refl)
+block_same (found.Verse m n) b h0 h1 = refl
+block_same (found.Inline m n) b h0 h1 = refl
+block_same (found.Milestone m n x y) b h0 h1 = refl
+block_same (found.Fault k) b h0 h1 = refl
 
-pub number-none : (s : List ℕ) (at : ℕ) (w : List ℕ) (d : ℕ) (p : Piece) → OneOf (0 ∷ 4 ∷ 5 ∷ 6 ∷ []) (tag_of declared.the_type p) → 0 ≡ piece_number s at w d p
-number-none s at w d (found.Run n) h = refl
-number-none s at w d (found.Close n) h = absurd (miss (0 ∷ 4 ∷ 5 ∷ 6 ∷ []) 1 tt h)
-number-none s at w d (found.Block m n) h = absurd (miss (0 ∷ 4 ∷ 5 ∷ 6 ∷ []) 2 tt h)
-number-none s at w d (found.Chapter m n) h = absurd (miss (0 ∷ 4 ∷ 5 ∷ 6 ∷ []) 3 tt h)
-number-none s at w d (found.Verse m n) h = refl
-number-none s at w d (found.Inline m n) h = refl
-number-none s at w d (found.Milestone m n x y) h = refl
-number-none s at w d (found.Fault k) h = absurd (miss (0 ∷ 4 ∷ 5 ∷ 6 ∷ []) 7 tt h)
+pub number-none : (s : List ℕ) (at : ℕ) (w : List ℕ) (d : ℕ) (p : Piece) → ((n : ℕ) → p ≡ found.Close n → ⊥) → ((m n : ℕ) → p ≡ found.Block m n → ⊥) → ((m n : ℕ) → p ≡ found.Chapter m n → ⊥) → ((k : ℕ) → p ≡ found.Fault k → ⊥) → 0 ≡ piece_number s at w d p
+number-none s at w d (found.Run n) h0 h1 h2 h3 = refl
+number-none s at w d (found.Close n) h0 h1 h2 h3 = absurd (h0 n refl)
+number-none s at w d (found.Block m n) h0 h1 h2 h3 = absurd (h1 m n refl)
+number-none s at w d (found.Chapter m n) h0 h1 h2 h3 = absurd (h2 m n refl)
+number-none s at w d (found.Verse m n) h0 h1 h2 h3 = refl
+number-none s at w d (found.Inline m n) h0 h1 h2 h3 = refl
+number-none s at w d (found.Milestone m n x y) h0 h1 h2 h3 = refl
+number-none s at w d (found.Fault k) h0 h1 h2 h3 = absurd (h3 k refl)
 
-pub nodes-one : (d : ℕ) (b : Bool) (l : List ℕ) (p : Piece) → OneOf (1 ∷ 4 ∷ 5 ∷ []) (tag_of declared.the_type p) → 1 ≡ nodes_in d b l p
-nodes-one d b l (found.Run n) h = absurd (miss (1 ∷ 4 ∷ 5 ∷ []) 0 tt h)
-nodes-one d b l (found.Close n) h = refl
-nodes-one d b l (found.Block m n) h = absurd (miss (1 ∷ 4 ∷ 5 ∷ []) 2 tt h)
-nodes-one d b l (found.Chapter m n) h = absurd (miss (1 ∷ 4 ∷ 5 ∷ []) 3 tt h)
-nodes-one d b l (found.Verse m n) h = refl
-nodes-one d b l (found.Inline m n) h = refl
-nodes-one d b l (found.Milestone m n x y) h = absurd (miss (1 ∷ 4 ∷ 5 ∷ []) 6 tt h)
-nodes-one d b l (found.Fault k) h = absurd (miss (1 ∷ 4 ∷ 5 ∷ []) 7 tt h)
+pub nodes-one : (d : ℕ) (b : Bool) (l : List ℕ) (p : Piece) → ((n : ℕ) → p ≡ found.Run n → ⊥) → ((m n : ℕ) → p ≡ found.Block m n → ⊥) → ((m n : ℕ) → p ≡ found.Chapter m n → ⊥) → ((m n x y : ℕ) → p ≡ found.Milestone m n x y → ⊥) → ((k : ℕ) → p ≡ found.Fault k → ⊥) → 1 ≡ nodes_in d b l p
+nodes-one d b l (found.Run n) h0 h1 h2 h3 h4 = absurd (h0 n refl)
+nodes-one d b l (found.Close n) h0 h1 h2 h3 h4 = refl
+nodes-one d b l (found.Block m n) h0 h1 h2 h3 h4 = absurd (h1 m n refl)
+nodes-one d b l (found.Chapter m n) h0 h1 h2 h3 h4 = absurd (h2 m n refl)
+nodes-one d b l (found.Verse m n) h0 h1 h2 h3 h4 = refl
+nodes-one d b l (found.Inline m n) h0 h1 h2 h3 h4 = refl
+nodes-one d b l (found.Milestone m n x y) h0 h1 h2 h3 h4 = absurd (h3 m n x y refl)
+nodes-one d b l (found.Fault k) h0 h1 h2 h3 h4 = absurd (h4 k refl)
 
-pub place_same : (w : List ℕ) (low d at : ℕ) (p : Piece) → OneOf (0 ∷ 1 ∷ 2 ∷ 3 ∷ 4 ∷ 6 ∷ 7 ∷ []) (tag_of declared.the_type p) → w ≡ place_kept w low d at p
+pub place_same : (w : List ℕ) (low d at : ℕ) (p : Piece) → ((m n : ℕ) → p ≡ found.Inline m n → ⊥) → w ≡ place_kept w low d at p
 place_same w low d at (found.Run n) h = refl
 place_same w low d at (found.Close n) h = refl
 place_same w low d at (found.Block m n) h = refl
 place_same w low d at (found.Chapter m n) h = refl
 place_same w low d at (found.Verse m n) h = refl
-place_same w low d at (found.Inline m n) h = absurd (miss (0 ∷ 1 ∷ 2 ∷ 3 ∷ 4 ∷ 6 ∷ 7 ∷ []) 5 tt h)
+place_same w low d at (found.Inline m n) h = absurd (h m n refl)
 place_same w low d at (found.Milestone m n x y) h = refl
 place_same w low d at (found.Fault k) h = refl
 
@@ -94,15 +93,15 @@ pub run_inside : (d : ℕ) (l : List ℕ) (x a b : ℕ) → (d ≡ 0 → ⊥) �
 run_inside d l x a b some e f g = rw (ne_eqb d 0 some, f, g, e)
 
 -- the window is ready for the pieces that ask nothing of it
-pub ready-other : (p : Piece) (d low : ℕ) → OneOf (0 ∷ 2 ∷ 3 ∷ 4 ∷ 6 ∷ 7 ∷ []) (tag_of declared.the_type p) → ReadyFor p d low
-ready-other (found.Run n) d low h = tt
-ready-other (found.Close n) d low h = absurd (miss (0 ∷ 2 ∷ 3 ∷ 4 ∷ 6 ∷ 7 ∷ []) 1 tt h)
-ready-other (found.Block m n) d low h = tt
-ready-other (found.Chapter m n) d low h = tt
-ready-other (found.Verse m n) d low h = tt
-ready-other (found.Inline m n) d low h = absurd (miss (0 ∷ 2 ∷ 3 ∷ 4 ∷ 6 ∷ 7 ∷ []) 5 tt h)
-ready-other (found.Milestone m n x y) d low h = tt
-ready-other (found.Fault k) d low h = tt
+pub ready-other : (p : Piece) (d low : ℕ) → ((n : ℕ) → p ≡ found.Close n → ⊥) → ((m n : ℕ) → p ≡ found.Inline m n → ⊥) → ReadyFor p d low
+ready-other (found.Run n) d low h0 h1 = tt
+ready-other (found.Close n) d low h0 h1 = absurd (h0 n refl)
+ready-other (found.Block m n) d low h0 h1 = tt
+ready-other (found.Chapter m n) d low h0 h1 = tt
+ready-other (found.Verse m n) d low h0 h1 = tt
+ready-other (found.Inline m n) d low h0 h1 = absurd (h1 m n refl)
+ready-other (found.Milestone m n x y) d low h0 h1 = tt
+ready-other (found.Fault k) d low h0 h1 = tt
 
 -- a close that has the name at the place that the window has for the innermost
 pub closed-here : (s : List ℕ) (at : ℕ) (w : List ℕ) (d low r o : ℕ) → o ≡ innermost_place w d → ((t : List ℕ) → is_inline (piece_at t (take (length s - o) (drop o s))) ≡ true → 0 < r → OwnClose t (take (length s - o) (drop o s)) (take (length s - at) (drop at s)) r) → low < d → 0 < r → InnermostClosed s at w d low r

@@ -5,11 +5,3 @@ pub mod Kept
 pub mod Whole
 pub mod Reading
 pub mod Pairing
-pub mod CallHasBase
-pub mod CallPush
-pub mod CallNearest
-pub mod CallRemove
-pub mod CallStepOf
-pub mod CallPair
-pub mod CallAfterPair
-pub mod CallMilestone

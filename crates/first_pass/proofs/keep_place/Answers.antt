@@ -16,4 +16,4 @@ returns-else-reaches c =
 pub returns-in_default : goal.returns-in_default
 returns-in_default c =
     let a = c.args in
-    place_same a.window.now a.low a.depth a.at a.p c.in_default.in_default-own.keys2
+    place_same a.window.now a.low a.depth a.at a.p c.in_default.not-Inline

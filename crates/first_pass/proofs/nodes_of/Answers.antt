@@ -28,4 +28,4 @@ pub returns-in-Milestone : goal.returns-in-Milestone
 returns-in-Milestone c = rw (c.in-Milestone.is, c.one_if-in-Milestone.ensures.0, c.one_if-in-Milestone-2.ensures.0)
 
 pub returns-in_default : goal.returns-in_default
-returns-in_default c = nodes-one _ _ _ c.args.p c.in_default.in_default-own.keys6
+returns-in_default c = nodes-one _ _ _ c.args.p c.in_default.not-Run c.in_default.not-Block c.in_default.not-Chapter c.in_default.not-Milestone c.in_default.not-Fault

@@ -20,4 +20,4 @@ returns-in-Chapter c = rw c.in-Chapter.is c.block_number-in-Chapter.ensures
 pub returns-in_default : goal.returns-in_default
 returns-in_default c =
     let a = c.args in
-    number-none a.s.now a.at a.window.now a.depth a.p c.in_default.in_default-own.keys5
+    number-none a.s.now a.at a.window.now a.depth a.p c.in_default.not-Close c.in_default.not-Block c.in_default.not-Chapter c.in_default.not-Fault

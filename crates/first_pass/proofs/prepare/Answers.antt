@@ -18,4 +18,4 @@ returns-else-depth-low c =
     (raised a.table.now a.s.now a.window.now a.at a.depth a.low q.5 (omega arith), rw c.in-Inline.is (omega arith))
 
 pub returns-in_default : goal.returns-in_default
-returns-in_default c = (c.requires.5, ready-other c.args.p _ _ c.in_default.in_default-own.keys3)
+returns-in_default c = (c.requires.5, ready-other c.args.p _ _ c.in_default.not-Close c.in_default.not-Inline)

@@ -50,8 +50,6 @@ loop-at-preserved-then-n-ne0 c =
 
 pub prepare-low-requires : goal.prepare-low-requires
 prepare-low-requires c =
-    let closed : let l = c.loop-at in InnermostClosed c.args.s.now l.at l.window l.depth l.low c.innermost_close-n.result = c.innermost_close-n.ensures (omega arith) in
-    let inside : c.loop-at.at + c.innermost_close-n.result ≤ length c.args.s.now = let q = c in let l = c.loop-at in close-inside q.args.table.now q.args.s.now q.requires.2 l.at l.nodes l.depth l.block l.invariant.0 l.low l.window l.invariant.1 c.loop-at-test.true c.innermost_close-n.result closed in
     let q = c.requires in
     let l = c.loop-at in
     let f = l.invariant.0 in
@@ -61,8 +59,6 @@ prepare-low-requires c =
 
 pub number_of-number-requires : goal.number_of-number-requires
 number_of-number-requires c =
-    let closed : let l = c.loop-at in InnermostClosed c.args.s.now l.at l.window l.depth l.low c.innermost_close-n.result = c.innermost_close-n.ensures (omega arith) in
-    let inside : c.loop-at.at + c.innermost_close-n.result ≤ length c.args.s.now = let q = c in let l = c.loop-at in close-inside q.args.table.now q.args.s.now q.requires.2 l.at l.nodes l.depth l.block l.invariant.0 l.low l.window l.invariant.1 c.loop-at-test.true c.innermost_close-n.result closed in
     let q = c.requires in
     let l = c.loop-at in
     let f = l.invariant.0 in
