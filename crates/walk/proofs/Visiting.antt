@@ -289,6 +289,11 @@ module _ {table index : List ℕ} {entries : ℕ} {s t : List ℕ} {depth : ℕ}
         rw (p-is, y.before) (visited x.visit x.l₁ x.r₁ x.marked l₂ opens₂ r₂ x.long x.done o' seen' opens' l' r₃ y.context (rw (y.from_is, y.link-is, y.now-is, y.deeper) at w))
 
 -- numbers of a visit
+-- what is known at the walk of the children, from what was read there
+pub entered : {table index : List ℕ} {entries : ℕ} {s t : List ℕ} {depth : ℕ} {o : state.WalkContext} {i to : ℕ} {e : Entry} {numbers : Attached} {seen : List ℕ} {opens : List OpenStart} {l : List ℕ} {r : State} {l₂ : List ℕ} {opens₂ : List OpenStart} {r₂ : State} → Entered table index entries s t depth o i to e numbers seen opens l r l₂ opens₂ r₂ → (b q : State) (from link d : ℕ) (o' : state.WalkContext) → b ≡ r → q ≡ with_anchor r₂ 0 → from ≡ i + 1 → link ≡ link_at t i → d ≡ depth - 1 → o' ≡ inside o e → Inner table index entries s t depth o i to e numbers seen opens l r l₂ opens₂ r₂ b q from link d o'
+entered x b q from link d o' b-is q-is from-is link-is d-is o-is =
+    record { whole = x; before = b-is; now-is = q-is; from_is = from-is; link-is = link-is; deeper = d-is; context = o-is }
+
 pub next_fits : {table index : List ℕ} {entries : ℕ} {s t : List ℕ} {depth : ℕ} {o : state.WalkContext} {i to : ℕ} {e : Entry} {numbers : Attached} {seen : List ℕ} {opens : List OpenStart} {l : List ℕ} {r : State} → Visit table index entries s t depth o i to e numbers seen opens l r → i + 1 < 2 ^ 64
 next_fits v = let low = visit-low v in omega arith
 
