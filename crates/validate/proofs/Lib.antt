@@ -3,14 +3,4 @@ pub mod Ending
 pub mod Whole
 pub mod Lists
 pub mod Course
-pub mod CallBegun
-pub mod CallEnded
-pub mod CallRun
-pub mod CallClearSeen
-pub mod CallReported
-pub mod CallNodeCount
 pub mod Through
-pub mod CallCheckInput
-pub mod CallChecked
-pub mod CallPassed
-pub mod CallCheck
