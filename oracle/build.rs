@@ -163,11 +163,11 @@ fn module_list(out: &Path) -> String {
     text
 }
 
-/// Where `rt staticlib` puts single functions of the library; the binding links the rest.
+/// Where `bin/build` puts single functions of the library; the binding links the rest.
 fn link_library() {
     let file = "../target/staticlib/liboracle_exports.a";
     let found = fs::canonicalize(file)
-        .unwrap_or_else(|_| fail("run `rt staticlib oracle_exports` first".to_string()));
+        .unwrap_or_else(|_| fail("run `bin/build oracle_exports` first".to_string()));
     println!("cargo::rerun-if-changed={file}");
     let folder = found.parent().expect("a file stands in a folder");
     println!("cargo::rustc-link-search=native={}", folder.display());

@@ -1,5 +1,5 @@
 /*
- * The check of a USFM document, for C99 and C++. Link with libharkoxin.a, which `rt staticlib harkoxin` writes; it needs memcpy
+ * The check of a USFM document, for C99 and C++. Link with libharkoxin.a, which `bin/build harkoxin` writes; it needs memcpy
  * and memset and nothing else.
  *
  * A document is three lists of bytes:

@@ -1,4 +1,4 @@
-//! Links the static library that `rt staticlib harkoxin` writes.
+//! Links the static library that `bin/build harkoxin` writes.
 
 use std::path::PathBuf;
 use std::{env, process};
@@ -20,7 +20,7 @@ fn folder() -> PathBuf {
     match folder.canonicalize() {
         Ok(folder) if folder.join(ARCHIVE).is_file() => folder,
         _ => fail(&format!(
-            "{ARCHIVE} isn't in {}: run `rt staticlib harkoxin`, or set HARKOXIN_LIB to its folder",
+            "{ARCHIVE} isn't in {}: run `bin/build harkoxin`, or set HARKOXIN_LIB to its folder",
             folder.display()
         )),
     }
