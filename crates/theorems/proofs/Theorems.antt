@@ -145,13 +145,13 @@ check-contract 𝓛 𝓜 𝓡 = refl
 
 -- "A marker that turns everything back is shut out by demand 1, since each number has its condition and occurs under no other."
 -- Of the numbers 1 to 10, one is given with a place exactly if its condition (specs/Conditions.antt) holds there and no earlier number's condition holds anywhere.
-pub one_number : (l : Lent) (number place : ℕ) → (refusal l ≡ refuse number place) ↔ (Condition l number place × ((earlier at : ℕ) → earlier < number → Condition l earlier at → ⊥))
-one_number l number place = composed.one_number l number place
+pub one-number : (l : Lent) (number place : ℕ) → (refusal l ≡ refuse number place) ↔ (Condition l number place × ((earlier at : ℕ) → earlier < number → Condition l earlier at → ⊥))
+one-number l number place = composed.one_number l number place
 
 -- "A document, source and tape under a table, is accepted, or checked, when none of numbers 1 to 10 below turns it back."
 -- No number is given exactly if none has its condition anywhere.
-pub no_number : (l : Lent) → (refusal l ≡ none) ↔ ((number place : ℕ) → Condition l number place → ⊥)
-no_number l = composed.no_number l
+pub no-number : (l : Lent) → (refusal l ≡ none) ↔ ((number place : ℕ) → Condition l number place → ⊥)
+no-number l = composed.no_number l
 
 -- "Source: UTF-8, at most 1,048,576 bytes."
 -- No place is given exactly if the text is made of rows of the Unicode Standard's Table 3-7.
@@ -179,8 +179,8 @@ pub splits-is : (text : List ℕ) → Made text → (e : Option Entry) → split
 splits-is text made e = labels.splits-is made e
 
 -- The text and the name of every node but the root of a checked document are well-formed, and so are the labels of its Chapters and Verses; so that a row of Table 3-7 begins at every character, and U+FFFD stands for no ill-formed byte.
-pub node_made : (l : Lent) → refusal l ≡ none → (i : ℕ) → 1 ≤ i → i < count l.tape → Made (node_at l.source l.tape i).text
-node_made l none-given i from inside = well.node_made l none-given i from inside
+pub node-made : (l : Lent) → refusal l ≡ none → (i : ℕ) → 1 ≤ i → i < count l.tape → Made (node_at l.source l.tape i).text
+node-made l none-given i from inside = well.node_made l none-given i from inside
 
 pub name-made : (l : Lent) → refusal l ≡ none → (i : ℕ) → 1 ≤ i → i < count l.tape → Made (name_of (node_at l.source l.tape i).text)
 name-made l none-given i from inside = well.name-made l none-given i from inside
@@ -292,8 +292,8 @@ counts-add-up l = counted.counts-add-up l
 
 -- "A checked document gives total, written, verses visited, errors, warnings, infos."
 -- The verses visited are no more than the nodes.
-pub verses_few : (l : Lent) → refusal l ≡ none → (checked_of l).verses ≤ count l.tape
-verses_few l none-given = counted.verses_few l none-given
+pub verses-few : (l : Lent) → refusal l ≡ none → (checked_of l).verses ≤ count l.tape
+verses-few l none-given = counted.verses_few l none-given
 
 -- "an invented total, or Cut from a list not full, contradicts demand 1"
 -- What is written has room and is no more than the total; where the list is cut, no further finding has room.
@@ -397,8 +397,8 @@ mark-printed l small seen opens = marks.mark-printed l small seen opens
 
 -- "Answers, after 1 to 3: 16 for an unknown marker .., 17 for a close without its open innermost .., 18 when the node list is too short ..; of 16 and 17 the earlier place, at one place 16."
 -- `GivenRead` has one case for each number, with its condition, and one for none: a refusal is given exactly where its condition holds.
-pub read_number : (t s nodes : List ℕ) (o : Option Refusal) → (read_refusal t s nodes ≡ o) ↔ GivenRead t s nodes o
-read_number t s nodes o = reader-numbers.read_number t s nodes o
+pub read-number : (t s nodes : List ℕ) (o : Option Refusal) → (read_refusal t s nodes ≡ o) ↔ GivenRead t s nodes o
+read-number t s nodes o = reader-numbers.read_number t s nodes o
 
 -- "Every tape it yields is one that numbers 4 to 9 don't turn back, unless it is too deep or over 65,535 nodes."
 -- Of the nodes that the pass over a text gives: they lie end to end from the text's start to its end, and 4 and 8 are the only exceptions.
