@@ -2,13 +2,13 @@
 use native.Mathlib.Omega.{arith}
 use Prim.Native.Nat.{◌≤◌}
 use mathlib.Core.Path.{◌≡◌, ap, ◌∙◌}
-use mathlib.Core.Logic.{⊎_elim}
 use lib.ListN.{length}
 use Rattle.message_texts.specs.Filled.{filled}
 use Rattle.message_texts.specs.Inner.{values}
 use Rattle.message_texts.proofs.Filling.{filled-room}
 use Rattle.message_texts.proofs.Room.{most, one_more, put-length, none_before, has_room, written-short, written-long}
 use Rattle.message_texts.proofs.fill_within.Goals as goal
+use Rattle.message_texts.proofs.fill_within.Goals.{then-out-text+else-out-n, else-out-text}
 
 pub overflow_mul-text : goal.overflow_mul-text
 overflow_mul-text c =
@@ -33,11 +33,11 @@ overflow_add-result-2 c =
 
 pub shape_of-out : goal.shape_of-out
 shape_of-out c =
-    let roomy : let a = c.args in (c.if-out-text.out ≡ a.out.now) × (length (filled a.text.now (values a.a.now a.b.now a.c.now)) ≤ length a.out.now) = let a = c.args in ⊎_elim (λ w. (w.6 ∙ none_before _ _ _ _ w.2.ensures, has_room _ _ _ _ w.2.ensures w.5.left)) (λ w. (w.1, omega (arith, w.0.left, filled-room a.text.now a.a.now a.b.now a.c.now))) c.if-out-text.branch-raw in
+    let roomy : let a = c.args in (c.if-out-text.out ≡ a.out.now) × (length (filled a.text.now (values a.a.now a.b.now a.c.now)) ≤ length a.out.now) = let a = c.args in elim c.if-out-text.branch [ then-out-text+else-out-n w ↦ (w.out-is ∙ none_before _ _ _ _ w.fill-n.ensures, has_room _ _ _ _ w.fill-n.ensures w.if-out-n.false) | else-out-text w ↦ (w.out-is, omega (arith, w.if-out-text.false, filled-room a.text.now a.a.now a.b.now a.c.now)) ] in
     c.fill.auto.out ∙ ap length roomy.0
 
 pub returns : goal.returns
 returns c =
-    let roomy : let a = c.args in (c.if-out-text.out ≡ a.out.now) × (length (filled a.text.now (values a.a.now a.b.now a.c.now)) ≤ length a.out.now) = let a = c.args in ⊎_elim (λ w. (w.6 ∙ none_before _ _ _ _ w.2.ensures, has_room _ _ _ _ w.2.ensures w.5.left)) (λ w. (w.1, omega (arith, w.0.left, filled-room a.text.now a.a.now a.b.now a.c.now))) c.if-out-text.branch-raw in
+    let roomy : let a = c.args in (c.if-out-text.out ≡ a.out.now) × (length (filled a.text.now (values a.a.now a.b.now a.c.now)) ≤ length a.out.now) = let a = c.args in elim c.if-out-text.branch [ then-out-text+else-out-n w ↦ (w.out-is ∙ none_before _ _ _ _ w.fill-n.ensures, has_room _ _ _ _ w.fill-n.ensures w.if-out-n.false) | else-out-text w ↦ (w.out-is, omega (arith, w.if-out-text.false, filled-room a.text.now a.a.now a.b.now a.c.now)) ] in
     let z = roomy in
     written-long _ _ _ _ z.1 (rw z.0 at c.fill.ensures)

@@ -1,12 +1,12 @@
 -- `message_texts::put_capitals` meets its contract.
 use Prim.Native.Nat.{◌-◌}
 use native.Mathlib.Omega.{arith}
-use mathlib.Core.Logic.{⊎_elim}
 use borrow.Author.Tests.{ltb-true, ltb-false}
 use Rattle.buffer.proofs.Writing.{writing_start, writing-full, writing-end}
 use Rattle.message_texts.proofs.Capitals.{length-upper, capitals-on}
 use Rattle.text.specs.Bytes.{upper}
 use Rattle.message_texts.proofs.put_capitals.Goals as goal
+use Rattle.message_texts.proofs.put_capitals.Goals.{then-loop-i-test+else-at-i, else-loop-i-test}
 
 pub loop-i-init : goal.loop-i-init
 loop-i-init c = writing_start _ _ _
@@ -25,6 +25,6 @@ returns c =
     let a = c.args in
     let e = length-upper a.s.now in
     record {
-      list = ⊎_elim (λ w. writing-full _ _ _ _ _ v (ltb-false _ _ w.1.left)) (λ w. writing-end _ _ _ _ _ v (omega arith)) c.loop-i-test.branch-raw;
+      list = elim c.loop-i-test.branch [ then-loop-i-test+else-at-i w ↦ writing-full _ _ _ _ _ v w.if-at-i.false | else-loop-i-test w ↦ writing-end _ _ _ _ _ v (omega arith) ];
       end = omega arith;
     }

@@ -2,10 +2,10 @@
 use Prim.Native.Nat.{◌-◌}
 use native.Mathlib.Omega.{arith}
 use mathlib.Core.Path.{◌∙◌}
-use mathlib.Core.Logic.{⊎_elim}
 use Rattle.tally.proofs.Records.{known}
 use Rattle.tally.proofs.Counting.{counting-start, counting-same, counting-small, counting-stored, counting-passed, counting-end}
 use Rattle.tally.proofs.count.Goals as goal
+use Rattle.tally.proofs.count.Goals.{then-code-counts, else-code-counts}
 
 pub loop-k-init : goal.loop-k-init
 loop-k-init c = counting-start _ _ _ c.clear.ensures
@@ -28,7 +28,7 @@ loop-k-preserved c =
     let g = c.requires in
     let h = c.loop-k-test.true in
     let k = known _ g l.k h in
-    ⊎_elim (λ w. rw w.2 (counting-stored _ _ _ _ l.invariant h k w.0.taken)) (λ w. rw w.1 (counting-passed _ _ _ _ l.invariant h k (omega (arith, w.0.left)))) c.if-code-counts.branch-raw
+    elim c.if-code-counts.branch [ then-code-counts w ↦ rw w.counts-is (counting-stored _ _ _ _ l.invariant h k w.if-code-counts.true) | else-code-counts w ↦ rw w.counts-is (counting-passed _ _ _ _ l.invariant h k (omega (arith, w.if-code-counts.false))) ]
 
 pub shape_of-counts : goal.shape_of-counts
 shape_of-counts c = counting-same _ _ _ _ c.loop-k.invariant ∙ c.clear.auto.counts
