@@ -1,0 +1,26 @@
+-- `messages::message_in` meets its contract.
+use native.Mathlib.Omega.{arith}
+use Rattle.messages.proofs.Nine.{off-tape, on-tape, answer-lack, answer-short, answer-written}
+use Rattle.messages.specs.Answer.{request_by}
+use Rattle.messages.proofs.message_in.Goals as goal
+
+pub returns-then-tape-q : goal.returns-then-tape-q
+returns-then-tape-q c =
+    let a = c.args in
+    let z = off-tape a.table.now a.source.now a.tape.now (request_by a.q) c.if-tape-q.true in
+    (rw z, rw z)
+
+pub returns-then-n-eq0 : goal.returns-then-n-eq0
+returns-then-n-eq0 c =
+    let y = c in
+    on-tape _ _ _ _ y.if-tape-q.false _ _ _ _ y.write_message-n.ensures (answer-lack _ _ c.if-n-eq0.true)
+
+pub returns-then-out-len : goal.returns-then-out-len
+returns-then-out-len c =
+    let y = c in
+    on-tape _ _ _ _ y.if-tape-q.false _ _ _ _ y.write_message-n.ensures (answer-short _ _ c.if-n-eq0.false (omega (arith, c.if-out-len.true, y.write_message-n.auto)))
+
+pub returns : goal.returns
+returns c =
+    let y = c in
+    on-tape _ _ _ _ y.if-tape-q.false _ _ _ _ y.write_message-n.ensures (answer-written _ _ c.if-n-eq0.false (omega (arith, c.if-out-len.false, y.write_message-n.auto)))

@@ -1,0 +1,11 @@
+-- `messages::messages_in` meets its contract.
+use Prim.Native.Nat.{◌-◌}
+use Rattle.messages.specs.Messages.{text_at}
+use Rattle.messages.proofs.WritingTexts.{WritingTexts}
+use Rattle.messages.proofs.messages_in.Given as goal
+
+abbrev pub invariant-loop-k : goal.invariant-loop-k
+invariant-loop-k l = WritingTexts (text_at l.table l.source l.tape l.list) l.n l.initial.ends l.initial.out l.ends l.out l.k l.at
+
+abbrev pub decreases-loop-k : goal.decreases-loop-k
+decreases-loop-k l = l.n - l.k
