@@ -13,6 +13,7 @@ use lib.Dec.{eqb, leb, ltb}
 use lib.ListN.{length, get_or, take, drop, length-drop, drop_of_length-le, get_or-eq_default}
 use lib.Seq.{take-suc, take_all, get_or-drop, length-take-le}
 use borrow.Author.Tests.{eq-eqb, ne_eqb, le-leb, lt-leb, lt-ltb, le-ltb, eqb-false}
+use Rattle.text.specs.declared.Decoded.{Decoded}
 use Rattle.text.specs.Pick.{pick, within, AllOf}
 use Rattle.text.specs.Utf8.{first_ill_formed, Made, nothing, more, decode}
 use Rattle.text.specs.Characters.{chars_past, chars}
@@ -184,6 +185,9 @@ module _ (s : List ℕ) (e : first_ill_formed s ≡ none) (i : ℕ) (h : i < len
 
 -- ---- At the end, and past it
 
+begin-at : (a b n m : ℕ) (cs : List Decoded) → a ≡ b → n ≡ m → AllOf (λ (p : ℕ). p < m) (beginnings b cs) → AllOf (λ (p : ℕ). p < n) (beginnings a cs)
+begin-at a b n m cs e f t = rw (e, f) t
+
 begin-before : (k at : ℕ) (s : List ℕ) → AllOf (λ (p : ℕ). p < at + length s) (beginnings (at + k) (chars_past k s))
 unfolding beginnings chars_past
 begin-before k at [] = tt
@@ -194,9 +198,7 @@ begin-before (suc k) at (b ∷ s) =
 begin-before zero at (b ∷ s) =
     let w = (decode (b ∷ s)).width in
     let d = decode-width (b ∷ s) (omega arith) in
-    let e : at + 0 + w ≡ suc at + pred w = omega arith in
-    let f : at + suc (length s) ≡ suc at + length s = omega arith in
-    (omega arith, rw (e, f) (begin-before (pred w) (suc at) s))
+    (omega arith, begin-at _ _ _ _ _ (omega arith) (omega arith) (begin-before (pred w) (suc at) s))
 
 count_past : (from a b n : ℕ) (ps : List ℕ) → AllOf (λ (p : ℕ). p < n) ps → n ≤ a → n ≤ b → count_between from a ps ≡ count_between from b ps
 unfolding count_between

@@ -1,0 +1,15 @@
+-- `listing::write_shown` meets its contract.
+use Rattle.messages.specs.Message.{message_text}
+use Rattle.messages.specs.Answer.{request_by}
+use Rattle.listing.proofs.Shown.{shown-none, shown-whole}
+use Rattle.listing.proofs.write_shown.Goals as goal
+
+pub returns-in-Written : goal.returns-in-Written
+returns-in-Written c =
+    let a = c.args in
+    shown-whole (message_text a.table.now a.source.now a.tape.now (request_by a.q)) a.text.now _ c.message_in.result c.message_in.ensures.0 c.message_in.ensures.1 _ c.in-Written.is
+
+pub returns-in-Refused : goal.returns-in-Refused
+returns-in-Refused c =
+    let a = c.args in
+    shown-none (message_text a.table.now a.source.now a.tape.now (request_by a.q)) a.text.now _ c.message_in.result c.message_in.ensures.0 c.message_in.ensures.1 _ _ c.in-Refused.is
