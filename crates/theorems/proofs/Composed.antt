@@ -41,9 +41,11 @@ record Part (l : Lent) (x : Option Refusal) (a b : ℕ) : Type 0 where
 within-length : (cs : List (ℕ → Type 0)) (k place : ℕ) → condition_of cs k place → k < length cs
 within-length (c ∷ cs) zero place h = omega arith
 within-length (c ∷ cs) (suc k) place h = let l = within-length cs k place h in omega arith
+within-length [] k place h = elim h [ ]
 
 within-ten : (l : Lent) (number place : ℕ) → Condition l number place → (1 ≤ number) × (number < 11)
 within-ten l (suc k) place h = let w : k < 10 = within-length (conditions l) k place h in (omega arith, omega arith)
+within-ten l zero place h = elim h [ ]
 
 -- a refusal by its number and place
 same-refusal : (x : Option Refusal) (r : Refusal) (number place : ℕ) → x ≡ some r → r.number ≡ number → r.place ≡ place → x ≡ refuse number place

@@ -12,12 +12,13 @@ use seplogic.Ra.Ura.{Ura}
 use prog.Model.{Model}
 use types.Logic.{Logic}
 use contract.Running.{Running}
-use denote.Builtin.{u8, u32, u64, SliceRef, SliceRefMut}
+use prog.Wired.{Wired}
+use base.Logic.{SProp}
+use contract.Notation.{Connectives, connectives}
+use denote.Builtin.{u8, u32, u64, SliceRefOf, SliceRefMutOf}
 use denote.Exit.{yes}
 use denote.Signature.{Signature, plain}
-use denote.Triple.End.{all}
 use denote.Triple.Spec.{Spec, Meets, exits}
-use Rattle.reference_laws.proofs.Call.{clauses}
 use Rattle.text.specs.Literal.{ascii}
 use Rattle.text.specs.Utf8.{first_ill_formed, width_of, Made, FirstIllFormed}
 use Rattle.text.specs.Characters.{chars, between, is_boundary}
@@ -63,6 +64,7 @@ use Rattle.validate.specs.Entry.{answer_of}
 use Rattle.validate.specs.declared.Answer.{Answer}
 use Rattle.validate.specs.contracts.Answer as answers
 use Rattle.validate.proofs.check as entry
+use Rattle.validate.specs.contracts.check as entry-contract
 use Rattle.validate.proofs.Lists as lists
 use Rattle.messages.specs.Message.{request_of, message_text}
 use Rattle.text.specs.Pick.{AllOf, cut}
@@ -109,9 +111,22 @@ check_signature =
     record {
       lifetimes = 6;
       outlives = [];
-      params = SliceRef 0 tt u8 tt ∷ SliceRef 1 tt u8 tt ∷ SliceRef 2 tt u8 tt ∷ SliceRefMut 3 tt u32 tt ∷ SliceRefMut 4 tt open-start.the_row tt ∷ SliceRefMut 5 tt u64 tt ∷ [];
+      params =
+          SliceRefOf (0 ∷ []) tt (plain (λ κs. u8)) (λ κs. tt)
+          ∷ SliceRefOf (1 ∷ []) tt (plain (λ κs. u8)) (λ κs. tt)
+          ∷ SliceRefOf (2 ∷ []) tt (plain (λ κs. u8)) (λ κs. tt)
+          ∷ SliceRefMutOf (3 ∷ []) tt (plain (λ κs. u32)) (λ κs. tt)
+          ∷ SliceRefMutOf (4 ∷ []) tt (plain (λ κs. open-start.the_row)) (λ κs. tt)
+          ∷ SliceRefMutOf (5 ∷ []) tt (plain (λ κs. u64)) (λ κs. tt)
+          ∷ [];
       result = plain (λ κs. answers.the_row);
     }
+
+-- all of some facts, in a row
+abbrev pub clauses : {M : Type 1} (𝓤 : Ura M) → List (Type 0) → SProp 𝓤
+clauses 𝓤 [] = (connectives 𝓤).⊤ₛ
+clauses 𝓤 (φ ∷ []) = (connectives 𝓤).⌜◌⌝ φ
+clauses 𝓤 (φ ∷ ψ ∷ φs) = (connectives 𝓤).◌∗◌ ((connectives 𝓤).⌜◌⌝ φ) (clauses 𝓤 (ψ ∷ φs))
 
 -- what it says of all that is lent, of its answer r, and of the lists at exit
 abbrev pub check_ensures : Lent → Answer → (seen : List ℕ) (opens : List OpenStart) (list : List ℕ) → List (Type 0)
@@ -128,17 +143,17 @@ check_contract {𝓤 = 𝓤} 𝓛 κs (table, (source, (tape, (seen, (opens, (li
     record {
       ghost = Unit {0};
       requires = λ _. clauses 𝓤 [];
-      ensures = λ _ r. exits 𝓛 check_signature (all yes check_signature.params) κs (table, (source, (tape, (seen, (opens, (list, end)))))) (λ (_, (_, (_, (seen', (opens', (list', _)))))).
+      ensures = λ _ r. exits 𝓛 check_signature (yes, (yes, (yes, (yes, (yes, (yes, tt)))))) κs (table, (source, (tape, (seen, (opens, (list, end)))))) (λ (_, (_, (_, (seen', (opens', (list', _)))))).
           clauses 𝓤 (check_ensures (record { table = table.now; source = source.now; tape = tape.now; seen = seen.now; open_starts = opens.now; list = list.now }) r seen'.now opens'.now list'.now));
     }
 
 -- "The entry that checks has one outcome per input, given by an equation, and so has each entry below it."
--- The code of `check` meets this contract: whatever is lent, a call returns, and what the contract says holds then. `Meets` is the toolchain's definition of that.
-pub check-promises : {M : Type 1} {𝓤 : Ura M} (𝓛 : Logic 𝓤) (𝓜 : Model 𝓤 𝓛.H) (𝓡 : Running 𝓤 𝓛.H 𝓜) → Meets 𝓛 check_signature (𝓡.run entry.Symbol.routine) (check_contract 𝓛)
-check-promises {𝓤 = 𝓤} 𝓛 𝓜 𝓡 = entry.Met.met 𝓤 𝓛 𝓜 𝓡
+-- The code of `check` meets this contract: whatever is lent, a call returns, and what the contract says holds then. `Meets` is the toolchain's definition of that, and `Wired` its definition that a name calls the code which stands under it.
+pub check-promises : {M : Type 1} {𝓤 : Ura M} (𝓛 : Logic 𝓤) (𝓜 : Model 𝓤 𝓛.H) (𝓡 : Running 𝓤 𝓛.H 𝓜) → Wired 𝓡.env entry.Symbol.code → Meets 𝓛 check_signature (𝓡.run (𝓡.env entry.Symbol.name)) (check_contract 𝓛)
+check-promises {𝓤 = 𝓤} 𝓛 𝓜 𝓡 wired = entry.Met.met 𝓤 𝓛 𝓜 𝓡 wired
 
 -- This contract is the one that the toolchain makes of the clauses at the head of `check` in validate/src/lib.rt.
-pub check-contract : {M : Type 1} {𝓤 : Ura M} (𝓛 : Logic 𝓤) (𝓜 : Model 𝓤 𝓛.H) (𝓡 : Running 𝓤 𝓛.H 𝓜) → entry.spec 𝓛 𝓜.mem 𝓡.run ≡ check_contract 𝓛
+pub check-contract : {M : Type 1} {𝓤 : Ura M} (𝓛 : Logic 𝓤) (𝓜 : Model 𝓤 𝓛.H) (𝓡 : Running 𝓤 𝓛.H 𝓜) → entry-contract.spec 𝓛 𝓜.mem 𝓡.returns ≡ check_contract 𝓛
 check-contract 𝓛 𝓜 𝓡 = refl
 
 -- ---- Which number is given
