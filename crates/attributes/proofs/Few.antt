@@ -1,13 +1,13 @@
 -- How many findings the attributes of a run of siblings can have.
 -- Assumes nothing.
-use mathlib.Core.Path.{◌≡◌, refl, sym, ap, ◌∙◌}
+use mathlib.Core.Path.{◌≡◌, refl, ap}
 use mathlib.Core.Bool.{Bool, true, false}
 use mathlib.Core.List.{List, [], ◌∷◌, ◌++◌}
-use Prim.Native.Nat.{ℕ, zero, suc, ◌+◌, ◌-◌, pred, ◌≤◌}
+use Prim.Native.Nat.{ℕ, zero, suc, ◌+◌, pred, ◌≤◌}
 use native.Mathlib.Nat.{le_refl}
 use native.Mathlib.Omega.{arith}
 use lib.Dec.{eqb}
-use lib.ListN.{length, take, drop, length-append, length-take, length-drop}
+use lib.ListN.{length, drop, length-append, length-take, length-drop}
 use Rattle.text.specs.Pick.{Part, cut, pick}
 use Rattle.text.specs.declared.Decoded.{Decoded}
 use Rattle.text.specs.Utf8.{decode}
@@ -17,7 +17,7 @@ use Rattle.tape.specs.Forest.{Forest, end, leaf, node}
 use Rattle.tape.proofs.Sizes.{breadth}
 use Rattle.table.specs.Names.{default_name}
 use Rattle.cursor.specs.Names.{past_one}
-use Rattle.findings.specs.Finding.{Finding, Kind}
+use Rattle.findings.specs.Finding.{Kind}
 use Rattle.attributes.specs.Attributes.{empty_list, no_default, Mode, between, key, value, opened, quoted, escaping, unquoted, ScanStep, go, report, stop, scan_step, end_of_text, scan_on, attribute_scan, after_bar, body, has_default, holds_equals, attribute_kinds, findings_at, attribute_findings, attributes_findings}
 use Rattle.tape.specs.Nodes.{attribute_kind}
 

@@ -5,7 +5,6 @@ use native.Mathlib.Omega.{arith}
 use mathlib.Core.Path.{◌≡◌, sym, ap, ◌∙◌}
 use mathlib.Core.Bool.{true, false}
 use mathlib.Core.Logic.{inr}
-use lib.Dec.{eqb}
 use lib.ListN.{length, get_or, drop}
 use mathlib.Core.List.{List}
 use borrow.Author.Tests.{ne_eqb}

@@ -1,5 +1,5 @@
 -- What the visit of a leaf promises.
-use Rattle.std.specs.Prelude.{ℕ, ◌+◌, ◌<◌, ◌≤◌, ◌≡◌, List, []}
+use Rattle.std.specs.Prelude.{ℕ, ◌+◌, ◌≤◌, ◌≡◌, List, []}
 use Rattle.tape.specs.Nodes.{node_at}
 use Rattle.definition.specs.State.{WalkState}
 use Rattle.definition.specs.State as state

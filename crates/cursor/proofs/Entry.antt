@@ -1,15 +1,15 @@
 -- The table entry of a node, by the tests that the code takes.
 -- Assumes nothing.
-use mathlib.Core.Path.{◌≡◌, refl, sym, ap, ◌∙◌}
+use mathlib.Core.Path.{◌≡◌}
 use mathlib.Core.Bool.{Bool, true, false, not}
 use mathlib.Core.List.{List}
-use mathlib.Core.Option.{Option, none}
+use mathlib.Core.Option.{none}
 use Prim.Native.Nat.{ℕ, ◌<◌, ◌≤◌}
 use native.Mathlib.Omega.{arith}
-use lib.Dec.{eqb, leb}
+use lib.Dec.{eqb}
 use borrow.Author.Tests.{le-leb, lt-leb, not-true, not-false}
 use Rattle.tape.specs.Nodes.{kind_at, marker_at}
-use Rattle.table.specs.Entries.{Entry, entries, nth}
+use Rattle.table.specs.Entries.{entries, nth}
 use Rattle.cursor.specs.Info.{has_marker, info_at}
 
 pub marker-none : (k : ℕ) → k < 1 → false ≡ has_marker k

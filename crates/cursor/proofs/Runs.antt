@@ -1,23 +1,18 @@
 -- A run of siblings, a node at a time.
 -- Assumes nothing.
-use mathlib.Core.Path.{◌≡◌, refl, sym, ap, ◌∙◌}
-use mathlib.Core.Bool.{Bool, true, false, not, false≢true}
+use mathlib.Core.Path.{◌≡◌, refl, sym, ◌∙◌}
+use mathlib.Core.Bool.{Bool, true, false, false≢true}
 use mathlib.Core.List.{List}
 use Prim.Native.Nat.{ℕ, zero, suc, ◌+◌, ◌-◌, ◌<◌, ◌≤◌}
 use mathlib.Core.Logic.{◌⊎◌, inl, inr}
 use native.Mathlib.Decide.{ℕ_discrete}
 use native.Mathlib.Omega.{arith}
-use lib.Dec.{eqb, ltb}
-use lib.ListN.{length}
-use borrow.Author.Tests.{eq-eqb, ne_eqb, eqb-true}
-use Rattle.text.specs.Pick.{within}
-use Rattle.tape.specs.Nodes.{count, node_at, kind_at, start_at, len_at, link_at, is_open, is_close, root_kind}
-use Rattle.tape.specs.Reading.{bad_kind}
-use Rattle.tape.specs.Forest.{Forest, end, leaf, node, forest, Nested, done, one, inner, Accepted, next_at}
+use Rattle.tape.specs.Nodes.{count, node_at, kind_at, link_at, is_open, is_close, root_kind}
+use Rattle.tape.specs.Forest.{end, leaf, node, forest, Nested, done, one, inner, Accepted, next_at}
 use Rattle.tape.proofs.OneNumber.{rooted}
 use Rattle.tape.proofs.Nest.{close-no-open, nested-inside, nested-le, nested-open, nested-leaf, forest-done, forest-leaf, forest-node}
 use Rattle.cursor.specs.Inner.{Spanned, Run}
-use Rattle.cursor.specs.Steps.{holds_nodes, past_node}
+use Rattle.cursor.specs.Steps.{past_node}
 use Rattle.cursor.proofs.Around.{past_next, next-nested, spanned}
 
 -- no node of an accepted tape but node 0 is of kind 0

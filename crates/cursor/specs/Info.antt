@@ -1,6 +1,6 @@
 -- "Marker metadata for marker-bearing nodes", as the Rust's `marker_info` gives it.
 use Rattle.std.specs.Prelude.{ℕ, Bool, true, false, ◌||◌, List, eqb}
-use Rattle.std.proofs.Math.Option.{Option, some, none}
+use Rattle.std.proofs.Math.Option.{Option, none}
 use Rattle.text.specs.Pick.{within}
 use Rattle.tape.specs.Nodes.{kind_at, marker_at, marker_open_kind, verse_kind, block_end_kind}
 use Rattle.table.specs.Entries.{Entry, entries, nth}

@@ -1,6 +1,6 @@
 -- The name of a marker, as written.
 -- Document 01, module 2: "`marker_name` drops one `\`, then one `+`, and stops before a blank, `*`, `|` or `\`."
-use Rattle.std.specs.Prelude.{ℕ, zero, suc, ◌+◌, ◌-◌, Bool, true, false, ◌||◌, List, [], ◌∷◌, eqb, get_or, drop}
+use Rattle.std.specs.Prelude.{ℕ, ◌+◌, Bool, ◌||◌, List, eqb, get_or, drop}
 use Rattle.text.specs.Pick.{Part, cut, pick}
 use Rattle.text.specs.Blank.{blank}
 use Rattle.text.specs.Characters.{find}

@@ -1,8 +1,8 @@
 -- From a node to others, as the Rust's `Cursor` goes, and its number.
-use Rattle.std.specs.Prelude.{ℕ, ◌+◌, ◌<◌, ◌≤◌, ◌≡◌, Bool, true, false, not, ◌&&◌, ◌||◌, List, eqb, ltb, length}
+use Rattle.std.specs.Prelude.{ℕ, ◌+◌, Bool, not, ◌&&◌, ◌||◌, List, eqb, ltb}
 use Rattle.std.proofs.Math.Option.{Option, some, none}
 use Rattle.text.specs.Pick.{pick}
-use Rattle.tape.specs.Nodes.{count, kind_at, start_at, len_at, link_at, is_close, chapter_kind, verse_kind, root_kind, marker_open_kind}
+use Rattle.tape.specs.Nodes.{count, kind_at, link_at, is_close, chapter_kind, verse_kind, root_kind, marker_open_kind}
 use Rattle.cursor.specs.declared.Place.{Place}
 use Rattle.cursor.specs.declared.Place.TheVariants as place
 use Rattle.cursor.specs.declared.NumberRead.{NumberRead}

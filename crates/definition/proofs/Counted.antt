@@ -1,6 +1,6 @@
 -- The counts of a checked document add up, what is written fits, and its verses are at most its nodes.
 -- Assumes nothing.
-use Prim.Native.Nat.{ℕ, zero, suc, ◌+◌, ◌*◌, ◌-◌, ◌<◌, ◌≤◌}
+use Prim.Native.Nat.{ℕ, zero, suc, ◌+◌, ◌*◌, ◌<◌, ◌≤◌}
 use native.Mathlib.Nat.{le_refl}
 use native.Mathlib.Omega.{arith}
 use mathlib.Core.Path.{◌≡◌, refl}
@@ -20,7 +20,6 @@ use Rattle.cursor.proofs.Runs.{run-top}
 use Rattle.table.specs.Entries.{Entry}
 use Rattle.findings.specs.Finding.{Finding}
 use Rattle.findings.specs.Written.{room}
-use Rattle.attributes.specs.Attributes.{go}
 use Rattle.definition.proofs.EachFinding.{EachFinding, codes_of, is_given, among-all, each-finding}
 use Rattle.definition.specs.State.{WalkState, initial, outside, WalkContext, Anchor, past}
 use Rattle.definition.specs.Checks.{entry_of, after_chapter, after_verse, leaf_checked, after_id}

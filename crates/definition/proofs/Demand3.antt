@@ -1,18 +1,17 @@
 -- Demand 3: a longer document that begins like a shorter one keeps the shorter's findings, closing findings aside, and leaves unclosed just those of its starts that no added end takes.
 -- Assumes nothing.
-use Prim.Native.Nat.{ℕ, zero, suc, ◌+◌, ◌-◌, ◌<◌, ◌≤◌}
+use Prim.Native.Nat.{ℕ, suc, ◌+◌, ◌≤◌}
 use native.Mathlib.Nat.{le_refl}
 use native.Mathlib.Omega.{arith}
-use mathlib.Core.Path.{◌≡◌, refl, sym, ap, subst, ◌∙◌}
+use mathlib.Core.Path.{◌≡◌}
 use mathlib.Core.Bool.{Bool, true, false, not}
 use mathlib.Core.List.{List, [], ◌∷◌, ◌++◌}
 use mathlib.Core.Option.{Option, some, none}
 use lib.Dec.{ltb}
 use Rattle.tape.specs.Nodes.{Node, node_at, link_at}
-use Rattle.tape.specs.Forest.{Forest, end, leaf, node, followed, forest, Nested, done, one, inner, Accepted, top}
+use Rattle.tape.specs.Forest.{forest, Nested, done, one, inner, Accepted, top}
 use Rattle.tape.specs.Alike.{Alike, BeginAlike}
-use Rattle.refusals.specs.Refusal.{Refusal, or_else}
-use Rattle.tape.specs.Reading.{tape_refusal}
+use Rattle.refusals.specs.Refusal.{or_else}
 use Rattle.tape.proofs.Nest.{nested-le, forest-done, forest-leaf, forest-node}
 use Rattle.refusals.proofs.First.{neither}
 use Rattle.tape.proofs.OneNumber.{accepted}
@@ -23,7 +22,7 @@ use Rattle.definition.specs.Checks.{entry_of}
 use Rattle.definition.specs.Milestones.{is_milestone, visit_of, visits, marks, taken_from}
 use Rattle.definition.specs.Document.{running, unclosed_of, those, Beginning}
 use Rattle.definition.specs.Outcome.{Lent, of1, of2, of3, of_tape, of9, of10, refusal}
-use Rattle.definition.proofs.Longer.{running-longer, Rising, none_left, rises, rising_le, unclosed-longer}
+use Rattle.definition.proofs.Longer.{running-longer, Rising, none_left, rises, unclosed-longer}
 use Rattle.text.specs.Pick.{pick}
 
 rising-from : {a b : ℕ} {xs : List Milestone} (c : ℕ) → c ≤ a → Rising a b xs → Rising c b xs

@@ -1,9 +1,9 @@
 -- How many findings a document can have.
 -- Assumes nothing.
-use Prim.Native.Nat.{ℕ, zero, suc, ◌+◌, ◌-◌, ◌*◌, ◌<◌, ◌≤◌}
+use Prim.Native.Nat.{ℕ, suc, ◌+◌, ◌*◌, ◌≤◌}
 use native.Mathlib.Nat.{le_refl}
 use native.Mathlib.Omega.{arith}
-use mathlib.Core.Path.{◌≡◌, refl, sym, ap, ◌∙◌}
+use mathlib.Core.Path.{◌≡◌, refl, ◌∙◌}
 use mathlib.Core.Bool.{Bool, true, false, not, ◌&&◌, ◌||◌}
 use mathlib.Core.List.{List, [], ◌∷◌, ◌++◌}
 use mathlib.Core.Option.{Option, some, none}
@@ -13,7 +13,7 @@ use Rattle.text.specs.Pick.{cut, pick}
 use Rattle.text.specs.Words.{blank_text}
 use Rattle.tape.specs.Nodes.{Node, chapter_kind, verse_kind, text_kind}
 use Rattle.tape.specs.Forest.{Forest, end, leaf, node}
-use Rattle.tape.proofs.Sizes.{amount, breadth, weight, breadth-le, nodes_in}
+use Rattle.tape.proofs.Sizes.{amount, breadth, weight}
 use Rattle.table.specs.Entries.{Entry}
 use Rattle.cursor.specs.Names.{name_of}
 use Rattle.findings.specs.Finding.{Finding}
@@ -22,10 +22,10 @@ use Rattle.attributes.specs.Attributes.{attributes_findings}
 use Rattle.attributes.proofs.Few.{attributes-few}
 use Rattle.rows.specs.Row.{row_findings}
 use Rattle.rows.proofs.Few.{only-few, row-few}
-use Rattle.definition.specs.State.{milestone_of, WalkState, initial, outside, WalkContext, Anchor, past, NodeChecked}
+use Rattle.definition.specs.State.{milestone_of, WalkState, initial, outside, WalkContext, Anchor, past}
 use Rattle.definition.specs.Checks.{warning, Check, when, given, entry_of, chapter_checks, verse_checks, leaf_checked, book_code, id_name, tr_name, id_checks, after_id, place_checks, content_checks}
 use Rattle.definition.specs.Milestones.{milestone_checks}
-use Rattle.definition.specs.Walk.{Walked, leaf_anchor, open_checked_by, open_checked, inside, after_node, then_walk, by_entry, walk_by, walk}
+use Rattle.definition.specs.Walk.{leaf_anchor, open_checked_by, open_checked, inside, after_node, then_walk, by_entry, walk_by, walk}
 use Rattle.definition.specs.Document.{text_before, of_document, unclosed, closing, walked, running, findings}
 use Rattle.findings.specs.Codes.{text_before_id, missing_id_marker, missing_chapter_marker}
 use Rattle.text.specs.Bytes.{equal}

@@ -1,18 +1,18 @@
 -- A run with more siblings after it: its findings are kept, and which of its starts are unclosed.
 -- Assumes nothing.
-use Prim.Native.Nat.{ℕ, zero, suc, ◌+◌, ◌<◌, ◌≤◌}
-use native.Mathlib.Nat.{le_refl, add-zero}
+use Prim.Native.Nat.{ℕ, suc, ◌<◌, ◌≤◌}
+use native.Mathlib.Nat.{le_refl}
 use native.Mathlib.Omega.{arith}
 use mathlib.Core.Path.{◌≡◌, refl, sym, ap, ◌∙◌}
 use mathlib.Core.Bool.{Bool, true, false, not, false≢true, ◌&&◌, ◌||◌}
 use mathlib.Core.List.{List, [], ◌∷◌, ◌++◌, append_assoc, append-nil}
 use mathlib.Core.Option.{Option, some, none}
-use lib.Dec.{eqb, ltb, leb}
+use lib.Dec.{eqb, ltb}
 use borrow.Author.Tests.{lt-ltb, le-ltb, le-leb, eq-eqb, ne_eqb}
 use Rattle.text.specs.Pick.{pick}
 use Rattle.tape.specs.Forest.{Forest, end, leaf, node, followed}
 use Rattle.findings.specs.Finding.{Finding}
-use Rattle.definition.specs.State.{Milestone, node_of, WalkState, initial, outside}
+use Rattle.definition.specs.State.{Milestone, node_of, initial, outside}
 use Rattle.definition.specs.Checks.{error}
 use Rattle.definition.specs.Milestones.{Fits, pairing, is_start, visits, Mark, free, untaken, taking_by, with_visit_by, marks_from_by, marks_by, marks, free_starts, taker_from, taken_from}
 use Rattle.definition.specs.Walk.{Walked, walk_by, walk}

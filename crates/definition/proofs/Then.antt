@@ -1,9 +1,9 @@
 -- The walk of a run and then of a further run is the walk of both: what stands after a node changes nothing that is said of it.
 -- Assumes nothing.
-use Prim.Native.Nat.{ℕ, zero, suc, ◌+◌, ◌-◌}
-use mathlib.Core.Path.{◌≡◌, refl, sym, ap, ap₂, ◌∙◌}
-use mathlib.Core.Bool.{Bool, true, false, not, ◌||◌}
-use mathlib.Core.List.{List, [], ◌∷◌, ◌++◌, append_assoc, append-nil}
+use Prim.Native.Nat.{ℕ}
+use mathlib.Core.Path.{◌≡◌, refl, sym, ap, ◌∙◌}
+use mathlib.Core.Bool.{Bool, true, false, ◌||◌}
+use mathlib.Core.List.{List, ◌∷◌, ◌++◌, append_assoc}
 use mathlib.Core.Option.{Option, some, none}
 use lib.Dec.{eqb}
 use borrow.Author.Tests.{eq-eqb}
@@ -12,8 +12,8 @@ use Rattle.tape.specs.Forest.{Forest, end, leaf, node, followed}
 use Rattle.table.specs.Entries.{Entry}
 use Rattle.cursor.specs.Names.{name_of}
 use Rattle.findings.specs.Finding.{Finding}
-use Rattle.attachment.specs.Attached.{is_alternate, is_published, claims, is_blank, plain, nodes_if, run_of, start_offsets, among, is_attached}
-use Rattle.definition.specs.State.{WalkState, WalkContext, Anchor, past, NodeChecked}
+use Rattle.attachment.specs.Attached.{is_alternate, is_published, claims, is_blank, plain, nodes_if, run_of, start_offsets, among}
+use Rattle.definition.specs.State.{WalkState, WalkContext, Anchor, past}
 use Rattle.definition.specs.Checks.{entry_of, leaf_checked, attached_to}
 use Rattle.definition.specs.Walk.{Walked, leaf_anchor, open_checked_by, open_checked, inside, with_findings, after_node, then_walk, by_entry, walk_by, walk}
 

@@ -21,8 +21,8 @@ use Rattle.definition.specs.Checks.{about, error, warning, entry_of, Check, when
 use Rattle.definition.specs.Milestones.{Fits, pairing}
 use Rattle.definition.specs.Walk.{Walked, leaf_anchor, open_checked_by, inside, after_node, then_walk, by_entry, walk_by}
 use Rattle.definition.specs.Document.{text_before, closing, walked_by, running_by, findings_by, findings, those}
-use Rattle.definition.specs.Base.{base_verse_checks, base_leaf, base_walk_by, base_walked_by, base_findings_by, base_findings, is_readable}
-use Rattle.definition.proofs.EachFinding.{EachFinding, codes_of, is_given, given-passes, each-text, each-open, each-closing}
+use Rattle.definition.specs.Base.{base_verse_checks, base_leaf, base_walk_by, base_findings_by, base_findings, is_readable}
+use Rattle.definition.proofs.EachFinding.{codes_of, is_given, given-passes, each-text, each-open, each-closing}
 use Rattle.definition.proofs.Givens.{given-append}
 use Rattle.definition.proofs.Those.{those-append, those-all}
 

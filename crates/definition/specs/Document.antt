@@ -1,6 +1,6 @@
 -- A whole document: TextBeforeId, the walk of the root's children, the closing findings.
-use Rattle.std.specs.Prelude.{ℕ, Bool, true, false, not, ◌&&◌, ◌||◌, List, [], ◌∷◌, ◌++◌, eqb, ◌≡◌}
-use Rattle.std.proofs.Math.Option.{Option, some, none}
+use Rattle.std.specs.Prelude.{ℕ, Bool, not, ◌&&◌, ◌||◌, List, [], ◌∷◌, ◌++◌, eqb, ◌≡◌}
+use Rattle.std.proofs.Math.Option.{none}
 use Rattle.text.specs.Pick.{pick}
 use Rattle.text.specs.Words.{blank_text}
 use Rattle.tape.specs.Nodes.{text_kind}

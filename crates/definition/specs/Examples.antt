@@ -1,5 +1,5 @@
 -- Worked examples: documents, and the findings that document 01 gives them.
-use Rattle.std.specs.Prelude.{ℕ, ◌+◌, ◌/◌, ◌%◌, List, [], ◌∷◌, ◌++◌, length}
+use Rattle.std.specs.Prelude.{ℕ, ◌/◌, ◌%◌, List, [], ◌∷◌, ◌++◌, length}
 use Rattle.std.proofs.Math.Option.{Option, none}
 use Rattle.text.specs.Literal.{ascii}
 use Rattle.tape.specs.Forest.{top}

@@ -1,8 +1,8 @@
 -- The state of the walk: "The running record (flags, expected chapter and verse, list lengths)", the context of a run of siblings, and its anchor.
-use Rattle.std.specs.Prelude.{ℕ, Bool, true, false, List, [], ◌∷◌}
+use Rattle.std.specs.Prelude.{ℕ, Bool, false, List, []}
 use Rattle.std.proofs.Math.Option.{Option, some, none}
 use Rattle.tape.specs.Nodes.{Node}
-use Rattle.tape.specs.Forest.{Forest, end, leaf, node, followed}
+use Rattle.tape.specs.Forest.{Forest, followed}
 use Rattle.findings.specs.Finding.{Finding}
 use Rattle.numbers.specs.Verse.{Position}
 

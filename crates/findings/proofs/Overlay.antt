@@ -4,7 +4,7 @@ use Prim.Native.Nat.{ℕ, zero, suc, ◌+◌, ◌-◌, ◌*◌, ◌<◌, ◌≤�
 use native.Mathlib.Omega.{arith}
 use native.Mathlib.Nat.{add-zero}
 use native.Mathlib.Numerals.{towards_suc}
-use mathlib.Core.Path.{◌≡◌, refl, sym, ap, ap₂, ◌∙◌}
+use mathlib.Core.Path.{◌≡◌, refl, sym, ap, ◌∙◌}
 use mathlib.Core.Bool.{Bool, true, false}
 use mathlib.Core.List.{List, [], ◌∷◌, ◌++◌, append_assoc, append-nil}
 use lib.Dec.{ltb}
@@ -13,9 +13,9 @@ use lib.Seq.{sets, sets-eq, take_at, drop-append-add, drop-drop, length-take-le}
 use borrow.Author.Tests.{lt-ltb, le-ltb}
 use Rattle.findings.specs.Finding.{Finding, words_of}
 use Rattle.findings.specs.declared.Counts.{Counts}
-use Rattle.findings.specs.Written.{total, room, put, overlay, encode, findings_in, only}
+use Rattle.findings.specs.Written.{total, room, put, overlay, encode, findings_in}
 use Rattle.text.specs.Pick.{pick}
-use Rattle.findings.specs.Inner.{by_severity, counted, Wrote, count_limit, Room}
+use Rattle.findings.specs.Inner.{by_severity, counted, Wrote, Room}
 
 pub put_in : (l : List ℕ) (k : ℕ) (f : Finding) → k < room l → put l k f ≡ sets l (8 * k) (words_of f)
 unfolding put

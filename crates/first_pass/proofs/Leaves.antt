@@ -1,15 +1,12 @@
 -- What the small functions of the first pass say of a piece, by the code's arms.
 -- Assumes nothing.
-use Prim.Native.Nat.{ℕ, ◌+◌, ◌-◌, ◌%◌, ◌<◌, ◌≤◌}
-use mathlib.Core.Path.{◌≡◌, refl, sym, ◌∙◌}
+use Prim.Native.Nat.{ℕ, ◌+◌, ◌-◌, ◌%◌, ◌<◌}
+use mathlib.Core.Path.{◌≡◌, refl, ◌∙◌}
 use mathlib.Core.Bool.{Bool, true, false, ◌&&◌}
-use mathlib.Core.List.{List, [], ◌∷◌}
-use native.Mathlib.Omega.{arith}
+use mathlib.Core.List.{List}
 use lib.Dec.{eqb, ltb, leb}
 use lib.ListN.{length, set, drop, take}
-use denote.Enum.Declared.{tag_of}
 use borrow.Author.Tests.{eq-eqb, ne_eqb}
-use Rattle.text.specs.Pick.{pick}
 use Rattle.text.specs.Bytes.{equal}
 use Rattle.text.specs.Characters.{find_byte}
 use Rattle.cursor.specs.Names.{name_of}
@@ -19,7 +16,6 @@ use Rattle.refusals.specs.Refusal.{unmatched_marker}
 use Rattle.pieces.specs.declared.Piece.{Piece}
 use Rattle.pieces.specs.declared.Piece.TheVariants as found
 use Rattle.pieces.specs.Closes.{is_inline, OwnClose}
-use Rattle.pieces.specs.contracts.Piece as declared
 use Rattle.pieces.proofs.Places.{rest-is}
 use Rattle.first_pass.specs.Counted.{one, run_count, nodes_in, block_after, innermost_place, close_number, piece_number, place_kept, ReadyFor, InnermostClosed}
 

@@ -1,7 +1,6 @@
 -- The first pass a piece at a time: what is left gives what the whole text gives.
 -- Assumes nothing.
-use Prim.Native.Nat.{ℕ, zero, suc, ◌+◌, ◌-◌, ◌*◌, ◌%◌, ◌<◌, ◌≤◌}
-use native.Mathlib.Nat.{zero-add}
+use Prim.Native.Nat.{ℕ, zero, suc, ◌+◌, ◌-◌, ◌*◌, ◌<◌, ◌≤◌}
 use native.Mathlib.Omega.{arith}
 use mathlib.Core.Path.{◌≡◌, refl, sym, ap, ◌∙◌}
 use mathlib.Core.Bool.{Bool, true, false}
@@ -9,7 +8,7 @@ use mathlib.Core.List.{List, [], ◌∷◌}
 use mathlib.Core.Option.{Option, some, none}
 use native.Mathlib.Decide.{dec_lt}
 use lib.Dec.{eqb, ltb}
-use lib.ListN.{length, get_or, take, drop, length-take}
+use lib.ListN.{length, take, drop}
 use lib.Seq.{length-take-le}
 use borrow.Author.Tests.{ne_eqb, lt-ltb, le-ltb}
 use Rattle.text.specs.Pick.{pick}
@@ -17,7 +16,6 @@ use Rattle.text.specs.Bytes.{equal}
 use Rattle.text.specs.Utf8.{Made}
 use Rattle.text.specs.Characters.{find_byte}
 use Rattle.text.proofs.Exact.{utf8-exact}
-use Rattle.text.proofs.Chars.{byte_le}
 use Rattle.cursor.specs.Names.{name_of}
 use Rattle.refusals.specs.Refusal.{unknown_marker, unmatched_marker}
 use Rattle.reader_spec.specs.Pieces.{bar, fault, size_of, piece_at}
@@ -26,8 +24,8 @@ use Rattle.reader_spec.specs.Pass.{ReadNode, closes, OpenMarker, ReadState, stat
 use Rattle.reader_spec.specs.Promise.{Legible}
 use Rattle.reader_spec.specs.Conditions.{is_unknown, is_unmatched}
 use Rattle.reader_spec.specs.InnerSteps.{pass_at, nodes, fault_at, counted_on, PlacedOpens, places_after, open_from, window, Kept}
-use Rattle.reader_spec.proofs.Faults.{stop_of, step-number}
-use Rattle.reader_spec.proofs.Steps.{here-cut, pass_step, pass-end, count-goes, placed-name}
+use Rattle.reader_spec.proofs.Faults.{step-number}
+use Rattle.reader_spec.proofs.Steps.{here-cut, pass_step, pass-end, count-goes}
 use Rattle.reader_spec.proofs.Window.{placed-step, Reached, reached-start, reached-here, reached-next, kept-none, kept_top}
 use Rattle.pieces.specs.declared.Piece.{Piece}
 use Rattle.pieces.specs.declared.Piece.TheVariants as found

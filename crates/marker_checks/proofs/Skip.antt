@@ -1,10 +1,10 @@
 -- A can_skip_marker marker: nothing is said of it.
 -- Assumes nothing.
-use Prim.Native.Nat.{ℕ, ◌+◌, ◌<◌}
+use Prim.Native.Nat.{ℕ, ◌<◌}
 use native.Mathlib.Omega.{arith}
 use mathlib.Core.Path.{◌≡◌, refl, sym, ap, ◌∙◌}
 use mathlib.Core.Bool.{Bool, true, false, not, false≢true, ◌&&◌, ◌||◌, and-false}
-use mathlib.Core.List.{List, [], ◌++◌}
+use mathlib.Core.List.{List, []}
 use mathlib.Core.Option.{Option}
 use lib.Dec.{eqb}
 use borrow.Author.Tests.{eq-eqb, ne_eqb, eqb-true, not-true}
@@ -15,7 +15,6 @@ use Rattle.table.specs.Entries.{Entry, paragraph_category, character_category, m
 use Rattle.cursor.specs.Inner.{Run}
 use Rattle.cursor.specs.Steps.{past_node}
 use Rattle.cursor.proofs.Runs.{forest-at-leaf, forest-at-open}
-use Rattle.findings.specs.Finding.{Finding}
 use Rattle.findings.proofs.Overlay.{wrote_none}
 use Rattle.attributes.specs.Attributes.{attributes_findings}
 use Rattle.definition.specs.State.{WalkState, Anchor}

@@ -2,23 +2,16 @@
 -- Assumes nothing.
 use Prim.Native.Nat.{ℕ, ◌+◌, ◌-◌, ◌<◌, ◌≤◌}
 use native.Mathlib.Omega.{arith}
-use mathlib.Core.Path.{◌≡◌, refl, sym, ap, ◌∙◌}
+use mathlib.Core.Path.{◌≡◌, sym, ap, ◌∙◌}
 use mathlib.Core.Bool.{Bool, true, false, and-true}
 use mathlib.Core.List.{List, [], ◌∷◌}
 use lib.Dec.{eqb}
 use lib.ListN.{length, get_or, take, drop, length-take, length-drop, drop_of_length-le}
 use lib.Seq.{length-take-le, take-take}
-use denote.Enum.Declared.{tag_of}
-use types.Run.{OneOf, miss}
 use borrow.Author.Tests.{eq-eqb, ne_eqb}
 use Rattle.text.specs.Pick.{cut}
 use Rattle.text.proofs.Rows.{place}
 use Rattle.tape.specs.Nodes.{node_at, span, start_at, len_at}
-use Rattle.table.specs.Entries.{category_of, entry_of_info}
-use Rattle.table.specs.declared.MarkerInfo.{MarkerInfo}
-use Rattle.table.specs.declared.Category.{Category}
-use Rattle.table.specs.declared.Category.TheVariants.{Identification, Chapter, Verse, Paragraph, Character, Note, Milestone, Other}
-use Rattle.table.specs.contracts.Category as declared
 use Rattle.text.proofs.Blocks.{equal-apart, equal-ends}
 use Rattle.cursor.specs.Names.{name_part, name_of}
 use Rattle.numbers.proofs.Labels.{part-from}

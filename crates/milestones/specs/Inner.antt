@@ -1,12 +1,12 @@
 -- What the inner functions promise: how a marker is read, the search among the open starts, and their list without an entry and with one more.
-use Rattle.std.specs.Prelude.{ℕ, zero, suc, ◌+◌, ◌-◌, ◌≤◌, ◌≡◌, Bool, ◌&&◌, ◌||◌, List, [], ◌∷◌, ◌++◌, eqb, length, get_or, set, take, drop}
+use Rattle.std.specs.Prelude.{ℕ, zero, suc, ◌+◌, ◌-◌, ◌≤◌, ◌≡◌, List, [], ◌∷◌, ◌++◌, length, get_or, set, take, drop}
 use Rattle.std.proofs.Math.Option.{Option, some, none}
 use Rattle.text.specs.Pick.{pick}
 use Rattle.tape.specs.Nodes.{Node, node_at}
-use Rattle.table.specs.Entries.{Entry, milestone_category}
+use Rattle.table.specs.Entries.{Entry}
 use Rattle.cursor.specs.Inner.{Spanned}
 use Rattle.definition.specs.Checks.{error}
-use Rattle.definition.specs.Milestones.{ends_in, is_start, is_milestone, base_of}
+use Rattle.definition.specs.Milestones.{is_start, is_milestone, base_of}
 use Rattle.definition.specs.Outcome.{no_start}
 use Rattle.definition.specs.declared.OpenStart.{OpenStart}
 use Rattle.state.specs.Inner.{counts_of, with_counts}

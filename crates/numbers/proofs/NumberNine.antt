@@ -2,12 +2,12 @@
 -- Assumes nothing.
 use Prim.Native.Nat.{ℕ, ◌+◌, ◌-◌, ◌≤◌}
 use native.Mathlib.Omega.{arith}
-use mathlib.Core.Path.{◌≡◌, refl, sym, ap, subst, ◌∙◌}
+use mathlib.Core.Path.{◌≡◌, sym, subst}
 use mathlib.Core.List.{List}
 use mathlib.Core.Logic.{◌↔◌}
-use mathlib.Core.Option.{Option, some, none}
+use mathlib.Core.Option.{some, none}
 use Rattle.tape.specs.Nodes.{count}
-use Rattle.refusals.specs.Refusal.{Refusal, refuse, first_bad, AllGood, First, split_label}
+use Rattle.refusals.specs.Refusal.{Refusal, refuse, AllGood, First, split_label}
 use Rattle.refusals.proofs.First.{first_of, none_of, all_none, first-is}
 use Rattle.numbers.specs.Label.{bad_label, label_refusal}
 

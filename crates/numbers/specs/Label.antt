@@ -1,5 +1,5 @@
 -- Document 01, module 4: "A label is what the marker name has beyond its table name (glued), else the second word of the node's text."
-use Rattle.std.specs.Prelude.{ℕ, ◌-◌, Bool, true, false, not, ◌&&◌, ◌||◌, List, eqb, ltb, length, drop}
+use Rattle.std.specs.Prelude.{ℕ, ◌-◌, Bool, not, ◌&&◌, ◌||◌, List, eqb, ltb, length, drop}
 use Rattle.std.proofs.Math.Option.{Option, some, none}
 use Rattle.text.specs.Pick.{cut, pick}
 use Rattle.text.specs.Characters.{is_boundary}

@@ -12,7 +12,7 @@ use borrow.Author.Tests.{le-ltb}
 use Rattle.text.specs.Pick.{within}
 use Rattle.refusals.specs.Refusal.{Refusal, refuse, too_deep}
 use Rattle.tape.specs.Nodes.{kind_at, link_at, is_open, is_close, marker_open_kind, error_kind}
-use Rattle.tape.specs.Reading.{go, stop, step, resume, read}
+use Rattle.tape.specs.Reading.{stop, step, resume, read}
 use Rattle.tape.proofs.Accept.{step-top, step-opens, step_other}
 use Rattle.definition.specs.Examples.{Row, tape_of}
 use Rattle.reader_spec.specs.Pass.{ReadNode, text, attribute, chapter_at, verse_at, opens, closes, ends}

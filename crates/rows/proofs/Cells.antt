@@ -2,16 +2,14 @@
 -- Assumes nothing.
 use mathlib.Core.Path.{◌≡◌, refl, sym, ap, ◌∙◌}
 use mathlib.Core.Bool.{Bool, true, false, not}
-use mathlib.Core.List.{List, [], ◌∷◌, ◌++◌}
+use mathlib.Core.List.{List, ◌++◌}
 use mathlib.Core.Option.{Option, some, none}
-use Prim.Native.Nat.{ℕ, zero, suc, ◌+◌, ◌-◌, ◌<◌, ◌≤◌}
-use native.Mathlib.Omega.{arith}
+use Prim.Native.Nat.{ℕ, ◌+◌, ◌<◌, ◌≤◌}
 use lib.Dec.{eqb}
-use lib.ListN.{length}
 use borrow.Author.Tests.{eq-eqb, ne_eqb}
 use Rattle.text.specs.Pick.{cut}
 use Rattle.tape.specs.Nodes.{node_at, kind_at, span, is_open}
-use Rattle.tape.specs.Forest.{Forest, end, leaf, node, forest}
+use Rattle.tape.specs.Forest.{forest}
 use Rattle.tape.proofs.Nest.{forest-done}
 use Rattle.cursor.specs.Names.{name_of}
 use Rattle.cursor.specs.Inner.{Run}
@@ -20,9 +18,9 @@ use Rattle.cursor.proofs.Runs.{run-next, forest-at-leaf, forest-at-open}
 use Rattle.findings.specs.Finding.{Finding}
 use Rattle.findings.specs.declared.Counts.{Counts}
 use Rattle.findings.specs.Written.{only}
-use Rattle.findings.proofs.Overlay.{Left, left-start, left-wrote, left_end, left-room, room-first}
+use Rattle.findings.proofs.Overlay.{Left, left-wrote, left_end, left-room, room-first}
 use Rattle.rows.specs.Cells.{ColumnRange, cell_columns}
-use Rattle.rows.specs.Row.{cell_in, out_of_order, by_columns, row_from, row_findings}
+use Rattle.rows.specs.Row.{cell_in, out_of_order, by_columns, row_from}
 use Rattle.findings.specs.Inner.{Wrote, Room}
 
 -- the columns of a node by the tests that the code takes

@@ -1,5 +1,5 @@
 -- Document 01, module 6: "a cell without columns is skipped and the expected column kept; afterwards expected = end + 1."
-use Rattle.std.specs.Prelude.{ℕ, ◌+◌, Bool, true, false, not, List, [], ◌∷◌, ◌++◌, eqb}
+use Rattle.std.specs.Prelude.{ℕ, ◌+◌, not, List, [], ◌++◌, eqb}
 use Rattle.std.proofs.Math.Option.{Option, some, none}
 use Rattle.tape.specs.Nodes.{Node, is_open}
 use Rattle.tape.specs.Forest.{Forest, end, leaf, node}

@@ -1,12 +1,12 @@
 -- What the code's values mean in the definition: the record, the context, and the anchor.
-use Rattle.std.specs.Prelude.{ℕ, zero, suc, ◌<◌, ◌≤◌, ◌≡◌, Bool, true, false, List, [], ◌∷◌, length, get_or}
+use Rattle.std.specs.Prelude.{ℕ, zero, suc, ◌<◌, ◌≤◌, ◌≡◌, List, [], ◌∷◌, length, get_or}
 use Rattle.std.proofs.Math.Option.{Option, some, none}
 use Rattle.tape.specs.Nodes.{Node, node_at, kind_at}
 use Rattle.tape.specs.Forest.{Forest, followed, forest}
 use Rattle.cursor.specs.Inner.{Spanned}
 use Rattle.cursor.specs.Steps.{past_node}
 use Rattle.findings.specs.declared.Counts.{Counts}
-use Rattle.numbers.specs.Verse.{Position, position_of}
+use Rattle.numbers.specs.Verse.{position_of}
 use Rattle.attachment.specs.Attached.{attached_numbers}
 use Rattle.attachment.specs.Attached as attached
 use Rattle.definition.specs.State as state

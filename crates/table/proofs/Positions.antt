@@ -8,7 +8,7 @@ use Prim.Native.Nat.{ℕ, zero, suc, ◌<◌, ◌≤◌}
 use native.Mathlib.Omega.{arith}
 use Rattle.table.specs.declared.Category.TheVariants.{Other}
 use Rattle.table.specs.declared.TextRole.TheVariants.{Boundary}
-use Rattle.table.specs.declared.DefaultAttribute.TheVariants.{Lemma, Gloss, Href, Loc, LinkHref, Id, Who, NoDefault}
+use Rattle.table.specs.declared.DefaultAttribute.TheVariants.{Lemma, Id}
 use Rattle.table.specs.Entries.{category_of, role_of}
 use Rattle.text.specs.Pick.{pick}
 use Rattle.table.specs.Names.{lemma_names, rb, xt, ref, jmp, periph, qt, default_name, attribute_name}

@@ -1,6 +1,6 @@
 -- `lookup`, `strip_level_suffix`, `default_attribute`, and the names that some checks test for.
 -- Document 01, module 3: "`lookup`: exact name; else without `strip_level_suffix`; else `v` or `c` before a digit. First equal name counts."
-use Rattle.std.specs.Prelude.{ℕ, zero, suc, ◌+◌, ◌-◌, Bool, true, false, not, ◌&&◌, ◌||◌, List, [], ◌∷◌, eqb, ltb, length, get_or, take}
+use Rattle.std.specs.Prelude.{ℕ, zero, suc, ◌-◌, Bool, ◌&&◌, ◌||◌, List, [], ◌∷◌, eqb, ltb, length, get_or, take}
 use Rattle.std.proofs.Math.Option.{Option, some, none}
 use Rattle.text.specs.Pick.{cut, pick}
 use Rattle.text.specs.Number.{digit}

@@ -1,24 +1,21 @@
 -- A tape is accepted exactly if it reads as a forest, properly nested, at most 64 deep, with the root's link as document 01 has it.
 -- Assumes nothing.
-use Prim.Native.Nat.{ℕ, zero, suc, ◌+◌, ◌-◌, ◌*◌, ◌/◌, ◌<◌, ◌≤◌}
-use native.Mathlib.Nat.{not-suc-le-zero}
-use native.Mathlib.Numerals.{add-one}
-use native.Mathlib.Decide.{dec_lt, ℕ_discrete}
+use Prim.Native.Nat.{ℕ, zero, suc, ◌+◌, ◌-◌, ◌<◌, ◌≤◌}
 use native.Mathlib.Omega.{arith}
 use mathlib.Core.Path.{◌≡◌, refl, sym, ap, subst, ◌∙◌}
-use mathlib.Core.Bool.{Bool, true, false, not, false≢true}
+use mathlib.Core.Bool.{Bool, true, false}
 use mathlib.Core.List.{List, [], ◌∷◌}
-use mathlib.Core.Logic.{◌↔◌, ◌⊎◌, inl, inr}
-use mathlib.Core.Option.{Option, some, none}
+use mathlib.Core.Logic.{◌⊎◌, inl, inr}
+use mathlib.Core.Option.{none}
 use lib.Dec.{ltb, eqb}
 use lib.ListN.{length}
-use borrow.Author.Tests.{lt-ltb, le-ltb, eq-eqb, ne_eqb, ltb-true, ltb-false, eqb-true, eqb-false, not-true, not-false}
+use borrow.Author.Tests.{lt-ltb, eq-eqb, ne_eqb, ltb-true, eqb-true}
 use Rattle.text.specs.Pick.{pick}
 use Rattle.refusals.proofs.First.{refused}
-use Rattle.tape.specs.Nodes.{count, kind_at, link_at, is_open, is_close}
-use Rattle.refusals.specs.Refusal.{Refusal, refuse, only_if, or_else, first_bad, is_none, broken_links, too_deep}
-use Rattle.tape.specs.Reading.{bad_length, bad_kind, bad_span, opens_to, good_root, Step, go, stop, opened, closed, step, resume, ended, read, tape_refusal}
-use Rattle.tape.specs.Forest.{Nested, done, one, inner, Accepted}
+use Rattle.tape.specs.Nodes.{kind_at, link_at, is_open, is_close}
+use Rattle.refusals.specs.Refusal.{refuse, broken_links, too_deep}
+use Rattle.tape.specs.Reading.{Step, go, stop, closed, step, resume, read}
+use Rattle.tape.specs.Forest.{Nested, done, one, inner}
 use Rattle.tape.proofs.Nest.{nested-le, close-no-open}
 use Rattle.tape.proofs.Machine.{read_step}
 

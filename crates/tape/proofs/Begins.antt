@@ -1,19 +1,18 @@
 -- Two documents that begin alike: the longer's forest is the shorter's with more siblings after it.
 -- Assumes nothing.
-use Prim.Native.Nat.{ℕ, zero, suc, ◌+◌, ◌-◌, ◌*◌, ◌<◌, ◌≤◌}
+use Prim.Native.Nat.{ℕ, suc, ◌+◌, ◌*◌, ◌<◌, ◌≤◌}
 use native.Mathlib.Decide.{dec_lt, ℕ_discrete}
 use native.Mathlib.Omega.{arith}
-use mathlib.Core.Path.{◌≡◌, refl, sym, ap, ap₂, subst, ◌∙◌}
+use mathlib.Core.Path.{◌≡◌, refl, sym, ap, subst, ◌∙◌}
 use mathlib.Core.Bool.{Bool, true, false, false≢true, ◌||◌}
-use mathlib.Core.List.{List, [], ◌∷◌, ◌++◌}
+use mathlib.Core.List.{List, ◌++◌}
 use mathlib.Core.Logic.{◌⊎◌, inl, inr}
 use lib.ListN.{length, take, drop, length-drop}
 use lib.Seq.{take-append-le, drop-append-le}
 use borrow.Author.Tests.{ltb-false}
 use Rattle.text.specs.Pick.{Part, cut}
-use Rattle.tape.specs.Nodes.{Node, node_at, byte, half, word, count, kind_at, marker_at, start_at, len_at, link_at, span, is_open, is_close}
-use Rattle.tape.specs.Reading.{bad_span}
-use Rattle.tape.specs.Forest.{Forest, followed, forest, Nested, done, one, inner, Accepted, top}
+use Rattle.tape.specs.Nodes.{node_at, half, word, count, kind_at, start_at, len_at, link_at, span, is_open, is_close}
+use Rattle.tape.specs.Forest.{followed, forest, Nested, done, one, inner, Accepted, top}
 use Rattle.tape.specs.Alike.{Alike}
 use Rattle.tape.proofs.Nest.{close-no-open, nested-le, forest-join, forest-same}
 use Rattle.tape.proofs.OneNumber.{rooted}

@@ -1,19 +1,17 @@
 -- The whole check: number 4, the root's kind, and the rest.
 -- Assumes nothing.
-use mathlib.Core.Path.{◌≡◌, refl, sym, ap, ◌∙◌}
+use mathlib.Core.Path.{◌≡◌, refl, ap}
 use mathlib.Core.Bool.{Bool, true, false, not, ◌||◌, or-true}
 use mathlib.Core.List.{List}
-use mathlib.Core.Option.{Option, some, none}
-use Prim.Native.Nat.{ℕ, zero, suc, ◌+◌, ◌-◌, ◌*◌, ◌/◌, ◌%◌, ◌<◌, ◌≤◌}
+use Prim.Native.Nat.{ℕ, suc, ◌-◌, ◌%◌, ◌<◌, ◌≤◌}
 use native.Mathlib.Omega.{arith}
 use lib.Dec.{eqb, ltb}
 use lib.ListN.{length}
 use borrow.Author.Tests.{eq-eqb, ne_eqb, lt-ltb, le-ltb}
 use Rattle.tape.specs.Nodes.{count, kind_at, root_kind}
-use Rattle.refusals.specs.Refusal.{Refusal, refuse, only_if, or_else, first_bad, bad_tape_length, bad_node_kind}
+use Rattle.refusals.specs.Refusal.{refuse, only_if, or_else, first_bad, bad_tape_length, bad_node_kind}
 use Rattle.tape.specs.Reading.{bad_length, bad_kind, tape_refusal}
 use Rattle.tape.specs.Inner.{Sized, from_one}
-use Rattle.refusals.proofs.First.{first-pass, first-hit}
 
 module _ (t : List ℕ) where
   short : count t ≡ 0 → bad_length t ≡ true

@@ -1,18 +1,18 @@
 -- The root's link, and what is answered when all nodes are read.
 -- Assumes nothing.
-use mathlib.Core.Path.{◌≡◌, refl, sym, ap, ◌∙◌}
+use mathlib.Core.Path.{◌≡◌, refl}
 use mathlib.Core.Bool.{Bool, true, false, not, ◌&&◌, ◌||◌}
-use mathlib.Core.List.{List, []}
-use mathlib.Core.Logic.{◌⊎◌, inl, inr}
-use mathlib.Core.Option.{Option, some, none}
-use Prim.Native.Nat.{ℕ, zero, suc, ◌+◌, ◌-◌, ◌<◌, ◌≤◌}
+use mathlib.Core.List.{List}
+use mathlib.Core.Logic.{inl, inr}
+use mathlib.Core.Option.{Option, none}
+use Prim.Native.Nat.{ℕ, zero, suc, ◌+◌, ◌-◌, ◌≤◌}
 use native.Mathlib.Omega.{arith}
 use lib.Dec.{eqb}
-use borrow.Author.Tests.{eq-eqb, ne_eqb, not-true, not-false}
-use Rattle.tape.specs.Nodes.{kind_at, link_at, is_open, is_close, marker_open_kind}
-use Rattle.refusals.specs.Refusal.{Refusal, refuse, only_if, or_else, bad_node_span, broken_links}
+use borrow.Author.Tests.{eq-eqb, ne_eqb}
+use Rattle.tape.specs.Nodes.{kind_at, link_at, is_close, marker_open_kind}
+use Rattle.refusals.specs.Refusal.{Refusal, refuse, bad_node_span, broken_links}
 use Rattle.tape.specs.Reading.{opens_to}
-use Rattle.tape.specs.Inner.{refused_or_rest, met_span, Known, root_by, left_open, lastly}
+use Rattle.tape.specs.Inner.{refused_or_rest, Known, root_by, left_open, lastly}
 use Rattle.tape.specs.declared.Reading.{Reading}
 
 -- an open that has the root's link

@@ -8,10 +8,9 @@ use mathlib.Core.Path.{◌≡◌, refl, sym, ap, ap₂, subst, ◌∙◌}
 use mathlib.Core.Bool.{Bool, true, false, false≢true}
 use mathlib.Core.List.{List, [], ◌∷◌, ◌++◌, append-nil, append_assoc}
 use lib.Dec.{eqb}
-use lib.ListN.{length}
 use borrow.Author.Tests.{eqb-true}
 use Rattle.tape.specs.Nodes.{Node, node_at, nodes, kind_at, link_at, is_open, is_close}
-use Rattle.tape.specs.Forest.{Forest, end, leaf, node, followed, join_node, runs, innermost, forest, next_at, Nested, done, one, inner}
+use Rattle.tape.specs.Forest.{Forest, end, leaf, node, followed, join_node, runs, innermost, forest, Nested, done, one, inner}
 
 pub close-no-open : (k : ℕ) → is_close k ≡ true → is_open k ≡ false
 close-no-open k e = go (eqb k 1) refl

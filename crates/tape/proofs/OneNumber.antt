@@ -1,25 +1,25 @@
 -- Each of the numbers 4 to 8 is given exactly under its own condition, and none exactly for an accepted tape.
 -- Assumes nothing.
-use Prim.Native.Nat.{ℕ, zero, suc, ◌+◌, ◌-◌, ◌/◌, ◌%◌, ◌<◌, ◌≤◌}
+use Prim.Native.Nat.{ℕ, zero, suc, ◌+◌, ◌-◌, ◌%◌, ◌<◌, ◌≤◌}
 use native.Mathlib.Nat.{zero-add}
 use native.Mathlib.Numerals.{add-one}
 use native.Mathlib.Decide.{ℕ_discrete}
 use native.Mathlib.Omega.{arith}
-use mathlib.Core.Path.{◌≡◌, refl, sym, ap, subst, ◌∙◌}
+use mathlib.Core.Path.{◌≡◌, refl, sym, subst, ◌∙◌}
 use mathlib.Core.Bool.{Bool, true, false, not, false≢true, ◌&&◌, ◌||◌}
 use mathlib.Core.List.{List, [], ◌∷◌}
 use mathlib.Core.Logic.{◌↔◌, ◌⊎◌, inl, inr}
 use mathlib.Core.Option.{Option, some, none}
-use lib.Dec.{eqb, ltb}
+use lib.Dec.{eqb}
 use lib.ListN.{length}
-use borrow.Author.Tests.{eqb-true, eqb-false, ltb-false, eq-eqb, ne_eqb, not-true, not-false}
+use borrow.Author.Tests.{eqb-true, eqb-false, eq-eqb, not-true, not-false}
 use Rattle.tape.specs.Nodes.{count, kind_at, link_at, is_open, is_close, root_kind}
-use Rattle.refusals.specs.Refusal.{Refusal, refuse, only_if, or_else, first_bad, is_none, AllGood, First, bad_tape_length, bad_node_kind, bad_node_span, broken_links, too_deep}
-use Rattle.tape.specs.Reading.{bad_length, bad_kind, bad_span, opens_to, good_root, Step, go, stop, step, resume, ended, read, tape_refusal}
+use Rattle.refusals.specs.Refusal.{Refusal, refuse, only_if, or_else, first_bad, is_none, First, bad_tape_length, bad_node_kind, bad_node_span, broken_links, too_deep}
+use Rattle.tape.specs.Reading.{bad_length, bad_kind, bad_span, opens_to, good_root, Step, go, stop, step, resume, read, tape_refusal}
 use Rattle.tape.specs.Conditions.{Reaches, start, next, Stops, LeftOpen, GoodNodes, Gives4, Gives5, Gives6, Gives7, Gives8}
-use Rattle.tape.specs.Forest.{Nested, Accepted}
+use Rattle.tape.specs.Forest.{Accepted}
 use Rattle.tape.proofs.Machine.{read_step, step-odd}
-use Rattle.refusals.proofs.First.{refused, which, neither, only, only-not, first_of, none_of, all_none, first-is}
+use Rattle.refusals.proofs.First.{which, neither, only, only-not, first_of, none_of, all_none, first-is}
 use Rattle.tape.proofs.Accept.{Rooted, reads-nested, nested-reads}
 use Rattle.text.proofs.Bool.{or_parts}
 

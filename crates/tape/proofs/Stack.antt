@@ -1,15 +1,14 @@
 -- The first elements of an array as a stack, the last of them on top, and the steps of the reading over it.
 -- Assumes nothing.
-use mathlib.Core.Path.{◌≡◌, refl, sym, ap, ◌∙◌}
-use mathlib.Core.List.{List, [], ◌∷◌}
+use mathlib.Core.Path.{◌≡◌, refl, sym, ap}
+use mathlib.Core.List.{List, ◌∷◌}
 use Prim.Native.Nat.{ℕ, zero, suc, ◌+◌, ◌-◌, ◌<◌, ◌≤◌}
 use native.Mathlib.Numerals.{add-one}
 use native.Mathlib.Omega.{arith}
 use lib.ListN.{length, get_or, set, length-set}
 use lib.Seq.{get_or-set_same, get_or-set_other}
 use borrow.Author.Tests.{lt-ltb, le-ltb, eq-eqb, ne_eqb}
-use Rattle.tape.specs.Reading.{Step, go, stop, opened, closed}
-use Rattle.tape.specs.Inner.{stacked, held, Opened, Closed}
+use Rattle.tape.specs.Inner.{stacked, Opened, Closed}
 use Rattle.tape.specs.declared.Reading.{Reading}
 use Rattle.refusals.specs.Refusal.{broken_links, too_deep}
 

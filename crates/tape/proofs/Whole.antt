@@ -2,21 +2,19 @@
 -- Assumes nothing.
 use mathlib.Core.Path.{◌≡◌, refl, sym, ap, ◌∙◌}
 use mathlib.Core.Bool.{Bool, true, false, not, ◌&&◌, ◌||◌, and-true}
-use mathlib.Core.List.{List, [], ◌∷◌}
+use mathlib.Core.List.{List, []}
 use mathlib.Core.Logic.{inl}
-use mathlib.Core.Option.{Option, some, none}
-use Prim.Native.Nat.{ℕ, zero, suc, ◌+◌, ◌-◌, ◌*◌, ◌/◌, ◌%◌, ◌<◌, ◌≤◌}
-use native.Mathlib.Numerals.{add-one}
+use mathlib.Core.Option.{Option}
+use Prim.Native.Nat.{ℕ, zero, suc, ◌+◌, ◌-◌, ◌<◌, ◌≤◌}
 use native.Mathlib.Omega.{arith}
-use lib.Dec.{eqb, ltb, leb}
-use lib.ListN.{length, replicate, length-replicate}
-use borrow.Author.Tests.{eq-eqb, ne_eqb, lt-ltb, le-ltb, le-leb, lt-leb, leb-true, leb-false}
+use lib.Dec.{ltb, leb}
+use lib.ListN.{length}
+use borrow.Author.Tests.{lt-ltb, le-ltb, le-leb, lt-leb, leb-true, leb-false}
 use Rattle.text.specs.Pick.{within, pick}
 use Rattle.tape.specs.Nodes.{count, kind_at, link_at, is_close}
 use Rattle.refusals.specs.Refusal.{Refusal, refuse, only_if, or_else, first_bad, is_none, bad_node_kind, bad_node_span, broken_links}
-use Rattle.tape.specs.Reading.{bad_length, bad_kind, bad_span, opens_to, good_root, ended, read, tape_refusal, tape_check_refusal}
+use Rattle.tape.specs.Reading.{bad_kind, bad_span, opens_to, good_root, ended, read}
 use Rattle.tape.specs.Inner.{Sized, stacked, refused_or_rest, met_span, span_after, says, Known, Stepped, root_by, left_open, lastly, from_one}
-use Rattle.tape.specs.declared.TapeCheck.{TapeCheck}
 use Rattle.tape.specs.declared.Reading.{Reading}
 use Rattle.refusals.proofs.First.{first_step, first-pass, first-hit, first-end}
 

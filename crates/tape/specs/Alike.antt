@@ -1,5 +1,5 @@
 -- Document 01, module 9: "Two documents begin alike when the shorter's source is a beginning of the longer's, and its nodes from 1 on before the root's link, which are its top-level nodes with all inside them, are the longer's first nodes from 1 on; what the longer adds are its nodes after these, or none; root fields aren't compared, and no MarkerOpen that the longer adds starts at a byte where one of the shorter's starts".
-use Rattle.std.specs.Prelude.{ℕ, ◌+◌, ◌*◌, ◌<◌, ◌≤◌, ◌≡◌, Bool, true, List, ◌++◌}
+use Rattle.std.specs.Prelude.{ℕ, ◌*◌, ◌<◌, ◌≤◌, ◌≡◌, true, List, ◌++◌}
 use Rattle.tape.specs.Nodes.{byte, count, kind_at, start_at, link_at, is_open}
 
 -- without the condition on start offsets. The nodes of t from 1 on before its root's link are its bytes from 16 up to 16 times that link

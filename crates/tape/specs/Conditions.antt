@@ -1,7 +1,7 @@
 -- When each of the numbers 4 to 8 is given, and with which place: "each number has its condition and occurs under no other".
-use Rattle.std.specs.Prelude.{ℕ, zero, suc, ◌+◌, ◌<◌, ◌≤◌, ◌≡◌, Bool, true, false, List, [], ◌∷◌, ◌⊎◌}
+use Rattle.std.specs.Prelude.{ℕ, suc, ◌<◌, ◌≡◌, true, false, List, [], ◌∷◌, ◌⊎◌}
 use Rattle.tape.specs.Nodes.{count}
-use Rattle.tape.specs.Reading.{bad_length, bad_kind, bad_span, good_root, Step, go, stop, step}
+use Rattle.tape.specs.Reading.{bad_length, bad_kind, bad_span, good_root, go, stop, step}
 use Rattle.refusals.specs.Refusal.{broken_links, too_deep, AllGood, First}
 
 -- the reading from node 1 comes to node i with these links awaited, the innermost first

@@ -1,5 +1,5 @@
 -- The meaning of an accepted tape: a forest, read from the order of opens and closes.
-use Rattle.std.specs.Prelude.{ℕ, zero, suc, ◌+◌, ◌-◌, ◌<◌, ◌≤◌, ◌≡◌, Bool, true, false, List, [], ◌∷◌}
+use Rattle.std.specs.Prelude.{ℕ, suc, ◌+◌, ◌-◌, ◌<◌, ◌≤◌, ◌≡◌, Bool, true, false, List, [], ◌∷◌}
 use Rattle.tape.specs.Nodes.{Node, nodes, kind_at, link_at, is_open, is_close, count}
 use Rattle.tape.specs.Reading.{bad_length, bad_kind, bad_span, good_root}
 use Rattle.text.specs.Pick.{pick}

@@ -1,11 +1,10 @@
 -- What the functions inside the crate promise.
-use Rattle.std.specs.Prelude.{ℕ, zero, suc, ◌+◌, ◌-◌, ◌*◌, ◌<◌, ◌≤◌, ◌≡◌, Bool, true, false, not, ◌&&◌, ◌||◌, List, [], ◌∷◌, ◌⊎◌, eqb, length, get_or}
-use Rattle.std.proofs.Math.Option.{Option, some, none}
+use Rattle.std.specs.Prelude.{ℕ, zero, suc, ◌+◌, ◌-◌, ◌*◌, ◌<◌, ◌≤◌, ◌≡◌, Bool, not, ◌&&◌, ◌||◌, List, [], ◌∷◌, ◌⊎◌, eqb, length, get_or}
+use Rattle.std.proofs.Math.Option.{Option, none}
 use Rattle.text.specs.Pick.{pick}
 use Rattle.tape.specs.Nodes.{count, kind_at, link_at, is_close}
 use Rattle.refusals.specs.Refusal.{Refusal, refuse, only_if, or_else, first_bad, bad_node_kind, bad_node_span, broken_links}
 use Rattle.tape.specs.Reading.{bad_kind, bad_span, opens_to, good_root, read, Step, go, stop, opened, closed}
-use Rattle.tape.specs.declared.TapeCheck.{TapeCheck}
 use Rattle.tape.specs.declared.Reading.{Reading}
 
 -- the tape has n nodes, from 1 to 65,535, and no byte more

@@ -1,5 +1,5 @@
 -- Document 01, "Lent lists": "Tape: 1 to 65,535 nodes of 16 bytes, little-endian: kind u8 (0 to 8 in `NodeKind` order), flags u8, marker u16, start, len, link u32."
-use Rattle.std.specs.Prelude.{ℕ, zero, suc, ◌+◌, ◌*◌, ◌/◌, Bool, true, false, ◌||◌, List, [], ◌∷◌, eqb, length, get_or}
+use Rattle.std.specs.Prelude.{ℕ, zero, suc, ◌+◌, ◌*◌, ◌/◌, Bool, ◌||◌, List, [], ◌∷◌, eqb, length, get_or}
 use Rattle.text.specs.Pick.{Part, cut}
 use Rattle.tape.specs.declared.NodeKind.{NodeKind}
 use Rattle.tape.specs.declared.NodeKind.TheVariants.{Root, MarkerOpen, MarkerClose, Chapter, Verse, Text, Attribute, BlockEnd, Error}

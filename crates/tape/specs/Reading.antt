@@ -1,6 +1,6 @@
 -- Numbers 4 to 8. "Each gives number and place"; "Of several nodes the first counts."
-use Rattle.std.specs.Prelude.{ℕ, zero, suc, ◌+◌, ◌-◌, ◌%◌, Bool, true, false, not, ◌&&◌, ◌||◌, List, [], ◌∷◌, eqb, ltb, length}
-use Rattle.std.proofs.Math.Option.{Option, some, none}
+use Rattle.std.specs.Prelude.{ℕ, zero, suc, ◌+◌, ◌-◌, ◌%◌, Bool, not, ◌&&◌, ◌||◌, List, [], ◌∷◌, eqb, ltb, length}
+use Rattle.std.proofs.Math.Option.{Option, none}
 use Rattle.text.specs.Pick.{within, pick}
 use Rattle.text.specs.Characters.{is_boundary}
 use Rattle.tape.specs.Nodes.{count, kind_at, start_at, len_at, link_at, is_close, is_open, root_kind, marker_open_kind, error_kind}

@@ -1,13 +1,13 @@
 -- The part of a text from one place to another, as the definitions of its words give it.
 -- Assumes nothing.
-use mathlib.Core.Path.{◌≡◌, refl, sym, ap, ◌∙◌}
+use mathlib.Core.Path.{◌≡◌, ◌∙◌}
 use mathlib.Core.List.{List}
-use Prim.Native.Nat.{ℕ, ◌+◌, ◌-◌, ◌≤◌}
+use Prim.Native.Nat.{ℕ, ◌+◌, ◌-◌}
 use native.Mathlib.Nat.{zero-add}
 use native.Mathlib.Omega.{arith}
 use lib.ListN.{length, take, drop, length-drop}
 use lib.Seq.{take_all}
-use Rattle.text.specs.Pick.{Part, end, cut}
+use Rattle.text.specs.Pick.{end, cut}
 use Rattle.text.specs.Blank.{blank}
 use Rattle.text.specs.Characters.{chars, find}
 use Rattle.text.specs.Words.{not_blank, trim_start, kept, trim, word_from}

@@ -1,17 +1,15 @@
 -- The check accepts exactly the texts that are made of rows of Table 3-7, and its place is where the first sequence begins that is none.
 -- Assumes nothing.
-use mathlib.Core.Path.{◌≡◌, refl, sym, ap, subst, ◌∙◌}
+use mathlib.Core.Path.{◌≡◌, refl, sym, ap, ◌∙◌}
 use mathlib.Core.Bool.{Bool, true, false, false≢true}
 use mathlib.Core.List.{List, [], ◌∷◌, ◌++◌, append-nil, append_assoc, Memᴰ}
 use mathlib.Core.Logic.{◌↔◌}
 use mathlib.Core.Option.{Option, some, none}
-use Prim.Native.Nat.{ℕ, zero, suc, ◌+◌, ◌-◌, ◌<◌, ◌≤◌}
+use Prim.Native.Nat.{ℕ, zero, suc, ◌+◌, ◌<◌, ◌≤◌}
 use native.Mathlib.Nat.{add-zero, zero-add, not-suc-le-zero}
 use native.Mathlib.Omega.{arith}
-use lib.Dec.{leb}
-use lib.ListN.{length, get_or, take, drop, length-append, length-drop, take-append-drop}
-use lib.Seq.{drop-append_seam, take-append_seam, drop-drop, take-add, length-take-le}
-use borrow.Author.Tests.{leb-true}
+use lib.ListN.{length, take, drop, length-append, length-drop, take-append-drop}
+use lib.Seq.{drop-append_seam, drop-drop, take-add, length-take-le}
 use Rattle.text.specs.Pick.{Range, within, pick}
 use Rattle.text.specs.Utf8.{begins, width_by, table3_7, width_of, scan, first_ill_formed, fits, Made, nothing, more, FirstIllFormed}
 use Rattle.text.proofs.Induction.{by_length}

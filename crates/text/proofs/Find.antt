@@ -4,7 +4,7 @@ use mathlib.Core.Path.{◌≡◌, refl, sym, ap, ◌∙◌}
 use mathlib.Core.Bool.{Bool, true, false, not, false≢true, and-false}
 use mathlib.Core.List.{List, [], ◌∷◌, ◌++◌, Memᴰ}
 use mathlib.Core.Logic.{inl}
-use Prim.Native.Nat.{ℕ, zero, suc, ◌+◌, ◌-◌, ◌*◌, ◌%◌, ◌<◌, ◌≤◌}
+use Prim.Native.Nat.{ℕ, zero, suc, ◌+◌, ◌*◌, ◌%◌, ◌<◌, ◌≤◌}
 use native.Mathlib.Nat.{not-suc-le-zero, le_of_suc-le-suc, zero-add}
 use native.Mathlib.Decide.{dec_lt}
 use native.Mathlib.Omega.{arith}
@@ -18,13 +18,13 @@ use Rattle.text.specs.Utf8.{begins, table3_7, width_of, fits, decoded, decode}
 use Rattle.text.specs.Blank.{blank}
 use Rattle.text.specs.Inner.{blank_is}
 use Rattle.text.specs.Number.{digit}
-use Rattle.text.specs.Characters.{chars, bytes_before, find, find_byte}
-use Rattle.text.proofs.Rows.{within-lo, within-hi, row-short}
+use Rattle.text.specs.Characters.{bytes_before, find, find_byte}
+use Rattle.text.proofs.Rows.{within-lo, within-hi}
 use Rattle.text.proofs.Blank.{ascii-not-blank, blank-key}
 use Rattle.text.proofs.Scan.{ascii-one}
 use Rattle.text.proofs.Decode.{decode-1, decode-3, decode-width}
 use Rattle.text.proofs.Chars.{chars-nil, chars-cons, tested-by, tested, past, stops}
-use Rattle.text.proofs.Exact.{Found, found, begins-fits, fits-length}
+use Rattle.text.proofs.Exact.{found, begins-fits, fits-length}
 use Rattle.text.proofs.Shape.{row-further}
 use Rattle.text.proofs.Induction.{by_length}
 use Rattle.text.proofs.Bool.{and_left, and_right}

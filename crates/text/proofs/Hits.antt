@@ -1,9 +1,9 @@
 -- What stands where a search among characters ends, and a text of which nothing is left when it is trimmed.
 -- Assumes nothing.
-use mathlib.Core.Path.{◌≡◌, refl, sym, ap, ◌∙◌}
-use mathlib.Core.Bool.{Bool, true, false, not}
+use mathlib.Core.Path.{◌≡◌, refl, sym, ◌∙◌}
+use mathlib.Core.Bool.{Bool, true, false}
 use mathlib.Core.List.{List, [], ◌∷◌}
-use Prim.Native.Nat.{ℕ, zero, suc, ◌+◌, ◌-◌, ◌<◌, ◌≤◌}
+use Prim.Native.Nat.{ℕ, zero, suc, ◌+◌, ◌<◌, ◌≤◌}
 use native.Mathlib.Nat.{not-suc-le-zero, zero-add}
 use native.Mathlib.Decide.{dec_lt}
 use native.Mathlib.Omega.{arith}
@@ -14,7 +14,7 @@ use borrow.Author.Tests.{eq-eqb, ne_eqb, not-true}
 use Rattle.text.specs.Utf8.{decode}
 use Rattle.text.specs.Blank.{blank}
 use Rattle.text.specs.Characters.{chars, bytes_before, find}
-use Rattle.text.specs.Words.{not_blank, kept_by, kept, trim, blank_text}
+use Rattle.text.specs.Words.{not_blank, kept, trim, blank_text}
 use Rattle.text.proofs.Induction.{by_length}
 use Rattle.text.proofs.Chars.{chars-nil, chars-cons, chars-at, in-text, past, stops, ends}
 use Rattle.text.proofs.Decode.{decode-width}

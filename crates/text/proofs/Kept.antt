@@ -1,17 +1,15 @@
 -- How many bytes a text has up to the end of its last character that isn't blank: from the front, and from the back where the last byte is ASCII.
 -- Assumes nothing.
 use mathlib.Core.Path.{◌≡◌, refl, sym, ap, ◌∙◌}
-use mathlib.Core.Bool.{Bool, true, false, not, ◌&&◌}
+use mathlib.Core.Bool.{Bool, true, false, ◌&&◌}
 use mathlib.Core.List.{List, [], ◌∷◌, ◌++◌}
 use Prim.Native.Nat.{ℕ, zero, suc, ◌+◌, ◌-◌, ◌<◌, ◌≤◌, zero-le}
-use native.Mathlib.Nat.{add-zero, zero-add, not-suc-le-zero}
-use native.Mathlib.Numerals.{add-one}
+use native.Mathlib.Nat.{add-zero, zero-add}
 use native.Mathlib.Omega.{arith}
-use lib.Dec.{leb}
-use lib.ListN.{length, get_or, take, drop, length-drop, length-append, drop_of_length-le, get_or-append}
+use lib.ListN.{length, get_or, take, drop, length-drop, drop_of_length-le, get_or-append}
 use lib.Seq.{drop-append-le, take-suc, take-length, length-take-le}
-use borrow.Author.Tests.{lt-leb, leb-true, leb-false}
-use Rattle.text.specs.Pick.{Range, range, within, pick}
+use borrow.Author.Tests.{lt-leb}
+use Rattle.text.specs.Pick.{Range, within, pick}
 use Rattle.text.specs.declared.Decoded.{Decoded}
 use Rattle.text.specs.Utf8.{begins, table3_7, width_by, width_of, decoded, decode}
 use Rattle.text.specs.Blank.{blank}

@@ -1,6 +1,6 @@
 -- The further bytes of a sequence lie from 80 to BF, and its first byte does not.
 -- Assumes nothing.
-use mathlib.Core.Path.{◌≡◌, refl, sym, ap, ◌∙◌}
+use mathlib.Core.Path.{◌≡◌, refl}
 use mathlib.Core.Bool.{Bool, true, false, false≢true, ◌&&◌, ◌||◌, and-false}
 use mathlib.Core.List.{List, [], ◌∷◌, Memᴰ}
 use Prim.Native.Nat.{ℕ, zero, suc, ◌<◌, ◌≤◌}
@@ -10,7 +10,7 @@ use lib.Dec.{leb, ltb}
 use lib.ListN.{length, get_or}
 use borrow.Author.Tests.{le-leb, lt-leb, leb-true, ltb-true}
 use Rattle.text.specs.Pick.{Range, within}
-use Rattle.text.specs.Utf8.{table3_7, fits, Made, nothing, more}
+use Rattle.text.specs.Utf8.{table3_7, fits}
 use Rattle.text.proofs.Rows.{within-lo, within-hi, every, every_in}
 use Rattle.text.proofs.Bool.{and_left, and_right}
 

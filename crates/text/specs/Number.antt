@@ -1,5 +1,5 @@
 -- Document 01, module 1: "`parse` to u32: one optional `+`, then one or more digits, value at most 4,294,967,295."
-use Rattle.std.specs.Prelude.{ℕ, ◌+◌, ◌-◌, ◌*◌, Bool, true, false, not, ◌&&◌, List, [], ◌∷◌, leb, eqb}
+use Rattle.std.specs.Prelude.{ℕ, ◌+◌, ◌-◌, ◌*◌, Bool, true, ◌&&◌, List, [], ◌∷◌, leb, eqb}
 use Rattle.std.proofs.Math.Option.{Option, some, none}
 use Rattle.text.specs.Pick.{within, pick}
 use Rattle.text.specs.declared.Parsed.{Parsed}

@@ -1,5 +1,4 @@
 -- `attachment::is_plain_text` meets its contract.
-use Prim.Native.Nat.{◌-◌}
 use mathlib.Core.Path.{refl, sym, ◌∙◌}
 use native.Mathlib.Omega.{arith}
 use Rattle.attachment.proofs.Steps.{plain-not, plain_end, plain-going}

@@ -1,5 +1,5 @@
 -- `attributes::key_end` meets its contract.
-use Prim.Native.Nat.{◌<◌, ◌≤◌, ◌-◌, ◌+◌}
+use Prim.Native.Nat.{◌<◌, ◌≤◌, ◌+◌}
 use lib.ListN.{length, get_or, drop, length-drop}
 use mathlib.Core.Bool.{Bool}
 use mathlib.Core.Path.{◌≡◌, refl, sym, ap, ◌∙◌}

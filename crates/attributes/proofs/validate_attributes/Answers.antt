@@ -1,5 +1,5 @@
 -- `attributes::validate_attributes` meets its contract.
-use Prim.Native.Nat.{◌-◌, ◌<◌}
+use Prim.Native.Nat.{◌<◌}
 use native.Mathlib.Omega.{arith}
 use Rattle.attributes.proofs.Whole.{along-start, along-end, along-room, along-next}
 use Rattle.cursor.proofs.Runs.{run-spanned, run-below, past-later, past-inside}

@@ -1,5 +1,4 @@
 -- `buffer::put` meets its contract.
-use Prim.Native.Nat.{◌-◌}
 use native.Mathlib.Omega.{arith}
 use mathlib.Core.Path.{refl}
 use Rattle.buffer.proofs.Writing.{writing_start, writing-on, writing-done}

@@ -1,5 +1,4 @@
 -- `carried::is_border` meets its contract.
-use Prim.Native.Nat.{◌-◌}
 use native.Mathlib.Omega.{arith}
 use Rattle.cursor.proofs.Runs.{run-below, past-later}
 use Rattle.tape.proofs.OneNumber.{some-nodes}

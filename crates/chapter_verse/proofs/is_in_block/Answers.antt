@@ -1,5 +1,5 @@
 -- `chapter_verse::is_in_block` meets its contract. The invariant: what is found so far, with what is known of the words before the block, is what the words up to here have.
-use Prim.Native.Nat.{ℕ, ◌+◌, ◌-◌}
+use Prim.Native.Nat.{ℕ, ◌+◌}
 use native.Mathlib.Omega.{arith}
 use native.Mathlib.Nat.{add-zero}
 use mathlib.Core.Path.{◌≡◌, refl, ap, ◌∙◌}

@@ -1,5 +1,5 @@
 -- `chapter_verse::is_seen` meets its contract. The invariant: the words that are left have the number exactly if all have it.
-use Prim.Native.Nat.{◌-◌, ◌≤◌}
+use Prim.Native.Nat.{◌≤◌}
 use mathlib.Core.Path.{◌≡◌}
 use lib.ListN.{length}
 use Rattle.attachment.specs.Attached.{among}

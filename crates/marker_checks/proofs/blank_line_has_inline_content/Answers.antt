@@ -1,5 +1,4 @@
 -- `marker_checks::blank_line_has_inline_content` meets its contract.
-use Prim.Native.Nat.{◌-◌}
 use mathlib.Core.Path.{refl, sym, ◌∙◌}
 use native.Mathlib.Omega.{arith}
 use Rattle.cursor.proofs.Runs.{run-below, run-spanned, past-later}

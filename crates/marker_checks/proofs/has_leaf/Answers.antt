@@ -1,6 +1,4 @@
 -- `marker_checks::has_leaf` meets its contract.
-use Prim.Native.Nat.{◌-◌}
-use mathlib.Core.Bool.{false}
 use mathlib.Core.Path.{refl, sym, ◌∙◌}
 use native.Mathlib.Omega.{arith}
 use Rattle.cursor.proofs.Runs.{run-below, run-spanned, past-later}

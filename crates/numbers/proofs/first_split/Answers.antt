@@ -1,5 +1,4 @@
 -- `numbers::first_split` meets its contract.
-use Prim.Native.Nat.{◌-◌}
 use mathlib.Core.Path.{refl, sym, ◌∙◌}
 use Rattle.numbers.specs.Label.{bad_label}
 use Rattle.numbers.proofs.Gathered.{among-hit, among-pass, among-end}

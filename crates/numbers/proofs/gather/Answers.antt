@@ -1,5 +1,5 @@
 -- `numbers::gather` meets its contract. The invariant: those kept so far, followed by those of the nodes that are left, are all.
-use Prim.Native.Nat.{◌-◌, ◌<◌}
+use Prim.Native.Nat.{◌<◌}
 use lib.ListN.{length, length-set}
 use mathlib.Core.Path.{refl, sym, ap, ◌∙◌}
 use native.Mathlib.Omega.{arith}

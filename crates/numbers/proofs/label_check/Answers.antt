@@ -1,5 +1,4 @@
 -- `numbers::label_check` meets its contract. The invariant: a search from here on finds what the whole search does.
-use Prim.Native.Nat.{◌-◌}
 use mathlib.Core.Path.{refl, sym, ap, ◌∙◌}
 use native.Mathlib.Omega.{arith}
 use Rattle.refusals.specs.Refusal.{split_label}

@@ -1,7 +1,6 @@
 -- `rows::validate_table_row` meets its contract.
 use Rattle.findings.specs.Finding.{finding_of}
 use Rattle.rows.specs.Cells.{range_of, cell_of}
-use Prim.Native.Nat.{◌-◌}
 use mathlib.Core.Path.{refl, sym, ap, ◌∙◌}
 use native.Mathlib.Omega.{arith}
 use Rattle.cursor.proofs.Runs.{run-below, run-spanned, past-later, past-inside}

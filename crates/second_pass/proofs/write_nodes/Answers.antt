@@ -1,5 +1,5 @@
 -- `second_pass::write_nodes` meets its contract. The loop's measure is what is left of the text.
-use Prim.Native.Nat.{ℕ, ◌-◌}
+use Prim.Native.Nat.{ℕ}
 use native.Mathlib.Omega.{arith}
 use mathlib.Core.Path.{refl, ◌∙◌}
 use mathlib.Core.List.{List, []}

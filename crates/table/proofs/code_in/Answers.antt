@@ -1,5 +1,4 @@
 -- `table::code_in` meets its contract. The invariant: the codes from number k on give what all the codes give.
-use Prim.Native.Nat.{◌-◌}
 use mathlib.Core.Path.{refl, sym, ◌∙◌}
 use native.Mathlib.Omega.{arith}
 use Rattle.table.proofs.Words.{code-hit, code-miss, code-none, code_at, code-end}

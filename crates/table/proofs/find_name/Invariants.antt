@@ -1,5 +1,4 @@
 -- `table::find_name` meets its contract. The invariant: the search stands on the chain of the name's bucket, and the entries that it has not passed give what all the entries give.
-use Prim.Native.Nat.{◌-◌}
 use Rattle.table.specs.Inner.{Indexed, Chained}
 use Rattle.table.proofs.Buckets.{OnChain, left_of}
 use Rattle.table.proofs.find_name.Given as goal

@@ -1,5 +1,5 @@
 -- `table::index` meets its contract. The invariant: what is left of the text gives what the whole text gives.
-use Prim.Native.Nat.{◌-◌, ◌<◌}
+use Prim.Native.Nat.{◌<◌}
 use lib.ListN.{length-set}
 use mathlib.Core.Path.{refl, sym, subst, ◌∙◌}
 use native.Mathlib.Omega.{arith}

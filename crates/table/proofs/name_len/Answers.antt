@@ -1,5 +1,4 @@
 -- `table::name_len` meets its contract. The invariant: what is to be found lies as far from the place reached as it does from the start.
-use Prim.Native.Nat.{◌-◌}
 use mathlib.Core.Bool.{not}
 use mathlib.Core.Path.{sym, ap, ◌∙◌}
 use native.Mathlib.Nat.{zero-add}

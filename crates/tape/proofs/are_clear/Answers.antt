@@ -1,6 +1,6 @@
 -- `tape::are_clear` meets its contract. The invariant: if what is left is clear, the whole is; and the last span ends at a good place.
-use Prim.Native.Nat.{◌-◌, ◌<◌}
-use mathlib.Core.Bool.{true, false≢true}
+use Prim.Native.Nat.{◌<◌}
+use mathlib.Core.Bool.{false≢true}
 use mathlib.Core.Path.{refl}
 use native.Mathlib.Omega.{arith}
 use borrow.Author.Tests.{not-false}

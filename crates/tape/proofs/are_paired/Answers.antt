@@ -1,5 +1,4 @@
 -- `tape::are_paired` meets its contract: the invariant is `Pairing`.
-use Prim.Native.Nat.{◌-◌}
 use mathlib.Core.Bool.{false≢true}
 use mathlib.Core.Path.{refl}
 use Rattle.tape.specs.Nodes.{count}

@@ -1,5 +1,4 @@
 -- `tape::close_step` meets its contract.
-use Prim.Native.Nat.{◌-◌}
 use native.Mathlib.Omega.{arith}
 use Rattle.tape.proofs.Stack.{close-root, close-none, close-top, close_other}
 use Rattle.tape.proofs.close_step.Goals as goal

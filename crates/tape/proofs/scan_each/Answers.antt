@@ -1,5 +1,4 @@
 -- `tape::scan_each` meets its contract: the invariant is `Going`.
-use Prim.Native.Nat.{◌-◌}
 use mathlib.Core.Path.{refl, sym, ◌∙◌}
 use native.Mathlib.Omega.{arith}
 use Rattle.tape.proofs.Whole.{going_start, going-in, going_on, going-bad, going-last, kind-step}

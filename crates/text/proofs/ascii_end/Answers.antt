@@ -1,6 +1,6 @@
 -- `text::ascii_end` meets its contract. Both loops have the same invariant: what is passed is ASCII.
 use mathlib.Core.Path.{refl}
-use Prim.Native.Nat.{◌+◌, ◌-◌}
+use Prim.Native.Nat.{◌+◌}
 use native.Mathlib.Omega.{arith}
 use Rattle.text.proofs.Ascii.{none, one, joined}
 use Rattle.text.proofs.ascii_end.Goals as goal

@@ -1,5 +1,4 @@
 -- `text::digits_at` meets its contract. The invariant: the number so far, and the digits from the place on, give what all the digits give.
-use Prim.Native.Nat.{◌-◌}
 use borrow.Author.Tests.{not-true, not-false}
 use lib.ListN.{get_or}
 use mathlib.Core.Path.{sym, ◌∙◌}

@@ -1,5 +1,4 @@
 -- `text::equal_from` meets its contract. The invariant: what is left of the two lists is equal exactly if they are from the place on.
-use Prim.Native.Nat.{◌-◌}
 use mathlib.Core.Path.{refl, sym, ◌∙◌}
 use native.Mathlib.Omega.{arith}
 use Rattle.text.proofs.Blocks.{equal-past, equal-stops, equal-ends}

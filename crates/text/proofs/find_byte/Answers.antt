@@ -1,5 +1,4 @@
 -- `text::find_byte` meets its contract. The invariant: what is to be found lies as far from the place reached as it does from the start.
-use Prim.Native.Nat.{◌-◌}
 use borrow.Author.Tests.{eq-eqb, ne_eqb}
 use lib.Dec.{eqb}
 use mathlib.Core.Path.{sym, ◌∙◌}

@@ -1,5 +1,5 @@
 -- `text::find_from` meets its contract. The invariant: what is to be found lies as far from the place reached as it does from the start.
-use Prim.Native.Nat.{◌-◌, ◌+◌}
+use Prim.Native.Nat.{◌+◌}
 use borrow.Author.Tests.{not-true, not-false}
 use lib.ListN.{drop}
 use mathlib.Core.Bool.{Bool}

@@ -1,5 +1,4 @@
 -- `text::kept_forward` meets its contract. The invariant: what is kept of the first i bytes, and what is kept of the rest, give what is kept of all.
-use Prim.Native.Nat.{◌-◌}
 use borrow.Author.Tests.{not-true, not-false}
 use mathlib.Core.Path.{sym, ap, ◌∙◌}
 use native.Mathlib.Nat.{zero-add}

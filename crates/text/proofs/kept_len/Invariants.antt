@@ -1,5 +1,5 @@
 -- `text::kept_len` meets its contract. The invariant: what is kept of the first e bytes is what is kept of all.
-use Prim.Native.Nat.{◌≤◌, ◌-◌}
+use Prim.Native.Nat.{◌≤◌}
 use lib.ListN.{length, take}
 use mathlib.Core.Path.{◌≡◌}
 use Rattle.text.specs.Characters.{chars}

@@ -1,5 +1,5 @@
 -- `text::search_from` meets its contract. The invariant: what is to be found lies as far from the place reached as it does from the start.
-use Prim.Native.Nat.{◌≤◌, ◌-◌, ◌+◌}
+use Prim.Native.Nat.{◌≤◌, ◌+◌}
 use lib.ListN.{length, drop, get_or}
 use mathlib.Core.Bool.{Bool}
 use mathlib.Core.Path.{◌≡◌, refl, sym, ap, ◌∙◌}

@@ -1,5 +1,4 @@
 -- `text::utf8_check` meets its contract. The invariant: what the text gives is what the scan gives from the place on.
-use Prim.Native.Nat.{◌-◌}
 use mathlib.Core.Path.{refl, sym, ◌∙◌}
 use native.Mathlib.Omega.{arith}
 use Rattle.text.proofs.Scan.{stops, ends}
