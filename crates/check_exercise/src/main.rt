@@ -9,6 +9,7 @@ ghost use Rattle.table.specs.Inner.{Indexed};
 ghost use Rattle.findings.specs.Written.{whole_records};
 ghost use Rattle.listing.specs.Listing.{is_too_large};
 
+use std::io;
 use validate::{Answer, InputCheck};
 
 // A line or a column for each place of a source, its end among them.
@@ -25,14 +26,15 @@ fn piece_room() -> [u8; 66048]
     [0; 66048]
 }
 
-fn write_head(answer: Answer) {
+fn write_head(rt: &impl Print, answer: Answer) -> io::Result<()> {
     let mut out = [0u8; 256];
     let end = listing::put_head(&mut out, answer);
-    exercise::write(&out, end);
+    exercise::write(rt, &out, end)
 }
 
 // Writes the lines of the held findings, as many at a time as have room.
 fn write_findings<'a>(
+    rt: &impl Print,
     table: &'a [u8],
     index: &[u64],
     entries: usize,
@@ -40,13 +42,13 @@ fn write_findings<'a>(
     tape: &[u8],
     list: &[u64],
     held: usize,
-)
+) -> io::Result<()>
     requires { (Indexed table.now index.now entries) × (Accepted source.now tape.now) × (length source.now ≤ 65536) × (held ≤ whole_records list.now) × (first_ill_formed source.now ≡ none) }
 {
     let mut lines = places();
     let mut columns = places();
     listing::lines_and_columns(source, &mut lines, &mut columns);
-    let mut text = io::large_buffer();
+    let mut text = [0u8; 65536];
     let mut out = piece_room();
     let mut k: usize = 0;
     while k < held {
@@ -54,26 +56,28 @@ fn write_findings<'a>(
             table, index, entries, source, tape, list, held, k, &lines, &columns, &mut text,
             &mut out,
         );
-        exercise::write(&out, piece.end);
+        exercise::write(rt, &out, piece.end)?;
         k = piece.next;
     }
+    Ok(())
 }
 
 // Writes the listing. The input is checked a second time for the table's index, which the check doesn't give.
-fn run<'a>(table: &'a [u8], source: &'a [u8], tape: &[u8])
+fn run<'a>(rt: &impl Print, table: &'a [u8], source: &'a [u8], tape: &[u8]) -> io::Result<()>
     requires { is_too_large table.now source.now tape.now ≡ false }
 {
     let mut seen = exercise::chapters_seen();
     let mut list = exercise::findings_list();
     let answer = exercise::checked(table, source, tape, &mut seen, &mut list);
-    write_head(answer);
+    write_head(rt, answer)?;
     let mut index = [0u64; 512];
     let InputCheck::Accepted(entries) = validate::check_input(
         table, &mut index, source, tape, 65535, 65535,
     ) else {
-        return;
+        return Ok(());
     };
     write_findings(
+        rt,
         table,
         &index,
         entries,
@@ -81,19 +85,18 @@ fn run<'a>(table: &'a [u8], source: &'a [u8], tape: &[u8])
         tape,
         &list,
         listing::held(answer) as usize,
-    );
+    )
 }
 
-fn main() {
+fn main(rt: HostRuntime) -> io::Result<()> {
     let mut table = exercise::file_room();
     let mut source = exercise::file_room();
     let mut nodes = exercise::file_room();
-    let a = exercise::read(b"table.txt", &mut table);
-    let b = exercise::read(b"source.usfm", &mut source);
-    let c = exercise::read(b"nodes.bin", &mut nodes);
+    let a = exercise::read(&rt, b"table.txt", &mut table);
+    let b = exercise::read(&rt, b"source.usfm", &mut source);
+    let c = exercise::read(&rt, b"nodes.bin", &mut nodes);
     if exercise::is_too_large(a, b, c) {
-        exercise::write_too_large();
-        return;
+        return exercise::write_too_large(&rt);
     }
-    run(&table[..a], &source[..b], &nodes[..c]);
+    run(&rt, &table[..a], &source[..b], &nodes[..c])
 }

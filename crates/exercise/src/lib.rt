@@ -9,7 +9,10 @@ ghost use Rattle.text.specs.Pick.{any_over};
 ghost use Rattle.listing.specs.Listing.{largest_file, most_held};
 
 use definition::OpenStart;
-use libc::STDOUT_FILENO;
+use std::fs::File;
+use std::io::Read;
+use std::rt::Files;
+use std::{io, str};
 use validate::Answer;
 
 // The most bytes that a file may have.
@@ -37,35 +40,31 @@ pub fn chapters_seen() -> [u32; 4096]
 }
 
 // How many bytes an open file has, up to the list's length; none where a read fails.
-fn read_open(fd: i32, file: &mut [u8]) -> usize
+fn read_open(open: &mut impl Read, file: &mut [u8]) -> usize
     ensures { result ≤ length file.new }
 {
     let mut done: usize = 0;
     while done < file.len() {
-        let got = libc::read(fd, &mut file[done..]);
-        if got < 0 {
-            return 0;
+        match open.read(&mut file[done..]) {
+            Ok(0) => return done,
+            Ok(more) => done += more,
+            Err(_) => return 0,
         }
-        let more = io::count(got, &file[done..]);
-        if more == 0 {
-            return done;
-        }
-        done += more;
     }
     done
 }
 
-// How many bytes a file has, up to the list's length; none where it can't be read.
-pub fn read(path: &[u8], file: &mut [u8]) -> usize
+// How many bytes a file has, up to the list's length; none where it can't be read. A path that isn't UTF-8 can't be.
+pub fn read(rt: &impl Files, path: &[u8], file: &mut [u8]) -> usize
     ensures { result ≤ length file.new }
 {
-    let fd = os::open_read(path);
-    if fd < 0 {
+    let Ok(name) = str::from_utf8(path) else {
         return 0;
+    };
+    match File::open(rt, name) {
+        Ok(mut open) => read_open(&mut open, file),
+        Err(_) => 0,
     }
-    let n = read_open(fd, file);
-    libc::close(fd);
-    n
 }
 
 // Whether a file is too large, by how many bytes of each were read.
@@ -82,16 +81,16 @@ pub fn is_too_large(table: usize, source: usize, nodes: usize) -> bool
 }
 
 // Writes a list up to a place, where its text ends, to standard output.
-pub fn write(out: &[u8], end: usize)
+pub fn write(rt: &impl Print, out: &[u8], end: usize) -> io::Result<()>
     requires { end ≤ length out.now }
 {
-    io::write_all(STDOUT_FILENO, &out[..end]);
+    rt.write_all(&out[..end])
 }
 
-pub fn write_too_large() {
+pub fn write_too_large(rt: &impl Print) -> io::Result<()> {
     let mut out = [0u8; 256];
     let end = listing::put_too_large(&mut out, 0);
-    write(&out, end);
+    write(rt, &out, end)
 }
 
 // The check, with open starts for 4,096 nodes, and with lists that hold what the listing asks for.

@@ -4,7 +4,9 @@
 ghost use Rattle.std.specs.Prelude.{◌≡◌, false};
 ghost use Rattle.listing.specs.Listing.{is_too_large};
 
-fn run(table: &[u8], source: &[u8], tape: &[u8])
+use std::io;
+
+fn run(rt: &impl Print, table: &[u8], source: &[u8], tape: &[u8]) -> io::Result<()>
     requires { is_too_large table.now source.now tape.now ≡ false }
 {
     let mut seen = exercise::chapters_seen();
@@ -12,19 +14,18 @@ fn run(table: &[u8], source: &[u8], tape: &[u8])
     let answer = exercise::checked(table, source, tape, &mut seen, &mut list);
     let mut out = [0u8; 256];
     let end = mark::put_mark(&mut out, mark::mark_of(answer));
-    exercise::write(&out, end);
+    exercise::write(rt, &out, end)
 }
 
-fn main() {
+fn main(rt: HostRuntime) -> io::Result<()> {
     let mut table = exercise::file_room();
     let mut source = exercise::file_room();
     let mut nodes = exercise::file_room();
-    let a = exercise::read(b"table.txt", &mut table);
-    let b = exercise::read(b"source.usfm", &mut source);
-    let c = exercise::read(b"nodes.bin", &mut nodes);
+    let a = exercise::read(&rt, b"table.txt", &mut table);
+    let b = exercise::read(&rt, b"source.usfm", &mut source);
+    let c = exercise::read(&rt, b"nodes.bin", &mut nodes);
     if exercise::is_too_large(a, b, c) {
-        exercise::write_too_large();
-        return;
+        return exercise::write_too_large(&rt);
     }
-    run(&table[..a], &source[..b], &nodes[..c]);
+    run(&rt, &table[..a], &source[..b], &nodes[..c])
 }

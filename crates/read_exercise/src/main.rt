@@ -4,6 +4,8 @@
 ghost use Rattle.std.specs.Prelude.{◌≡◌, false, [], length};
 ghost use Rattle.listing.specs.Listing.{is_too_large};
 
+use std::io;
+
 // A tape of 65,537 nodes: a source that isn't too large has no more.
 fn tape_room() -> [u8; 1048592]
     ensures { 1048592 ≡ length result }
@@ -11,22 +13,21 @@ fn tape_room() -> [u8; 1048592]
     [0; 1048592]
 }
 
-fn run(table: &[u8], source: &[u8])
+fn run(rt: &impl Print, table: &[u8], source: &[u8]) -> io::Result<()>
     requires { is_too_large table.now source.now [] ≡ false }
 {
     let mut nodes = tape_room();
     let end = reader::put_output(table, source, &mut nodes);
-    exercise::write(&nodes, end);
+    exercise::write(rt, &nodes, end)
 }
 
-fn main() {
+fn main(rt: HostRuntime) -> io::Result<()> {
     let mut table = exercise::file_room();
     let mut source = exercise::file_room();
-    let a = exercise::read(b"table.txt", &mut table);
-    let b = exercise::read(b"source.usfm", &mut source);
+    let a = exercise::read(&rt, b"table.txt", &mut table);
+    let b = exercise::read(&rt, b"source.usfm", &mut source);
     if exercise::is_too_large(a, b, 0) {
-        exercise::write_too_large();
-        return;
+        return exercise::write_too_large(&rt);
     }
-    run(&table[..a], &source[..b]);
+    run(&rt, &table[..a], &source[..b])
 }

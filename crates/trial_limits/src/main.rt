@@ -7,7 +7,7 @@ ghost use Rattle.definition.specs.Outcome.{answer, list_after, repeated, no_star
 ghost use Rattle.validate.specs.Entry.{answer_of, lent};
 
 use definition::OpenStart;
-use libc::STDOUT_FILENO;
+use std::io;
 use validate::{Answer, Report};
 
 // Places in the table of `main`.
@@ -122,32 +122,32 @@ fn write_entries(table: &mut [u8]) {
     }
 }
 
-fn write(s: &[u8]) {
-    io::write_all(STDOUT_FILENO, s);
+fn write(rt: &impl Print, s: &[u8]) -> io::Result<()> {
+    rt.write_all(s)
 }
 
-fn counted(n: usize, what: &[u8]) {
-    io::print_decimal(STDOUT_FILENO, n as u64);
-    write(what);
+fn counted(rt: &impl Print, n: usize, what: &[u8]) -> io::Result<()> {
+    rt.print(n)?;
+    write(rt, what)
 }
 
-fn named(what: &[u8], n: u64) {
-    write(what);
-    io::print_decimal(STDOUT_FILENO, n);
+fn named(rt: &impl Print, what: &[u8], n: u64) -> io::Result<()> {
+    write(rt, what)?;
+    rt.print(n)
 }
 
-fn turned_back(number: u64, place: u64) {
-    named(b"number ", number);
-    named(b" at ", place);
-    write(b"\n");
+fn turned_back(rt: &impl Print, number: u64, place: u64) -> io::Result<()> {
+    named(rt, b"number ", number)?;
+    named(rt, b" at ", place)?;
+    write(rt, b"\n")
 }
 
-fn report(answer: &[u8], r: Report) {
-    write(answer);
-    named(b", total ", r.total);
-    named(b", written ", r.written);
-    named(b", verses ", r.verses);
-    write(b"\n");
+fn report(rt: &impl Print, answer: &[u8], r: Report) -> io::Result<()> {
+    write(rt, answer)?;
+    named(rt, b", total ", r.total)?;
+    named(rt, b", written ", r.written)?;
+    named(rt, b", verses ", r.verses)?;
+    write(rt, b"\n")
 }
 
 fn first(list: &[u8], end: usize) -> &[u8]
@@ -177,84 +177,106 @@ fn checked(table: &[u8], source: &[u8], nodes: &[u8], seen: &mut [u32], list: &m
 }
 
 // The check's answer, and how many findings it wrote.
-fn answer(table: &[u8], source: &[u8], nodes: &[u8], list: &mut [u64]) -> u64 {
+fn answer(
+    rt: &impl Print,
+    table: &[u8],
+    source: &[u8],
+    nodes: &[u8],
+    list: &mut [u64],
+) -> io::Result<u64> {
     let mut seen = chapters();
     match checked(table, source, nodes, &mut seen, list) {
         Answer::Refused(number, place) => {
-            turned_back(number, place);
-            0
+            turned_back(rt, number, place)?;
+            Ok(0)
         }
         Answer::Checked(r) => {
-            report(b"checked", r);
-            r.written
+            report(rt, b"checked", r)?;
+            Ok(r.written)
         }
         Answer::Cut(r) => {
-            report(b"cut", r);
-            r.written
+            report(rt, b"cut", r)?;
+            Ok(r.written)
         }
     }
 }
 
 // The eight words of a finding.
-fn finding(list: &[u64], from: usize)
+fn finding(rt: &impl Print, list: &[u64], from: usize) -> io::Result<()>
     requires { from + 8 ≤ length list.now }
 {
     let mut j: usize = 0;
     while j < 8 {
         if 0 < j {
-            write(b" ");
+            write(rt, b" ")?;
         }
-        io::print_decimal(STDOUT_FILENO, list[from + j]);
+        rt.print(list[from + j])?;
         j += 1;
     }
-    write(b"\n");
+    write(rt, b"\n")
 }
 
-fn findings(list: &[u64], count: u64) {
+fn findings(rt: &impl Print, list: &[u64], count: u64) -> io::Result<()> {
     let mut i: usize = 0;
     while i < list.len() / 8 {
         if count <= i as u64 {
-            return;
+            return Ok(());
         }
-        finding(list, 8 * i);
+        finding(rt, list, 8 * i)?;
         i += 1;
     }
+    Ok(())
 }
 
-fn flat(table: &[u8], nodes: &mut [u8], n: usize, list: &mut [u64])
+fn flat(
+    rt: &impl Print,
+    table: &[u8],
+    nodes: &mut [u8],
+    n: usize,
+    list: &mut [u64],
+) -> io::Result<()>
     requires { (n ≤ 65536) × (16 * n ≤ length nodes.old) }
 {
     write_flat(nodes, n);
-    counted(n, b" nodes: ");
-    answer(table, b"", first(nodes, 16 * n), list);
+    counted(rt, n, b" nodes: ")?;
+    answer(rt, table, b"", first(nodes, 16 * n), list)?;
+    Ok(())
 }
 
-fn nested(table: &[u8], nodes: &mut [u8], d: usize, list: &mut [u64])
+fn nested(
+    rt: &impl Print,
+    table: &[u8],
+    nodes: &mut [u8],
+    d: usize,
+    list: &mut [u64],
+) -> io::Result<()>
     requires { (d ≤ 65) × (32 * d + 32 ≤ length nodes.old) }
 {
     write_nested(nodes, d);
-    counted(d, b" deep: ");
-    answer(table, b"", first(nodes, 32 * d + 32), list);
+    counted(rt, d, b" deep: ")?;
+    answer(rt, table, b"", first(nodes, 32 * d + 32), list)?;
+    Ok(())
 }
 
-fn entries(nodes: &mut [u8], n: usize, list: &mut [u64])
+fn entries(rt: &impl Print, nodes: &mut [u8], n: usize, list: &mut [u64]) -> io::Result<()>
     requires { (n ≤ 513) × (80 ≤ length nodes.old) }
 {
-    let mut table = io::large_buffer();
+    let mut table = [0u8; 65536];
     write_entries(&mut table);
     write_last(nodes);
-    counted(n, b" markers: ");
-    answer(first(&table, 40 * n), b"", first(nodes, 80), list);
+    counted(rt, n, b" markers: ")?;
+    answer(rt, first(&table, 40 * n), b"", first(nodes, 80), list)?;
+    Ok(())
 }
 
-fn labels(table: &[u8], nodes: &mut [u8], list: &mut [u64])
+fn labels(rt: &impl Print, table: &[u8], nodes: &mut [u8], list: &mut [u64]) -> io::Result<()>
     requires { 176 ≤ length nodes.old }
 {
     let source = b"\\id GEN\n\\c 1\n\\p\n\\v 4294967294\n\\v 4294967295\n\\v 4294967296\n\\v 1\n";
     write_labels(nodes);
-    write(b"labels: ");
-    let count = answer(table, source, first(nodes, 176), list);
-    findings(list, count);
+    write(rt, b"labels: ")?;
+    let count = answer(rt, table, source, first(nodes, 176), list)?;
+    findings(rt, list, count)
 }
 
 // Room for 65,536 nodes.
@@ -264,17 +286,17 @@ fn room() -> [u8; 1048576]
     [0; 1048576]
 }
 
-fn main() {
+fn main(rt: HostRuntime) -> io::Result<()> {
     let table =
         b"name=id\ncategory=identification\nrole=excluded\nname=c\ncategory=chapter\nrole=content\nname=v\ncategory=verse\nrole=content\nname=p\ncategory=paragraph\nrole=boundary\n";
     let mut nodes = room();
     let mut list = [0u64; 1024];
-    flat(table, &mut nodes, 0, &mut list);
-    flat(table, &mut nodes, 65535, &mut list);
-    flat(table, &mut nodes, 65536, &mut list);
-    nested(table, &mut nodes, 64, &mut list);
-    nested(table, &mut nodes, 65, &mut list);
-    entries(&mut nodes, 512, &mut list);
-    entries(&mut nodes, 513, &mut list);
-    labels(table, &mut nodes, &mut list);
+    flat(&rt, table, &mut nodes, 0, &mut list)?;
+    flat(&rt, table, &mut nodes, 65535, &mut list)?;
+    flat(&rt, table, &mut nodes, 65536, &mut list)?;
+    nested(&rt, table, &mut nodes, 64, &mut list)?;
+    nested(&rt, table, &mut nodes, 65, &mut list)?;
+    entries(&rt, &mut nodes, 512, &mut list)?;
+    entries(&rt, &mut nodes, 513, &mut list)?;
+    labels(&rt, table, &mut nodes, &mut list)
 }

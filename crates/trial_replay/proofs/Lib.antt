@@ -1,6 +1,1 @@
 pub mod Lengths
-pub mod Inside
-pub mod CallPutStarts
-pub mod CallPutStart
-pub mod CallCheckWith
-pub mod CallCheckFilled

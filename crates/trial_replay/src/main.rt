@@ -2,10 +2,11 @@
 // recorded of it. The layout of the input is that of oracle/recorded/README.md.
 #![tactic(auto)]
 
-ghost use Rattle.std.specs.Prelude.{◌≡◌, ◌+◌, ◌*◌, ◌≤◌, length, set};
+ghost use Rattle.std.specs.Prelude.{◌≡◌, ◌+◌, ◌*◌, ◌≤◌, length, set, IfOk};
 
 use definition::OpenStart;
-use libc::{STDIN_FILENO, STDOUT_FILENO};
+use std::io;
+use std::io::Read;
 use validate::{Answer, Report};
 
 // What the lent lists hold before a check: no zero, so that a zero at exit was written.
@@ -500,53 +501,53 @@ fn document(s: &[u8], at: usize) -> Compared
     }
 }
 
-fn write(s: &[u8]) {
-    io::write_all(STDOUT_FILENO, s);
+fn write(rt: &impl Print, s: &[u8]) -> io::Result<()> {
+    rt.write_all(s)
 }
 
-fn counted(what: &[u8], n: u64) {
-    write(what);
-    io::print_decimal(STDOUT_FILENO, n);
+fn counted(rt: &impl Print, what: &[u8], n: u64) -> io::Result<()> {
+    write(rt, what)?;
+    rt.print(n)
 }
 
-fn line(k: u64, what: &[u8]) {
-    counted(b"document ", k);
-    write(b": ");
-    write(what);
-    write(b"\n");
+fn line(rt: &impl Print, k: u64, what: &[u8]) -> io::Result<()> {
+    counted(rt, b"document ", k)?;
+    write(rt, b": ")?;
+    write(rt, what)?;
+    write(rt, b"\n")
 }
 
-fn field_line(k: u64, i: u64, field: Field) {
-    counted(b"document ", k);
-    counted(b": finding ", i);
+fn field_line(rt: &impl Print, k: u64, i: u64, field: Field) -> io::Result<()> {
+    counted(rt, b"document ", k)?;
+    counted(rt, b": finding ", i)?;
     match field {
-        Field::None => write(b"\n"),
-        Field::Missing => write(b": not recorded\n"),
-        Field::Severity => write(b": severity\n"),
-        Field::Code => write(b": code\n"),
-        Field::Start => write(b": start\n"),
-        Field::Len => write(b": len\n"),
-        Field::Form => write(b": form\n"),
-        Field::First => write(b": first number\n"),
-        Field::Second => write(b": second number\n"),
-        Field::Node => write(b": node\n"),
+        Field::None => write(rt, b"\n"),
+        Field::Missing => write(rt, b": not recorded\n"),
+        Field::Severity => write(rt, b": severity\n"),
+        Field::Code => write(rt, b": code\n"),
+        Field::Start => write(rt, b": start\n"),
+        Field::Len => write(rt, b": len\n"),
+        Field::Form => write(rt, b": form\n"),
+        Field::First => write(rt, b": first number\n"),
+        Field::Second => write(rt, b": second number\n"),
+        Field::Node => write(rt, b": node\n"),
     }
 }
 
 // The line of a document that differs.
-fn write_outcome(k: u64, outcome: Outcome) {
+fn write_outcome(rt: &impl Print, k: u64, outcome: Outcome) -> io::Result<()> {
     match outcome {
-        Outcome::Same => {}
-        Outcome::Cut => line(k, b"the file ends inside it"),
-        Outcome::Room => line(k, b"too large to be replayed"),
-        Outcome::Number => line(k, b"number"),
-        Outcome::Place => line(k, b"place"),
-        Outcome::Total => line(k, b"total"),
-        Outcome::Finding(i, field) => field_line(k, i, field),
-        Outcome::Counts => line(k, b"counts by severity"),
-        Outcome::Seen => line(k, b"chapters seen at exit"),
-        Outcome::Opens => line(k, b"open starts at exit"),
-        Outcome::List => line(k, b"words past the findings"),
+        Outcome::Same => Ok(()),
+        Outcome::Cut => line(rt, k, b"the file ends inside it"),
+        Outcome::Room => line(rt, k, b"too large to be replayed"),
+        Outcome::Number => line(rt, k, b"number"),
+        Outcome::Place => line(rt, k, b"place"),
+        Outcome::Total => line(rt, k, b"total"),
+        Outcome::Finding(i, field) => field_line(rt, k, i, field),
+        Outcome::Counts => line(rt, k, b"counts by severity"),
+        Outcome::Seen => line(rt, k, b"chapters seen at exit"),
+        Outcome::Opens => line(rt, k, b"open starts at exit"),
+        Outcome::List => line(rt, k, b"words past the findings"),
     }
 }
 
@@ -577,29 +578,29 @@ fn is_cut(outcome: Outcome) -> bool {
     }
 }
 
-fn totals(documents: u64, findings: u64, differences: u64) {
-    counted(b"documents=", documents);
-    counted(b"\nfindings=", findings);
-    counted(b"\ndifferences=", differences);
-    write(b"\n");
+fn totals(rt: &impl Print, documents: u64, findings: u64, differences: u64) -> io::Result<()> {
+    counted(rt, b"documents=", documents)?;
+    counted(rt, b"\nfindings=", findings)?;
+    counted(rt, b"\ndifferences=", differences)?;
+    write(rt, b"\n")
 }
 
 // What stands after the last document is a difference; so is a file that fills the room for it, since more may follow.
-fn left_over(s: &[u8], at: usize) -> u64
-    ensures { result ≤ 1 }
+fn left_over(rt: &impl Print, s: &[u8], at: usize) -> io::Result<u64>
+    ensures { IfOk result (λ n. n ≤ 1) }
 {
     if at < s.len() {
-        write(b"the file goes on after its last document\n");
-        return 1;
+        write(rt, b"the file goes on after its last document\n")?;
+        return Ok(1);
     }
     if 1048576 <= s.len() {
-        write(b"the file is too long to be read whole\n");
-        return 1;
+        write(rt, b"the file is too long to be read whole\n")?;
+        return Ok(1);
     }
-    0
+    Ok(0)
 }
 
-fn documents(s: &[u8], count: u64)
+fn documents(rt: &impl Print, s: &[u8], count: u64) -> io::Result<()>
     requires { (12 ≤ length s.now) × (length s.now ≤ 1048576) × (count ≤ 4294967295) }
 {
     let mut at: usize = 12;
@@ -610,18 +611,18 @@ fn documents(s: &[u8], count: u64)
     while k < count {
         let d = document(s, at);
         let outcome = d.outcome;
-        write_outcome(k, outcome);
+        write_outcome(rt, k, outcome)?;
         replayed += ran(outcome);
         findings += d.findings;
         differences += differing(outcome);
         if is_cut(outcome) {
-            totals(replayed, findings, differences);
-            return;
+            return totals(rt, replayed, findings, differences);
         }
         at = d.end;
         k += 1;
     }
-    totals(replayed, findings, differences + left_over(s, at));
+    let left = left_over(rt, s, at)?;
+    totals(rt, replayed, findings, differences + left)
 }
 
 fn is_magic(s: &[u8]) -> bool
@@ -634,23 +635,21 @@ fn is_magic(s: &[u8]) -> bool
     word(s, 4) == word(magic, 4)
 }
 
-fn no_heading() {
-    write(b"the file has no heading\n");
-    totals(0, 0, 1);
+fn no_heading(rt: &impl Print) -> io::Result<()> {
+    write(rt, b"the file has no heading\n")?;
+    totals(rt, 0, 0, 1)
 }
 
-fn replay(s: &[u8])
+fn replay(rt: &impl Print, s: &[u8]) -> io::Result<()>
     requires { length s.now ≤ 1048576 }
 {
     if s.len() < 12 {
-        no_heading();
-        return;
+        return no_heading(rt);
     }
     if !is_magic(s) {
-        no_heading();
-        return;
+        return no_heading(rt);
     }
-    documents(s, word(s, 8));
+    documents(rt, s, word(s, 8))
 }
 
 // Room for the whole file.
@@ -660,8 +659,23 @@ fn room() -> [u8; 1048576]
     [0; 1048576]
 }
 
-fn main() {
+// Reads until the list is full, the input ends or a read fails: how many bytes it read.
+fn read_full(input: &mut impl Read, buf: &mut [u8]) -> usize
+    ensures { result ≤ length buf.new }
+{
+    let mut done: usize = 0;
+    while done < buf.len() {
+        match input.read(&mut buf[done..]) {
+            Ok(0) => return done,
+            Ok(more) => done += more,
+            Err(_) => return done,
+        }
+    }
+    done
+}
+
+fn main(rt: HostRuntime) -> io::Result<()> {
     let mut file = room();
-    let n = io::read_full(STDIN_FILENO, &mut file);
-    replay(&file[..n]);
+    let n = read_full(&mut rt.stdin(), &mut file);
+    replay(&rt, &file[..n])
 }

@@ -1,5 +1,5 @@
 -- Hexadecimal digits, upper case.
-use Rattle.std.specs.Prelude.{ℕ, ◌+◌, ◌-◌, Bool, true, false, leb}
+use Rattle.std.specs.Prelude.{ℕ, ◌-◌, leb}
 use Rattle.text.specs.Pick.{pick}
 
 -- the value of a digit, 0 to 9 and A to F; 16 for any other byte

@@ -5,7 +5,8 @@
 ghost use Rattle.std.specs.Prelude.{◌≡◌, ◌≤◌, length};
 ghost use Rattle.trial_text.specs.Hex.{hex_digit};
 
-use libc::{STDIN_FILENO, STDOUT_FILENO};
+use std::io;
+use std::io::Read;
 use text::{Parsed, Utf8};
 
 fn digit(b: u8) -> u8
@@ -107,91 +108,87 @@ fn wide(b: u8) -> u64
     b as u64
 }
 
-fn write(s: &[u8]) {
-    io::write_all(STDOUT_FILENO, s);
+fn write(rt: &impl Print, s: &[u8]) -> io::Result<()> {
+    rt.write_all(s)
 }
 
 // Bytes in hexadecimal, between angle brackets.
-fn write_bytes(s: &[u8]) {
-    write(b"<");
+fn write_bytes(rt: &impl Print, s: &[u8]) -> io::Result<()> {
+    write(rt, b"<")?;
     let mut i: usize = 0;
     while i < s.len() {
         if 0 < i {
-            write(b" ");
+            write(rt, b" ")?;
         }
-        io::print_hex(STDOUT_FILENO, wide(s[i]), 2);
+        let b = wide(s[i]);
+        print!(rt; "{b:02x}")?;
         i += 1;
     }
-    write(b">");
+    write(rt, b">")
 }
 
-fn check_utf8(s: &[u8]) {
+fn check_utf8(rt: &impl Print, s: &[u8]) -> io::Result<()> {
     match text::utf8_check(s) {
-        Utf8::WellFormed => write(b"well formed"),
-        Utf8::IllFormed(at) => {
-            write(b"ill-formed at ");
-            io::print_decimal(STDOUT_FILENO, at as u64);
-        }
+        Utf8::WellFormed => write(rt, b"well formed"),
+        Utf8::IllFormed(at) => print!(rt; "ill-formed at {at}"),
     }
 }
 
-fn blank(cp: u32) {
+fn blank(rt: &impl Print, cp: u32) -> io::Result<()> {
     if text::is_blank(cp) {
-        write(b"blank");
+        write(rt, b"blank")
     } else {
-        write(b"not blank");
+        write(rt, b"not blank")
     }
 }
 
-fn decode(s: &[u8]) {
+fn decode(rt: &impl Print, s: &[u8]) -> io::Result<()> {
     let d = text::decode_at(s, 0);
-    io::print_hex(STDOUT_FILENO, d.cp as u64, 4);
-    write(b" of width ");
-    io::print_decimal(STDOUT_FILENO, d.width as u64);
+    let cp = d.cp;
+    let width = d.width;
+    print!(rt; "{cp:04x} of width {width}")
 }
 
-fn words(s: &[u8]) {
-    write(b"trimmed ");
-    write_bytes(text::trim(s));
-    write(b", words ");
-    write_bytes(text::first_word(s));
-    write(b" ");
-    write_bytes(text::second_word(s));
+fn words(rt: &impl Print, s: &[u8]) -> io::Result<()> {
+    write(rt, b"trimmed ")?;
+    write_bytes(rt, text::trim(s))?;
+    write(rt, b", words ")?;
+    write_bytes(rt, text::first_word(s))?;
+    write(rt, b" ")?;
+    write_bytes(rt, text::second_word(s))
 }
 
-fn number(s: &[u8]) {
+fn number(rt: &impl Print, s: &[u8]) -> io::Result<()> {
     match text::parse(s) {
-        Parsed::Value(n) => {
-            io::print_decimal(STDOUT_FILENO, n as u64);
-        }
-        Parsed::NotANumber => write(b"no number"),
+        Parsed::Value(n) => rt.print(n),
+        Parsed::NotANumber => write(rt, b"no number"),
     }
 }
 
 // The answer to one line, by its letter.
-fn answer(letter: u8, rest: &[u8]) {
+fn answer(rt: &impl Print, letter: u8, rest: &[u8]) -> io::Result<()> {
     let mut bytes = [0u8; 64];
     let n = bytes_of(rest, &mut bytes);
     match letter {
-        b'u' => check_utf8(&bytes[..n]),
-        b'd' => decode(&bytes[..n]),
-        b'w' => words(&bytes[..n]),
-        b'b' => blank(code_point(rest)),
-        b'p' => number(rest),
-        _ => write(b"unknown letter"),
+        b'u' => check_utf8(rt, &bytes[..n]),
+        b'd' => decode(rt, &bytes[..n]),
+        b'w' => words(rt, &bytes[..n]),
+        b'b' => blank(rt, code_point(rest)),
+        b'p' => number(rt, rest),
+        _ => write(rt, b"unknown letter"),
     }
 }
 
-fn line(s: &[u8]) {
-    write(s);
+fn line(rt: &impl Print, s: &[u8]) -> io::Result<()> {
+    write(rt, s)?;
     if 2 <= s.len() {
         let letter = s[0];
         if letter != b'#' {
-            write(b" -> ");
-            answer(letter, &s[2..]);
+            write(rt, b" -> ")?;
+            answer(rt, letter, &s[2..])?;
         }
     }
-    write(b"\n");
+    write(rt, b"\n")
 }
 
 // Where the line ends that starts at a place.
@@ -203,20 +200,36 @@ fn line_end(s: &[u8], from: usize) -> usize
     from + n
 }
 
-fn lines(s: &[u8]) {
+fn lines(rt: &impl Print, s: &[u8]) -> io::Result<()> {
     let mut i: usize = 0;
     while i < s.len() {
         let e = line_end(s, i);
-        line(&s[i..e]);
+        line(rt, &s[i..e])?;
         if e == s.len() {
-            return;
+            return Ok(());
         }
         i = e + 1;
     }
+    Ok(())
 }
 
-fn main() {
-    let mut buf = io::large_buffer();
-    let n = io::read_full(STDIN_FILENO, &mut buf);
-    lines(&buf[..n]);
+// Reads until the list is full, the input ends or a read fails: how many bytes it read.
+fn read_full(input: &mut impl Read, buf: &mut [u8]) -> usize
+    ensures { result ≤ length buf.new }
+{
+    let mut done: usize = 0;
+    while done < buf.len() {
+        match input.read(&mut buf[done..]) {
+            Ok(0) => return done,
+            Ok(more) => done += more,
+            Err(_) => return done,
+        }
+    }
+    done
+}
+
+fn main(rt: HostRuntime) -> io::Result<()> {
+    let mut buf = [0u8; 65536];
+    let n = read_full(&mut rt.stdin(), &mut buf);
+    lines(&rt, &buf[..n])
 }
