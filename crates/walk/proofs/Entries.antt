@@ -4,7 +4,7 @@ use Prim.Native.Nat.{ℕ, ◌+◌, ◌≤◌}
 use mathlib.Core.Path.{◌≡◌, refl}
 use mathlib.Core.Bool.{Bool, true, false}
 use mathlib.Core.List.{List}
-use mathlib.Core.Option.{Option, some, none, none-ne-some}
+use mathlib.Core.Option.{Option, some, none-ne-some}
 use lib.ListN.{length}
 use Rattle.tape.specs.Nodes.{node_at, kind_at, marker_at}
 use Rattle.table.specs.Entries.{Entry, entries, nth, entry_of_info}

@@ -1,16 +1,16 @@
 -- The walk along a run of siblings: what is left gives what the whole gives.
 -- Assumes nothing.
-use Prim.Native.Nat.{ℕ, zero, suc, ◌+◌, ◌-◌, ◌*◌, ◌<◌, ◌≤◌}
+use Prim.Native.Nat.{ℕ, ◌+◌, ◌-◌, ◌<◌, ◌≤◌}
 use native.Mathlib.Omega.{arith}
-use mathlib.Core.Path.{◌≡◌, refl, sym, ap, ap₂, subst, ◌∙◌}
+use mathlib.Core.Path.{◌≡◌, refl, sym, ap, subst, ◌∙◌}
 use mathlib.Core.Bool.{Bool, true, false, false≢true}
-use mathlib.Core.List.{List, [], ◌∷◌, ◌++◌}
+use mathlib.Core.List.{List, []}
 use mathlib.Core.Option.{some, none}
 use lib.Dec.{eqb}
 use lib.ListN.{length}
 use borrow.Author.Tests.{ne_eqb}
-use Rattle.tape.specs.Nodes.{Node, count, node_at, kind_at, link_at, is_open, marker_open_kind, chapter_kind, verse_kind}
-use Rattle.tape.specs.Forest.{Forest, end, forest, Nested, Accepted}
+use Rattle.tape.specs.Nodes.{count, node_at, kind_at, is_open, marker_open_kind, chapter_kind, verse_kind}
+use Rattle.tape.specs.Forest.{end, forest}
 use Rattle.tape.proofs.Nest.{nested-le, forest-done}
 use Rattle.table.specs.Entries.{Entry, info_of, entry_of_info}
 use Rattle.table.specs.declared.MarkerInfo.{MarkerInfo}
@@ -22,7 +22,6 @@ use Rattle.cursor.specs.Steps.{past_node}
 use Rattle.cursor.proofs.Around.{spanned}
 use Rattle.cursor.proofs.Runs.{rest-nested}
 use Rattle.findings.specs.Finding.{Finding}
-use Rattle.findings.specs.declared.Counts.{Counts}
 use Rattle.findings.proofs.Overlay.{wrote_none, Left, left-start, left-wrote, left_end, left-room, room-first}
 use Rattle.attachment.specs.Attached.{starts_of}
 use Rattle.attachment.specs.declared.Attached.{Attached}
@@ -35,11 +34,10 @@ use Rattle.definition.specs.Walk as def
 use Rattle.definition.specs.declared.OpenStart.{OpenStart}
 use Rattle.state.specs.Inner.{state_of, counts_of, anchor_of, starts_for, VerseBounded, Opens}
 use Rattle.state.specs.declared.State.{State}
-use Rattle.walk.specs.Inner.{Leafy, Passable, PassedBy, Anchored, walk_at, Ready, Went, RunWalked, open_checked_at, below, visit_findings, visit_state, Visited, Visitable, anchor_after, LeafPassed, numbers_after}
+use Rattle.walk.specs.Inner.{Passable, PassedBy, Anchored, walk_at, Ready, RunWalked, visit_findings, visit_state, Visited, Visitable, anchor_after, LeafPassed, numbers_after}
 use Rattle.walk.proofs.Entries.{entry_read, entry-inside}
 use Rattle.walk.proofs.Steps.{next-later, anchored-past, starts-past, leaf-anchored, leaf-starts, walk-leaf, walk-skip, walk-open}
 use Rattle.text.proofs.Bool.{or_parts}
-use Rattle.table.specs.Inner.{Indexed}
 use Rattle.findings.specs.Inner.{Wrote, Room}
 
 -- the run from i on, of the run that began at `from` with the definition's walk w₀, the list l₀ and the record r₀

@@ -1,14 +1,14 @@
 -- A run without a marker, a Chapter or a Verse: the walk over it says nothing and changes nothing.
 -- Assumes nothing.
-use Prim.Native.Nat.{ℕ, ◌+◌, ◌-◌, ◌*◌, ◌<◌, ◌≤◌}
+use Prim.Native.Nat.{ℕ, ◌<◌}
 use native.Mathlib.Omega.{arith}
 use mathlib.Core.Path.{◌≡◌, refl, sym, ap, ◌∙◌}
 use mathlib.Core.Bool.{Bool, true, false, false≢true}
 use mathlib.Core.List.{List, []}
-use mathlib.Core.Option.{Option, some, none}
+use mathlib.Core.Option.{none}
 use lib.Dec.{eqb}
 use borrow.Author.Tests.{eq-eqb, ne_eqb, eqb-true}
-use Rattle.tape.specs.Nodes.{Node, node_at, kind_at, marker_open_kind, chapter_kind, verse_kind, text_kind}
+use Rattle.tape.specs.Nodes.{kind_at, marker_open_kind, chapter_kind, verse_kind, text_kind}
 use Rattle.tape.specs.Forest.{Forest, end, leaf, node, forest}
 use Rattle.cursor.specs.Inner.{Run}
 use Rattle.cursor.specs.Steps.{past_node}

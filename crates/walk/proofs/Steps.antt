@@ -1,21 +1,19 @@
 -- The definition's walk at a node of a run, in the terms of the code's values.
 -- Assumes nothing.
-use Prim.Native.Nat.{ℕ, zero, suc, ◌+◌, ◌-◌, ◌*◌, ◌<◌, ◌≤◌}
+use Prim.Native.Nat.{ℕ, zero, suc, ◌+◌, ◌<◌, ◌≤◌}
 use native.Mathlib.Omega.{arith}
-use mathlib.Core.Path.{◌≡◌, refl, sym, ap, ap₂, subst, ◌∙◌}
-use mathlib.Core.Bool.{Bool, true, false, not, false≢true}
-use mathlib.Core.List.{List, [], ◌∷◌, ◌++◌, append_assoc}
+use mathlib.Core.Path.{◌≡◌, refl, sym, ap, ◌∙◌}
+use mathlib.Core.Bool.{Bool, true, false, false≢true}
+use mathlib.Core.List.{List, [], ◌++◌, append_assoc}
 use mathlib.Core.Option.{Option, some, none}
-use lib.Dec.{eqb}
 use lib.ListN.{length}
 use borrow.Author.Tests.{eq-eqb, ne_eqb}
 use Rattle.text.specs.Pick.{pick}
 use Rattle.tape.specs.Nodes.{Node, count, node_at, kind_at, link_at, is_open}
 use Rattle.tape.specs.Forest.{Forest, end, leaf, node, followed, forest, Nested, done, Accepted}
-use Rattle.tape.proofs.Nest.{nested-join, nested-le, forest-join, forest-done}
+use Rattle.tape.proofs.Nest.{nested-join, forest-join, forest-done}
 use Rattle.table.specs.Entries.{Entry}
 use Rattle.cursor.specs.Inner.{Run, Spanned}
-use Rattle.cursor.specs.Info.{info_at}
 use Rattle.cursor.specs.Steps.{past_node, holds_nodes}
 use Rattle.cursor.proofs.Runs.{one-nested, rest-nested, one-leaf, one-open, forest-at-leaf, forest-at-open, past-later, past-inside}
 use Rattle.numbers.specs.Label.{numbered}
@@ -25,11 +23,10 @@ use Rattle.attachment.specs.declared.Attached.{Attached}
 use Rattle.definition.specs.State.{WalkState, Anchor, past, NodeChecked}
 use Rattle.definition.specs.State as state
 use Rattle.definition.specs.Checks.{entry_of, leaf_checked}
-use Rattle.definition.specs.Walk.{leaf_anchor, open_checked, inside, with_findings, after_node, then_walk, by_entry, walk_by, walk}
-use Rattle.definition.specs.Walk as def
+use Rattle.definition.specs.Walk.{leaf_anchor, open_checked, inside, with_findings, walk_by, walk}
 use Rattle.state.specs.Inner.{state_of, counts_of, anchor_of, starts_for, with_anchor, VerseBounded}
 use Rattle.state.specs.declared.State.{State}
-use Rattle.walk.specs.Inner.{Anchored, nowhere, behind, anchor_after, numbers_after, LeafPassed, Leafy, Leaved, Unchanged, PassedBy}
+use Rattle.walk.specs.Inner.{Anchored, nowhere, behind, anchor_after, numbers_after, LeafPassed, Leafy, Leaved, PassedBy}
 use Rattle.chapter_verse.specs.InnerVisit.{LeafVisited}
 use Rattle.table.specs.Inner.{Indexed}
 use Rattle.findings.specs.Inner.{Room}

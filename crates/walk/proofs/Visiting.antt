@@ -1,26 +1,24 @@
 -- The visit of a marker, call by call.
 -- Assumes nothing.
-use Prim.Native.Nat.{ℕ, zero, suc, ◌+◌, ◌-◌, ◌*◌, ◌%◌, ◌^◌, ◌<◌, ◌≤◌}
+use Prim.Native.Nat.{ℕ, ◌+◌, ◌-◌, ◌*◌, ◌%◌, ◌^◌, ◌<◌, ◌≤◌}
 use native.Mathlib.Omega.{arith}
 use mathlib.Core.Path.{◌≡◌, refl, sym, ap, ap₂, subst, ◌∙◌}
 use mathlib.Core.Bool.{Bool, true, false, not}
 use lib.Dec.{eqb}
 use borrow.Author.Tests.{ltb-false}
-use mathlib.Core.List.{List, [], ◌∷◌, ◌++◌}
-use mathlib.Core.Option.{Option, some, none}
+use mathlib.Core.List.{List, [], ◌++◌}
+use mathlib.Core.Option.{none}
 use lib.ListN.{length}
 use Rattle.text.specs.Pick.{cut}
-use Rattle.tape.specs.Nodes.{Node, count, node_at, kind_at, link_at, is_open}
-use Rattle.tape.specs.Forest.{Forest, end, forest, Nested, Accepted}
-use Rattle.tape.proofs.Nest.{nested-le, nested-open}
+use Rattle.tape.specs.Nodes.{Node, count, node_at, link_at}
+use Rattle.tape.specs.Forest.{Forest, forest, Accepted}
+use Rattle.tape.proofs.Nest.{nested-open}
 use Rattle.table.specs.Entries.{Entry, milestone_category}
 use Rattle.cursor.specs.Inner.{Run, Spanned}
-use Rattle.cursor.specs.Steps.{past_node}
 use Rattle.cursor.proofs.Around.{spanned}
 use Rattle.cursor.proofs.Runs.{past_open, open-later, run-children}
 use Rattle.findings.specs.Finding.{Finding}
 use Rattle.findings.proofs.Overlay.{Left, left-start, left-wrote, left-room, room-first, wrote-append}
-use Rattle.attachment.specs.Attached.{starts_of}
 use Rattle.attachment.specs.declared.Attached.{Attached}
 use Rattle.definition.specs.State.{WalkState, Anchor, NodeChecked}
 use Rattle.definition.specs.State as state
@@ -29,17 +27,16 @@ use Rattle.definition.specs.Milestones.{milestone_checks, after_milestone}
 use Rattle.definition.specs.Walk.{walk, open_checked_by, inside}
 use Rattle.definition.specs.Walk as def
 use Rattle.definition.specs.declared.OpenStart.{OpenStart}
-use Rattle.state.specs.Inner.{state_of, counts_of, anchor_of, with_counts, with_anchor, VerseBounded, Opens}
+use Rattle.state.specs.Inner.{state_of, counts_of, anchor_of, with_counts, with_anchor, Opens}
 use Rattle.state.specs.declared.State.{State}
 use Rattle.marker_checks.specs.InnerVisit.{is_id, children_at, own_at, MarkerVisited}
 use Rattle.milestones.specs.InnerStep.{MilestoneStep, Milestoned, Steppable}
-use Rattle.walk.specs.Inner.{Anchored, nowhere, walk_at, Ready, Went, RunWalked, open_checked_at, below, visit_findings, visit_state, Visited, Visitable, can_skip_children}
+use Rattle.walk.specs.Inner.{nowhere, walk_at, Ready, RunWalked, open_checked_at, below, visit_findings, Visited, Visitable, can_skip_children}
 use Rattle.marker_checks.specs.InnerSkip.{can_skip_marker_at}
 use Rattle.marker_checks.proofs.Skip.{skipped-texts, skipped-category, skipped-marked}
 use Rattle.milestones.proofs.Whole.{other as no-milestone}
 use Rattle.walk.proofs.Skipped.{texts-skipped, skipped-walked}
 use Rattle.text.proofs.Bool.{or_parts}
-use Rattle.table.specs.Inner.{Indexed}
 use Rattle.findings.specs.Inner.{Wrote, Room}
 
 -- an accepted tape has at most 65,535 nodes

@@ -1,5 +1,5 @@
 -- What the walk and the visit require and promise.
-use Rattle.std.specs.Prelude.{ℕ, zero, suc, ◌+◌, ◌-◌, ◌<◌, ◌≤◌, ◌≡◌, Bool, true, false, List, [], ◌++◌, length}
+use Rattle.std.specs.Prelude.{ℕ, suc, ◌+◌, ◌-◌, ◌<◌, ◌≤◌, ◌≡◌, Bool, true, false, List, [], ◌++◌, length}
 use Rattle.std.proofs.Math.Option.{none}
 use Rattle.tape.specs.Nodes.{count, node_at, kind_at, link_at, is_open}
 use Rattle.tape.specs.Forest.{Forest, end, leaf, node, forest, Nested, Accepted}

@@ -1,5 +1,4 @@
 -- `walk::can_skip_children` meets its contract.
-use Prim.Native.Nat.{◌-◌}
 use mathlib.Core.Path.{refl, sym, ◌∙◌}
 use native.Mathlib.Omega.{arith}
 use Rattle.cursor.proofs.Runs.{run-below, past-later}
