@@ -1,5 +1,5 @@
 -- A text with its values in their places, and which text a code and a form have.
-use Rattle.std.specs.Prelude.{ℕ, zero, suc, Bool, true, false, List, [], ◌∷◌, ◌++◌, eqb}
+use Rattle.std.specs.Prelude.{ℕ, zero, suc, List, [], ◌∷◌, ◌++◌, eqb}
 use Rattle.std.proofs.Math.Option.{Option, some, none}
 use Rattle.message_texts.specs.Texts.{Code, document_texts, number_texts, marker_texts, attribute_texts}
 use Rattle.text.specs.Pick.{pick}

@@ -2,11 +2,11 @@
 -- Assumes nothing.
 use Prim.Native.Nat.{ℕ, zero, suc, ◌+◌, ◌-◌, ◌<◌, ◌≤◌}
 use mathlib.Core.Path.{◌≡◌, refl, sym, ap, ◌∙◌}
-use mathlib.Core.Bool.{Bool, true, false, not, false≢true, ◌||◌}
-use mathlib.Core.List.{List, [], ◌∷◌, ◌++◌}
+use mathlib.Core.Bool.{Bool, true, false, false≢true, ◌||◌}
+use mathlib.Core.List.{List, [], ◌++◌}
 use mathlib.Core.Option.{Option, some, none, none-ne-some}
 use native.Mathlib.Omega.{arith}
-use lib.Dec.{eqb, ltb, leb}
+use lib.Dec.{eqb}
 use lib.ListN.{length, get_or, take, drop, length-drop}
 use lib.Seq.{length-take-le}
 use borrow.Author.Tests.{lt-ltb, le-ltb, le-leb, lt-leb, eq-eqb, ne_eqb, eqb-true, not-false}
@@ -24,8 +24,8 @@ use Rattle.definition.specs.Milestones.{is_start, is_end, base_of}
 use Rattle.buffer.specs.Decimal.{decimal}
 use Rattle.message_texts.specs.Texts as texts
 use Rattle.message_texts.specs.Inner.{values}
-use Rattle.messages.specs.Message.{Request, letter_bytes, label_in, has_glued_label, name_in, code_in, is_number, of_chapter, unit_of, has_base, only_if_true, shown, shown_of, three}
-use Rattle.messages.specs.Inner.{is_tables, name_or}
+use Rattle.messages.specs.Message.{Request, letter_bytes, label_in, name_in, unit_of, shown, shown_of, three}
+use Rattle.messages.specs.Inner.{name_or}
 use Rattle.text.specs.Bytes.{one_of}
 use Rattle.table.specs.Inner.{Indexed, Sound}
 

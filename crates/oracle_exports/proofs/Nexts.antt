@@ -3,10 +3,8 @@
 use Prim.Native.Nat.{ℕ, zero, suc, ◌<◌, ◌≤◌}
 use native.Mathlib.Omega.{arith}
 use mathlib.Core.Path.{◌≡◌, refl}
-use mathlib.Core.Bool.{true}
-use lib.Dec.{leb, ltb}
 use borrow.Author.Tests.{le-leb, lt-leb, lt-ltb, le-ltb}
-use Rattle.numbers.specs.Verse.{Position, Readable, is_letter_low, next}
+use Rattle.numbers.specs.Verse.{Readable, next}
 use Rattle.oracle_exports.specs.Words.{position_from, next_from}
 
 pub next-large : (n b : ℕ) → 4294967295 < n → position_from n b ≡ next_from n b

@@ -1,5 +1,5 @@
 -- An answer that may be missing, as a number.
-use Rattle.std.specs.Prelude.{ℕ, zero, suc, Bool, true, false, ◌&&◌, leb, ltb}
+use Rattle.std.specs.Prelude.{ℕ, zero, suc, Bool, ◌&&◌, leb, ltb}
 use Rattle.std.proofs.Math.Option.{Option, some, none}
 use Rattle.text.specs.Pick.{pick}
 use Rattle.numbers.specs.Verse.{Position, PartReading, position, no_digits, too_large, next}

@@ -1,5 +1,5 @@
 -- Document 01: "Tally gives 35 counts by code", of which document 02, K6, makes 36, and number 11 of its refusals.
-use Rattle.std.specs.Prelude.{ℕ, zero, suc, ◌+◌, ◌*◌, ◌/◌, ◌%◌, Bool, not, ◌||◌, List, [], ◌∷◌, eqb, ltb, length, get_or}
+use Rattle.std.specs.Prelude.{ℕ, zero, suc, ◌+◌, ◌*◌, ◌%◌, Bool, not, ◌||◌, List, [], ◌∷◌, eqb, ltb, length, get_or}
 use Rattle.std.proofs.Math.Option.{Option, none}
 use Rattle.findings.specs.Written.{whole_records}
 use Rattle.text.specs.Pick.{pick}

@@ -1,7 +1,6 @@
 -- Each trial item from 1 to 12 gives what document 01 says.
 -- Assumes nothing.
 use mathlib.Core.Path.{◌≡◌, refl}
-use mathlib.Core.List.{List}
 use Rattle.text.specs.Literal.{ascii}
 use Rattle.text.specs.Pick.{in_any}
 use Rattle.text.specs.Blank.{blank_ranges, blank}

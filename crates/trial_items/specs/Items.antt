@@ -1,5 +1,5 @@
 -- Document 01, "Trial items": "Items 1 to 12 are collected in one table about the definitions and settled by one proof".
-use Rattle.std.specs.Prelude.{ℕ, Bool, true, false, List, [], ◌∷◌}
+use Rattle.std.specs.Prelude.{ℕ, List, [], ◌∷◌}
 use Rattle.std.proofs.Math.Option.{Option, some, none}
 use Rattle.text.specs.Literal.{ascii}
 use Rattle.text.specs.Pick.{pick}

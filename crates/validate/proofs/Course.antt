@@ -1,19 +1,18 @@
 -- The whole list of an accepted document, in the terms of the calls that write it.
 -- Assumes nothing.
-use Prim.Native.Nat.{ℕ, ◌/◌, ◌<◌, ◌≤◌}
+use Prim.Native.Nat.{ℕ, ◌/◌, ◌≤◌}
 use native.Mathlib.Omega.{arith}
-use mathlib.Core.Path.{◌≡◌, refl, sym, ap, ◌∙◌}
+use mathlib.Core.Path.{◌≡◌, refl, ap, ◌∙◌}
 use mathlib.Core.List.{List}
 use lib.ListN.{length}
 use Rattle.tape.specs.Nodes.{count, link_at}
-use Rattle.tape.specs.Forest.{forest, top}
+use Rattle.tape.specs.Forest.{forest}
 use Rattle.cursor.specs.Inner.{Run}
 use Rattle.findings.specs.declared.Counts.{Counts}
-use Rattle.findings.specs.Written.{room}
 use Rattle.definition.specs.State.{outside}
 use Rattle.definition.specs.State as state
 use Rattle.definition.specs.Document.{text_before, unclosed}
-use Rattle.definition.specs.Outcome.{checked, checked_of, cleared, no_start}
+use Rattle.definition.specs.Outcome.{cleared, no_start}
 use Rattle.definition.proofs.Few.{text-few}
 use Rattle.definition.specs.declared.OpenStart.{OpenStart}
 use Rattle.state.specs.Inner.{open_nodes, counts_of, with_counts}
@@ -25,7 +24,6 @@ use Rattle.validate.specs.declared.Answer.{Answer}
 use Rattle.validate.proofs.Ending.{whole_run, walk-ready, walk-room, unclosed-room, missing-room, ran, finished, cleared-whole}
 use Rattle.findings.specs.Inner.{Wrote, Room}
 use Rattle.validate.specs.Inner.{none_yet, fresh, Begun, Endable, MissingWritten, Ran, Fit, Finished, reported}
-use Rattle.validate.specs.Entry.{lent}
 
 -- before the walk
 pub begun-room : (s t : List ℕ) (to : ℕ) (r : State) → r ≡ fresh → Room (counts_of r) (text_before (forest s t 1 to))

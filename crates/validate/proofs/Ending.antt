@@ -1,41 +1,38 @@
 -- The whole list of an accepted document, call by call, and its answer.
 -- Assumes nothing.
-use Prim.Native.Nat.{ℕ, zero, suc, ◌+◌, ◌-◌, ◌*◌, ◌/◌, ◌<◌, ◌≤◌}
+use Prim.Native.Nat.{ℕ, zero, suc, ◌+◌, ◌*◌, ◌≤◌}
 use native.Mathlib.Omega.{arith}
 use native.Mathlib.Nat.{not-suc-le-zero, zero-add}
-use mathlib.Core.Path.{◌≡◌, refl, sym, ap, ap₂, subst, ◌∙◌}
-use mathlib.Core.Bool.{Bool, true, false}
+use mathlib.Core.Path.{◌≡◌, refl, sym, ap, ◌∙◌}
 use mathlib.Core.List.{List, [], ◌∷◌, ◌++◌, append-nil}
-use mathlib.Core.Option.{Option, some, none}
+use mathlib.Core.Option.{none}
 use lib.Dec.{eqb}
-use lib.ListN.{length, drop, drop_of_length-le}
-use Rattle.tape.specs.Nodes.{Node, count, link_at}
-use Rattle.tape.specs.Forest.{Forest, forest, Nested, Accepted, top}
-use Rattle.tape.proofs.Sizes.{breadth, weight, weight-le}
+use lib.ListN.{length, drop_of_length-le}
+use Rattle.tape.specs.Nodes.{link_at}
+use Rattle.tape.specs.Forest.{forest, top}
+use Rattle.tape.proofs.Sizes.{weight-le}
 use Rattle.cursor.specs.Inner.{Run}
 use Rattle.cursor.proofs.Runs.{run-top}
 use Rattle.findings.specs.Finding.{Finding}
 use Rattle.findings.specs.declared.Counts.{Counts}
-use Rattle.findings.specs.Written.{room, total, overlay}
+use Rattle.findings.specs.Written.{room, total}
 use Rattle.findings.proofs.Overlay.{counted-total, wrote-append}
-use Rattle.definition.specs.State.{WalkState, outside, initial}
-use Rattle.definition.specs.State as state
+use Rattle.definition.specs.State.{WalkState, outside}
 use Rattle.definition.specs.Checks.{given}
 use Rattle.definition.specs.Walk.{walk}
 use Rattle.definition.specs.Walk as def
 use Rattle.definition.specs.Document.{text_before, unclosed, closing, walked, findings}
-use Rattle.definition.specs.Outcome.{Lent, add_if, of_severity, smaller, checked, checked_of, cleared, repeated}
+use Rattle.definition.specs.Outcome.{add_if, of_severity, checked, checked_of, cleared, repeated}
 use Rattle.definition.proofs.Few.{text-few, walk-few, given-few, unclosed-length}
 use Rattle.definition.proofs.Counted.{Graded, graded}
 use Rattle.definition.specs.declared.OpenStart.{OpenStart}
-use Rattle.state.specs.Inner.{latest, open_nodes, state_of, counts_of, with_counts, Opens}
+use Rattle.state.specs.Inner.{latest, open_nodes, state_of, counts_of, with_counts}
 use Rattle.state.specs.declared.State.{State}
 use Rattle.state.proofs.Opened.{starts-length}
 use Rattle.closing.specs.Inner.{missing_checks}
 use Rattle.walk.specs.Inner.{nowhere, walk_at, Ready, RunWalked}
 use Rattle.walk.proofs.Visiting.{count_low}
-use Rattle.table.specs.Inner.{Indexed}
-use Rattle.findings.specs.Inner.{Wrote, Room, count_limit, by_severity, counted}
+use Rattle.findings.specs.Inner.{Wrote, Room, by_severity, counted}
 use Rattle.validate.specs.Inner.{none_yet, fresh, Ran, Fit, reported}
 use Rattle.validate.specs.Entry.{lent}
 

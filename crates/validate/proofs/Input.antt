@@ -1,24 +1,22 @@
 -- The numbers 1 to 10, one check after the other.
 -- Assumes nothing.
-use Prim.Native.Nat.{ℕ, ◌+◌, ◌/◌, ◌<◌, ◌≤◌}
-use mathlib.Core.Path.{◌≡◌, refl, sym, ap, ◌∙◌}
-use mathlib.Core.Bool.{Bool, true, false}
+use Prim.Native.Nat.{ℕ, ◌<◌, ◌≤◌}
+use mathlib.Core.Path.{◌≡◌, sym, ap, ◌∙◌}
+use mathlib.Core.Bool.{false}
 use mathlib.Core.List.{List}
 use mathlib.Core.Option.{Option, some, none}
 use native.Mathlib.Decide.{dec_lt}
 use native.Mathlib.Omega.{arith}
-use lib.Dec.{ltb}
 use lib.ListN.{length}
 use borrow.Author.Tests.{lt-ltb, le-ltb}
-use Rattle.refusals.specs.Refusal.{Refusal, refuse, only_if, or_else, bad_table_layout, source_too_long, source_not_utf8, working_list_too_short}
+use Rattle.refusals.specs.Refusal.{Refusal, refuse, or_else, bad_table_layout, source_too_long, source_not_utf8, working_list_too_short}
 use Rattle.tape.specs.Reading.{tape_refusal}
 use Rattle.tape.specs.Forest.{Accepted}
 use Rattle.tape.proofs.OneNumber.{accepted}
 use Rattle.findings.specs.Written.{total}
-use Rattle.definition.specs.Outcome.{smaller, at_place, checked}
+use Rattle.definition.specs.Outcome.{at_place, checked}
 use Rattle.state.specs.Inner.{counts_of}
 use Rattle.state.specs.declared.State.{State}
-use Rattle.validate.specs.declared.Report.{Report}
 use Rattle.validate.specs.declared.Answer.TheVariants as answer
 use Rattle.validate.specs.declared.InputCheck.{InputCheck}
 use Rattle.validate.specs.declared.InputCheck.TheVariants as input

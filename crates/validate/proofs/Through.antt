@@ -1,7 +1,7 @@
 -- The entry: turned back by the check of its input, or gone through with the first entries of the working lists.
 -- Assumes nothing.
 use Prim.Native.Nat.{ℕ, ◌≤◌}
-use mathlib.Core.Path.{◌≡◌, refl, sym, ap, ◌∙◌}
+use mathlib.Core.Path.{◌≡◌, sym, ap, ◌∙◌}
 use mathlib.Core.List.{List, ◌++◌}
 use mathlib.Core.Option.{none}
 use lib.ListN.{length, take, drop}

@@ -1,23 +1,20 @@
 -- The entry: what is lent is turned back, or checked.
 -- Assumes nothing.
-use Prim.Native.Nat.{ℕ, zero, suc, ◌+◌, ◌-◌, ◌*◌, ◌/◌, ◌<◌, ◌≤◌}
-use native.Mathlib.Omega.{arith}
-use mathlib.Core.Path.{◌≡◌, refl, sym, ap, ap₂, ◌∙◌}
+use Prim.Native.Nat.{ℕ, ◌≤◌}
+use mathlib.Core.Path.{◌≡◌, refl, sym, ap, ◌∙◌}
 use mathlib.Core.Bool.{false}
-use mathlib.Core.List.{List, [], ◌∷◌, ◌++◌}
+use mathlib.Core.List.{List, ◌++◌}
 use mathlib.Core.Option.{Option, some, none}
 use lib.Dec.{ltb}
 use lib.ListN.{length, take, drop}
 use lib.Seq.{length-take-le}
 use borrow.Author.Tests.{ltb-false}
 use Rattle.tape.specs.Nodes.{count}
-use Rattle.tape.specs.Forest.{Accepted, top}
-use Rattle.refusals.specs.Refusal.{Refusal, refuse, only_if, or_else}
+use Rattle.tape.specs.Forest.{Accepted}
+use Rattle.refusals.specs.Refusal.{Refusal, refuse, or_else}
 use Rattle.refusals.proofs.First.{neither, only-not}
 use Rattle.tape.proofs.OneNumber.{accepted}
-use Rattle.findings.specs.Written.{overlay}
-use Rattle.definition.specs.Document.{findings}
-use Rattle.definition.specs.Outcome.{Lent, of1, of2, of3, of_tape, of9, of10, refusal, checked_of, refused, checked, answer, list_after, seen_after, open_after, cleared, short_list}
+use Rattle.definition.specs.Outcome.{Lent, of1, of2, of3, of_tape, of9, of10, refusal, checked_of, refused, answer, list_after, seen_after, open_after, short_list}
 use Rattle.definition.specs.declared.OpenStart.{OpenStart}
 use Rattle.validate.specs.declared.Answer.{Answer}
 use Rattle.validate.specs.declared.InputCheck.{InputCheck}
@@ -25,7 +22,7 @@ use Rattle.validate.specs.declared.InputCheck.TheVariants as input
 use Rattle.validate.specs.Entry.{answer_of}
 use Rattle.text.proofs.Bool.{or_parts}
 use Rattle.table.specs.Inner.{Indexed}
-use Rattle.validate.specs.Inner.{check_refusal, AcceptedIndex, from_table, from_tape, Fit, Finished}
+use Rattle.validate.specs.Inner.{check_refusal, from_table, from_tape, Fit, Finished}
 use Rattle.validate.specs.Entry.{lent}
 
 pub or_assoc : (a b c : Option Refusal) → or_else (or_else a b) c ≡ or_else a (or_else b c)

@@ -1,5 +1,5 @@
 -- What the functions inside the crate promise.
-use Rattle.std.specs.Prelude.{ℕ, ◌-◌, ◌≤◌, ◌≡◌, false, ◌||◌, List, ltb, length}
+use Rattle.std.specs.Prelude.{ℕ, ◌≤◌, ◌≡◌, false, ◌||◌, List, ltb, length}
 use Rattle.std.proofs.Math.Option.{Option, some, none}
 use Rattle.tape.specs.Nodes.{count, link_at}
 use Rattle.tape.specs.Forest.{top, forest, Accepted}

@@ -1,6 +1,5 @@
 -- `message_texts::fill` meets its contract.
 use borrow.Author.Rules.{rules}
-use Prim.Native.Nat.{◌-◌}
 use native.Mathlib.Omega.{arith}
 use Rattle.message_texts.specs.Inner.{values}
 use Rattle.message_texts.proofs.Filling.{Filling, filling-start, filling-run, filling-on, filling-low, filling-end}

@@ -1,5 +1,4 @@
 -- `message_texts::plain_end` meets its contract.
-use Prim.Native.Nat.{◌-◌}
 use native.Mathlib.Omega.{arith}
 use borrow.Author.Tests.{leb-true}
 use Rattle.message_texts.proofs.Filling.{plain-start, plain-on}

@@ -1,10 +1,8 @@
 -- `message_texts::put_capitals` meets its contract.
-use Prim.Native.Nat.{◌-◌}
 use native.Mathlib.Omega.{arith}
-use borrow.Author.Tests.{ltb-true, ltb-false}
+use borrow.Author.Tests.{ltb-true}
 use Rattle.buffer.proofs.Writing.{writing_start, writing-full, writing-end}
 use Rattle.message_texts.proofs.Capitals.{length-upper, capitals-on}
-use Rattle.text.specs.Bytes.{upper}
 use Rattle.message_texts.proofs.put_capitals.Goals as goal
 use Rattle.message_texts.proofs.put_capitals.Goals.{then-loop-i-test+else-at-i, else-loop-i-test}
 

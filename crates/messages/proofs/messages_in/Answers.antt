@@ -1,5 +1,4 @@
 -- `messages::messages_in` meets its contract.
-use Prim.Native.Nat.{◌-◌}
 use native.Mathlib.Omega.{arith}
 use Rattle.buffer.proofs.Over.{over-set}
 use Rattle.messages.proofs.WritingTexts.{writing_start, writing_more, writing-all, writing-stopped, within, end-past}

@@ -1,5 +1,4 @@
 -- `oracle_exports::after_child` meets its contract.
-use Prim.Native.Nat.{◌-◌}
 use native.Mathlib.Omega.{arith}
 use Rattle.cursor.proofs.Runs.{run-below, run-next, past-later}
 use Rattle.oracle_exports.proofs.after_child.Goals as goal

@@ -1,5 +1,4 @@
 -- `oracle_exports::copy` meets its contract.
-use Prim.Native.Nat.{◌-◌}
 use borrow.Author.Tests.{ltb-true}
 use lib.ListN.{length-set}
 use native.Mathlib.Omega.{arith}

@@ -1,5 +1,4 @@
 -- `tally::clear` meets its contract.
-use Prim.Native.Nat.{◌-◌}
 use borrow.Author.Tests.{ltb-true, ltb-false}
 use native.Mathlib.Omega.{arith}
 use Rattle.buffer.proofs.Writing.{writing_start, writing-full, writing-end}

@@ -1,5 +1,4 @@
 -- `tally::count` meets its contract.
-use Prim.Native.Nat.{◌-◌}
 use native.Mathlib.Omega.{arith}
 use mathlib.Core.Path.{◌∙◌}
 use Rattle.tally.proofs.Records.{known}

@@ -1,5 +1,4 @@
 -- `tally::list_check` meets its contract.
-use Prim.Native.Nat.{◌-◌}
 use native.Mathlib.Omega.{arith}
 use mathlib.Core.Path.{sym, ◌∙◌}
 use Rattle.tally.proofs.Records.{checking-start, checking-hit, checking-on, checking-ragged, checking-end}

@@ -1,5 +1,5 @@
 -- `validate::checked` meets its contract.
-use Rattle.std.proofs.Common.{ℕ, ◌/◌, ap, sym, refl}
+use Rattle.std.proofs.Common.{refl}
 use Rattle.validate.proofs.Course.{finished-whole}
 use Rattle.validate.proofs.checked.Goals as goal
 

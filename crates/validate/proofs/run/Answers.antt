@@ -1,6 +1,5 @@
 -- `validate::run` meets its contract.
 use Rattle.std.proofs.Common.{refl}
-use Rattle.state.specs.Inner.{context_of}
 use Rattle.validate.proofs.Course.{walk-asks, left-asks, end-asks, ran-whole}
 use Rattle.validate.proofs.run.Goals as goal
 
