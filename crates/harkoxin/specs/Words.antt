@@ -2,7 +2,7 @@
 use Rattle.std.specs.Prelude.{ℕ, Bool, true, false, List, [], ◌∷◌}
 use Rattle.std.proofs.Math.Option.{Option, some, none}
 use Rattle.refusals.specs.Refusal.{Refusal}
-use Rattle.definition.specs.Outcome.{Answer, Checked, refused, checked}
+use Rattle.definition.specs.Outcome.{Answer, refused, checked}
 use Rattle.messages.specs.Answer as message
 use Rattle.messages.specs.Messages as messages
 use Rattle.mark.specs.Mark as mark

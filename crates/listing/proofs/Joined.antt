@@ -4,13 +4,13 @@ use Prim.Native.Nat.{ℕ, zero, suc, ◌+◌, ◌*◌, ◌-◌, ◌<◌, ◌≤�
 use native.Mathlib.Omega.{arith}
 use native.Mathlib.Decide.{dec_lt}
 use mathlib.Core.Path.{◌≡◌, refl, sym, ap, ◌∙◌}
-use mathlib.Core.Bool.{Bool, true, false, ◌&&◌, ◌||◌}
+use mathlib.Core.Bool.{Bool, true, false, ◌&&◌}
 use mathlib.Core.List.{List, [], ◌∷◌, ◌++◌, append_assoc, append-nil}
 use mathlib.Core.Option.{Option, some, none}
 use lib.Dec.{eqb, leb, ltb}
-use lib.ListN.{length, take, drop, length-append, length-drop, length-take, drop_of_length-le, take-append-drop}
+use lib.ListN.{length, take, drop, length-append, length-drop, drop_of_length-le}
 use lib.Seq.{take_at, take_all, drop-drop, length-take-le}
-use borrow.Author.Tests.{lt-ltb, le-ltb, ltb-true, ltb-false, leb-true}
+use borrow.Author.Tests.{le-ltb, ltb-true, ltb-false, leb-true}
 use Rattle.text.specs.Pick.{pick}
 use Rattle.text.specs.Literal.{ascii}
 use Rattle.text.proofs.Bool.{and_left, and_right}
@@ -25,7 +25,6 @@ use Rattle.findings.proofs.Overlay.{encode-length, findings-in-words}
 use Rattle.definition.specs.Outcome.{Lent, of10, refusal, repeated, smaller, list_of, checked_of, Answer, checked, answer_by, answer, list_after}
 use Rattle.message_texts.specs.Filled.{joined}
 use Rattle.messages.specs.Message.{request_of, message_text}
-use Rattle.messages.specs.Answer.{first_nine}
 use Rattle.messages.proofs.Nine.{nine-whole}
 use Rattle.validate.proofs.Lists.{written-words}
 use Rattle.listing.specs.Lines.{Place, after_byte, place_from, line_and_column, line, name_at, severity_names, code_names, finding_lines}

@@ -5,15 +5,11 @@ use native.Mathlib.Omega.{arith}
 use native.Mathlib.Nat.{add-zero, sub-zero}
 use native.Mathlib.Numerals.{add-one}
 use mathlib.Core.Path.{◌≡◌, refl, sym, ap, ◌∙◌}
-use mathlib.Core.Bool.{Bool, true, false}
-use mathlib.Core.List.{List, [], ◌∷◌, ◌++◌, append_assoc, append-nil}
-use lib.Dec.{ltb}
-use lib.ListN.{length, get_or, take, drop, length-append, take-append-drop, drop_of_length-le}
-use lib.Seq.{drop-drop, drop-cons}
-use borrow.Author.Tests.{lt-ltb, le-ltb, ltb-false}
-use Rattle.text.specs.Pick.{pick}
+use mathlib.Core.List.{List, [], ◌∷◌, ◌++◌}
+use lib.ListN.{length, get_or, take, drop, length-append, drop_of_length-le}
+use borrow.Author.Tests.{lt-ltb, le-ltb}
 use Rattle.buffer.specs.Over.{Put, over}
-use Rattle.buffer.proofs.Over.{over-over, over_none, length_over}
+use Rattle.buffer.proofs.Over.{over-over, over_none}
 use Rattle.findings.specs.Finding.{Finding}
 use Rattle.findings.specs.Written.{findings_in, whole_records}
 use Rattle.message_texts.specs.Filled.{joined}

@@ -1,12 +1,10 @@
 -- What the mark answers in each case; its range; never higher with one error more; when numbers 14 and 15 are given; what mark-exercise prints.
 -- Assumes nothing.
-use Prim.Native.Nat.{ℕ, ◌+◌, ◌*◌, ◌-◌, ◌/◌, ◌<◌, ◌≤◌}
+use Prim.Native.Nat.{ℕ, ◌+◌, ◌/◌, ◌≤◌}
 use native.Mathlib.Omega.{arith}
 use native.Mathlib.Nat.{div-mul-le_self, le-div_iff_mul-le}
 use mathlib.Core.Path.{◌≡◌, refl, sym, ap, ◌∙◌}
 use mathlib.Core.Bool.{Bool, true, false}
-use mathlib.Core.List.{List}
-use mathlib.Core.Logic.{◌⊎◌}
 use mathlib.Core.Option.{Option, some, none}
 use lib.Dec.{eqb}
 use lib.ListN.{length}
@@ -22,7 +20,7 @@ use Rattle.text.proofs.AnyOver.{any-parts, any_of}
 use Rattle.listing.proofs.Joined.{no-ten}
 use Rattle.mark.specs.Conditions.{Few, GivenMark, by14, by15, by_none}
 use Rattle.mark.specs.MarkLines.{mark_lines, mark_of_answer, mark_unless, mark_output}
-use Rattle.mark.specs.Mark.{penalty, loss_of, mark_of, full_mark, most_counted, is_over, mark_refusal, LossAndMark, MarkAnswer, refused, marked, mark_by, mark_answer}
+use Rattle.mark.specs.Mark.{penalty, loss_of, mark_of, full_mark, most_counted, is_over, mark_refusal, LossAndMark, refused, marked, mark_by, mark_answer}
 
 -- ---- Each case of the code
 

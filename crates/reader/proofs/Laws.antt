@@ -1,6 +1,6 @@
 -- The answer and the list of nodes, by the part that decides.
 -- Assumes nothing.
-use Prim.Native.Nat.{ℕ, suc, ◌+◌, ◌*◌, ◌/◌, ◌<◌, ◌≤◌}
+use Prim.Native.Nat.{ℕ, ◌+◌, ◌*◌, ◌<◌, ◌≤◌}
 use native.Mathlib.Omega.{arith}
 use mathlib.Core.Path.{◌≡◌, refl, sym, ap, ◌∙◌}
 use mathlib.Core.List.{List, ◌++◌}
@@ -18,9 +18,9 @@ use Rattle.table.specs.declared.Layout.{Layout}
 use Rattle.table.specs.declared.Layout.TheVariants as layout
 use Rattle.definition.specs.Outcome.{at_place}
 use Rattle.definition.proofs.WellFormed.{no_place}
-use Rattle.reader_spec.specs.Pass.{ReadNode, PassOutcome, passed, faulty, outcome}
+use Rattle.reader_spec.specs.Pass.{PassOutcome, passed, faulty, outcome}
 use Rattle.reader_spec.specs.Rows.{node_count}
-use Rattle.reader_spec.specs.Answer.{pass_refusal, read_refusal, nodes_of, nodes_read, tape_read, read_answer, nodes_after}
+use Rattle.reader_spec.specs.Answer.{pass_refusal, read_refusal, nodes_of, nodes_read, tape_read}
 use Rattle.reader_spec.specs.Promise.{Legible}
 use Rattle.reader_spec.specs.InnerSteps.{nodes, fault_at, counted_on}
 use Rattle.first_pass.specs.Counted.{count_of}

@@ -1,6 +1,6 @@
 -- What read-exercise prints, from what `read` answers and leaves.
 -- Assumes nothing.
-use Prim.Native.Nat.{ℕ, suc, ◌+◌, ◌*◌, ◌/◌, ◌≤◌}
+use Prim.Native.Nat.{ℕ, suc, ◌*◌, ◌≤◌}
 use native.Mathlib.Omega.{arith}
 use native.Mathlib.Nat.{zero-add}
 use mathlib.Core.Path.{◌≡◌, refl, sym, ap, ◌∙◌}
@@ -12,7 +12,7 @@ use lib.Seq.{take-append_seam, drop-append_seam}
 use Rattle.text.proofs.AnyOver.{any-parts}
 use Rattle.refusals.specs.Refusal.{Refusal, refuse, node_list_too_short}
 use Rattle.tape.specs.Nodes.{count}
-use Rattle.buffer.specs.Over.{Put, over}
+use Rattle.buffer.specs.Over.{Put}
 use Rattle.buffer.proofs.Over.{over-fits, length_over}
 use Rattle.listing.specs.Lines.{refused_lines}
 use Rattle.listing.specs.Listing.{largest_file, is_too_large}
@@ -20,7 +20,6 @@ use Rattle.definition.specs.Outcome.{words_by}
 use Rattle.reader_spec.specs.Rows.{node_count, rows_of}
 use Rattle.reader_spec.specs.Conditions.{GivenRead, by1, by2, by3, by16, by17, by18, by_none}
 use Rattle.reader_spec.specs.Answer.{read_refusal, nodes_read, tape_read, refused, read, read_answer_by, read_answer, nodes_after}
-use Rattle.reader_spec.specs.Answer as definition
 use Rattle.reader_spec.proofs.Fields.{tape-length, rows-length}
 use Rattle.reader_spec.proofs.OneNumber.{read_number}
 use Rattle.reader_spec.proofs.Whole.{was_read, read-yields, read-checked}

@@ -1,11 +1,11 @@
 -- What each answer of the part reading says.
 -- Assumes nothing.
-use Prim.Native.Nat.{ℕ, zero, suc, ◌<◌}
+use Prim.Native.Nat.{ℕ, zero, suc}
 use native.Mathlib.Omega.{arith}
 use mathlib.Core.Path.{◌≡◌, refl}
 use mathlib.Core.Bool.{Bool, true, false, not}
 use mathlib.Core.List.{List, [], ◌∷◌}
-use mathlib.Core.Option.{Option, some, none}
+use mathlib.Core.Option.{some, none}
 use lib.Dec.{eqb, leb}
 use lib.ListN.{take, drop}
 use borrow.Author.Tests.{ne_eqb, leb-true, leb-false}
@@ -14,7 +14,7 @@ use Rattle.text.specs.Characters.{find_byte}
 use Rattle.text.specs.Words.{trim_start}
 use Rattle.text.specs.Number.{digit, all_digits, value_from, digits_from, digits}
 use Rattle.numbers.specs.Verse.{no_digits, with_letter, letter_of, digits_end, part_of, verse_part}
-use Rattle.theorems.specs.Readings.{leading_number, ReadingIs}
+use Rattle.theorems.specs.Readings.{ReadingIs}
 
 -- the digits at the start are digits
 all_digits_lem : (s : List ℕ) → all_digits (take (digits_end s) s) ≡ true

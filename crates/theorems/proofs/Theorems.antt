@@ -14,7 +14,7 @@ use types.Logic.{Logic}
 use contract.Running.{Running}
 use prog.Wired.{Wired}
 use base.Logic.{SProp}
-use contract.Notation.{Connectives, connectives}
+use contract.Notation.{connectives}
 use denote.Builtin.{u8, u32, u64, SliceRefOf, SliceRefMutOf}
 use denote.Exit.{yes}
 use denote.Signature.{Signature, plain}

@@ -1,5 +1,4 @@
 -- `harkoxin::write_words` meets its contract.
-use Prim.Native.Nat.{◌-◌}
 use native.Mathlib.Omega.{arith}
 use Rattle.buffer.proofs.Writing.{writing_start, writing-on, writing-done}
 use Rattle.harkoxin.proofs.write_words.Goals as goal

@@ -1,5 +1,4 @@
 -- `listing::lines_and_columns` meets its contract. The invariant: the places passed are written, and `line` and `column` are those of the next.
-use Prim.Native.Nat.{◌-◌}
 use native.Mathlib.Omega.{arith}
 use lib.ListN.{length-set}
 use Rattle.listing.proofs.Places.{places-start, places-break, places-further, places-low, places-high, lines-written, columns-written}

@@ -1,5 +1,4 @@
 -- `listing::word_start` meets its contract. The invariant: the words from the place on, `left` of them passed over, give the k-th word.
-use Prim.Native.Nat.{◌-◌}
 use native.Mathlib.Omega.{arith}
 use mathlib.Core.Path.{◌≡◌, refl, ◌∙◌}
 use borrow.Author.Tests.{ltb-true, ltb-false}
