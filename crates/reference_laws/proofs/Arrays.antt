@@ -3,7 +3,7 @@
 --     ArrayAt R n l xs         the local array at l holds xs, whatever its machine value
 --     fills-array      `[d; n]` is assigned to a local, whose room is the context's first entry: it holds some xs that is `Filled`
 --     array l n ν δ    where the slice of it is, lent for the lifetime ν under the name δ
---     lend-array, back-array           it is lent as a `&mut [T]` for a lifetime that is made for it, and is back at any last value once that is ended.        lend-array-shr, back-array-shr     as a `&[T]`
+--     lend-array, back-array           it is lent as a `&mut [T]` for a lifetime that is made for it, and is back at any last value once that is ended.        lend-array-shr, back-array-shr     as a `&[T]`, of a T that can be shared out (`denote.Shares`)
 --     free_array       it is room
 -- Assumes `Logic`.
 use mathlib.Core.Path.{◌≡◌, refl, sym, ap, subst}
@@ -12,11 +12,11 @@ use native.Mathlib.Nat.{le_refl}
 use mathlib.Core.List.{List, [], ◌∷◌}
 use lib.ListN.{length, replicate, length-replicate}
 use seplogic.Ra.Ura.{Ura}
-use seplogic.Ra.TreeShare.{full_share}
+use base.Fraction.{full_share}
 use mir.Syntax.{Place, Opd as Operand, Body, seq, assign, repeat, ty_array, erased}
 use mir.Val.{Val}
 use base.Logic.{SProp, ent, sep, ex}
-use base.Fml.{GName, Fml, fsep, fat, froom, fres, flent}
+use base.Fml.{GName, Fml, fsep, fat, froom, fres, flent, flft, Incl-refl}
 use prog.Wp.{Env, Calls, Loops}
 use types.Logic.{Logic, sem}
 use types.Kit.{Item, ‵, ◌⊛◌, Post, runs, Seq, some, later, ◌$◌, ◌∵◌, !, qed, move, keep, drop, use1, use2, use3, rewrite, split, pick, fsplit, fjoin, fpick, fpack, feq_l, feq_i, await, updating, now as at_once, show, done}
@@ -26,6 +26,7 @@ use types.SemTy.{cells, Arr}
 use types.Share.{arr_parts}
 use types.Tokens.{lft_new, lft_end, lent_back}
 use denote.RattleType.{RattleType}
+use denote.Shares.{Shares}
 use denote.Shadow.{shadow, pure_i}
 use denote.Laws.{Is, Makes, Lawful}
 use denote.Memory.{mem, shares, cell_at, lone, part_at, part_of}
@@ -35,7 +36,7 @@ use denote.Index.{row, whole_in, whole_out}
 use denote.Lend.{Held, lends_slice, slice_back, lends_shr_slice}
 use denote.Slice.{slice_val, MutSlice, ShrSlice, heres, Room, finally, shr_slice_at, mut_slice_at, coded_holeys, res-finally}
 use denote.Steps.{owned}
-use Rattle.reference_laws.proofs.Hand.{At, ref, fat_val, HasMut, HasShr}
+use Rattle.reference_laws.proofs.Hand.{At, ref, shr_ref, fat_val, HasMut, HasShr}
 
 pub record Filled {X : Type 0} (n : ℕ) (d : X) (xs : List X) : Type 0 where
   pub all : xs ≡ replicate n d
@@ -82,16 +83,17 @@ module _ (R : RattleType) (n l : ℕ) where
         move ! (0 ∷ 3 ∷ 1 ∷ []) $ use3 𝓛 (later (‵ ((Arr (mem R) n).own_at zs l 0))) (slice_back 𝓛 R (ν ∷ []) δ zs n l 0) $ await ! tt $ fsplit ! $ move ! (1 ∷ []) $ use1 𝓛 (‵ (row R full_share zs l 0)) (whole_out 𝓛 R zs l 0) $
         move ! (1 ∷ 0 ∷ []) $ fjoin ! $ use1 𝓛 (‵ (ArrayAt zs)) (Array-whole 𝓛 R full_share n zs l 0) $ at_once ! $ keep ! (0 ∷ []) $ done !
 
-    pub lend-array-shr : Single R.mir → Room R n → (xs : List R.Denot) → ent 𝓤 ⟦ ArrayAt xs ⟧ (H.⇛ (ex 𝓤 (λ (ν : ℕ). ex 𝓤 (λ (δ : GName). sep 𝓤 ⟦ HasShr R (array l n ν δ) xs ⟧ ⟦ KeptArrayShr ν xs ⟧))))
-    lend-array-shr one room xs =
+    pub lend-array-shr : Single R.mir → ((ν : ℕ) → Shares 𝓛 R (ν ∷ [])) → Room R n → (xs : List R.Denot) → ent 𝓤 ⟦ ArrayAt xs ⟧ (H.⇛ (ex 𝓤 (λ (ν : ℕ). ex 𝓤 (λ (δ : GName). sep 𝓤 ⟦ HasShr R (array l n ν δ) xs ⟧ ⟦ KeptArrayShr ν xs ⟧))))
+    lend-array-shr one law room xs =
         qed 𝓛 (‵ (ArrayAt xs) ∷ []) ∵ updating ! $ use1 𝓛 (‵ ((arr_parts (shares R) n).part full_share xs l 0)) (Array-apart 𝓛 R full_share one n xs l 0) $ fsplit ! $ feq_l ! (λ e.
         let e' : (slice_val (l, 0) n ∷ [] ≡ slice_val (l, 0) (length xs) ∷ []) × Room R (length xs) = (ap (λ (m : ℕ). slice_val (l, 0) m ∷ []) (sym e), subst (Room R) (sym e) room) in
-        feq_i ! ℕ (length xs) (length xs) refl $ fjoin ! $ lft_new ! tt (λ ν. move ! (1 ∷ []) $
-        use1 𝓛 (later (some (λ (δ : GName). ‵ ((ShrSlice erased (ν ∷ []) R).own_val (ref (array l n ν δ) xs) (slice_val (l, 0) (length xs) ∷ [])) ⊛ ‵ (flent (ν ∷ []) ((arr_parts (shares R) (length xs)).part full_share xs l 0))))) (lends_shr_slice 𝓛 R erased (ν ∷ []) full_share xs l 0 e'.1) $ await ! tt $ pick ! (λ δ. split ! $
+        feq_i ! ℕ (length xs) (length xs) refl $ fjoin ! $ lft_new ! tt (λ ν. move ! (1 ∷ 0 ∷ []) $
+        use2 𝓛 (later ((‵ ((ShrSlice erased (ν ∷ []) R).own_val (shr_ref (array l n ν 0) xs) (slice_val (l, 0) (length xs) ∷ [])) ⊛ ‵ (flent (ν ∷ []) ((arr_parts (shares R) (length xs)).part full_share xs l 0))) ⊛ ‵ (flft (ν ∷ []) full_share)))
+        (lends_shr_slice 𝓛 R erased (ν ∷ []) full_share xs l 0 e'.1 (ν ∷ []) (law ν) ((ν ∷ [], full_share) ∷ []) (Incl-refl (ν ∷ [])) (Incl-refl (ν ∷ []))) $ await ! tt $ split ! $ split ! $
         -- [the slice; the lender's part; the token]
-        rewrite ! 1 (λ (m : ℕ). ‵ (flent (ν ∷ []) ((arr_parts (shares R) m).part full_share xs l 0))) e refl $ fsplit ! $ drop ! $ pure_i ! (shr_slice_at R (ref (array l n ν δ) xs) (fat_val (array l n ν δ) ∷ [])) (tt, (tt, tt)) e' $ fjoin ! $
-        at_once ! $ show ! (λ (ν' : ℕ). ex 𝓤 (λ (δ' : GName). sep 𝓤 ⟦ HasShr R (array l n ν' δ') xs ⟧ ⟦ KeptArrayShr ν' xs ⟧)) ν $ show ! (λ (δ' : GName). sep 𝓤 ⟦ HasShr R (array l n ν δ') xs ⟧ ⟦ KeptArrayShr ν xs ⟧) δ $
-        move ! (0 ∷ 2 ∷ []) $ fjoin ! $ done !)))
+        rewrite ! 1 (λ (m : ℕ). ‵ (flent (ν ∷ []) ((arr_parts (shares R) m).part full_share xs l 0))) e refl $ fsplit ! $ drop ! $ pure_i ! (shr_slice_at R (shr_ref (array l n ν 0) xs) (fat_val (array l n ν 0) ∷ [])) (tt, (tt, tt)) e' $ fjoin ! $
+        at_once ! $ show ! (λ (ν' : ℕ). ex 𝓤 (λ (δ' : GName). sep 𝓤 ⟦ HasShr R (array l n ν' δ') xs ⟧ ⟦ KeptArrayShr ν' xs ⟧)) ν $ show ! (λ (δ' : GName). sep 𝓤 ⟦ HasShr R (array l n ν δ') xs ⟧ ⟦ KeptArrayShr ν xs ⟧) 0 $
+        move ! (0 ∷ 2 ∷ []) $ fjoin ! $ done !))
 
     pub back-array-shr : (ν : ℕ) (δ : GName) (xs : List R.Denot) → ent 𝓤 (sep 𝓤 ⟦ HasShr R (array l n ν δ) xs ⟧ ⟦ KeptArrayShr ν xs ⟧) (H.⇛ ⟦ ArrayAt xs ⟧)
     back-array-shr ν δ xs =
@@ -106,7 +108,7 @@ module _ (R : RattleType) (n l : ℕ) where
         use1 𝓛 (‵ (froom (ty_array (lone R.mir) n) l 0)) (𝓛.laws.at_room (ty_array (lone R.mir) n) l 0 (array_val us)) $ done !)))
 
 -- the machine value of n times one value
-each-is : (R : RattleType) (n : ℕ) (d : R.Denot) (v : Val) → Is R d (v ∷ []) → shadow (each R.Denot R.own (replicate n d) (replicate n v))
+each-is : (R : RattleType) (n : ℕ) (d : R.Denot) (v : Val) → Is R d (v ∷ []) → shadow (each R.Denot R.own_val (replicate n d) (replicate n v))
 each-is R zero d v is = tt
 each-is R (suc n) d v is = (is, each-is R n d v is)
 

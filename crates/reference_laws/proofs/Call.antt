@@ -5,6 +5,7 @@
 --     Chosen ps        what a call makes for each `&mut`: the lifetime for which it is lent again, and its ghost name
 --     Ks, Qs, As, Vss  the lifetimes, the shares, the arguments and their machine values: `bound_at ps cs` is the ghost of the callee's triple
 --     Facts ps         each plain value fits its type
+--     Copies ps        the laws of T's row for each `&[T]`, of which a call passes a copy
 --     Zs ps            the last value of each `&mut`.        Held, HeldAt      what the walk holds of the parameters, at entry and at exit
 --     Told ps zs E     the length of each `&mut [T]` is kept, and E
 --     Met ρ C          the callee's contract, with its clauses as facts in a row: it IS the triple of its signature, by computation.        Knows C F     at everything that may be passed.        Known F S c     that it is the contract of the signature S with the clauses c
@@ -25,28 +26,32 @@ use prog.Routine.{Routine, Env as Named}
 use prog.Wp.{Calls, Env, Loops, Tables}
 use types.Logic.{Logic, sem}
 use contract.Monad.{Fun, fact, fact_i, fact_use}
+use contract.Notation.{connectives}
 pub use denote.Builtin.{u8, u16, u32, u64, usize}
 use denote.Triple.Statement.{Triple}
 use denote.Triple.Spec.{triple_of, Spec}
 pub use denote.Triple.Table.{cited}
-use Rattle.reference_laws.proofs.Hand.{At, lent, ptr_val, fat_val, ref, HasRef, HasMut, HasShr, KeptRef, KeptMut, KeptShr, lend-ref, back-ref, lend-mut, back-mut, lend-shr, back_shr}
-use seplogic.Ra.TreeShare.{full_share}
-use mir.Syntax.{Name, Width, Ty, Body, Place, Opd as Operand, seq, call, erased, ty_int, ty_bool, ty_unit}
+use Rattle.reference_laws.proofs.Hand.{At, lent, ptr_val, fat_val, ref, shr_ref, HasRef, HasMut, HasShr, KeptRef, KeptMut, KeptShr, lend-ref, back-ref, lend-mut, back-mut, lend-shr, back_shr}
+use base.Fraction.{full_share}
+use mir.Syntax.{Callee, Width, Ty, Body, Place, Opd as Operand, seq, call, erased, ty_int, ty_bool, ty_unit}
 use mir.Val.{Val, vunit, vbool, vint, bits, has_ty, WT}
 use lib.Dec.{T}
-use base.Fml.{Fml, Lft, GName, ftrue, fsep, feq, flft, fres}
+use base.Fml.{Fml, Lft, GName, ftrue, fsep, feq, flft, fres, fbor}
 use sound.WpLaws.{FmC, fm_of}
 use contract.Lifetimes.{Lfts, Shares}
 use types.Kit.{Item, ‵, raw, given, mean, ⋆, push, pop, cut, Post as PostOf, Seq, runs, lands, settles, ◌⊛◌, some, later, ◌$◌, ◌∵◌, !, qed, by, move, keep, drop, use0, use1, use2, use3, split, split3, join, pick, learn, rewrite, fsplit, fjoin, feq_l, suffices, frame, check, await, updating, now as at_once, show, done}
 use types.Run.{Opds, calls, Calls-last}
 use denote.Exit.{yes, Last, left}
-use denote.RattleType.{RattleType}
+use denote.Memory.{mem}
+use denote.Lend.{Held as Borrowed}
+use types.SemTy.{Body as Referent}
+use denote.RattleType.{RattleType, RowLaws}
 use prog.Model.{Model}
 use contract.Running.{Running, tables}
 use denote.Signature.{Signature}
 use denote.Laws.{Is, Tells, Makes, shows}
 use denote.Plain.{UInt, Boolean, Nothing, uint_Makes, uint_Tells, uint_Lawful, bool_Makes, bool_Tells, Nothing-Tells, Nothing-Makes}
-use denote.Ref.{Bor, MutRef}
+use denote.Ref.{Bor, MutBor, MutRef}
 use denote.Slice.{MutSlice, ShrSlice, finally}
 use denote.Steps.{only, owned, facts, nothing}
 use denote.Struct.Struct.{Plains}
@@ -136,14 +141,14 @@ Args [] = Unit {0}
 Args (by-val D d ∷ ps) = D.row.Denot × Args ps
 Args (by_shr R p ys ∷ ps) = Bor (List R.Denot) × Args ps
 Args (by-same R p ys κ ∷ ps) = Bor (List R.Denot) × Args ps
-Args (by-mut R p ys ∷ ps) = Bor (List R.Denot) × Args ps
-Args (by-ref R p h ∷ ps) = Bor R.Denot × Args ps
+Args (by-mut R p ys ∷ ps) = MutBor (List R.Denot) × Args ps
+Args (by-ref R p h ∷ ps) = MutBor R.Denot × Args ps
 
 abbrev pub As : (ps : List Par) → Chosen ps → Args ps
 As [] cs = tt
 As (by-val D d ∷ ps) cs = (d, As ps cs)
-As (by_shr R p ys ∷ ps) cs = (ref p ys, As ps cs)
-As (by-same R p ys κ ∷ ps) cs = (ref p ys, As ps cs)
+As (by_shr R p ys ∷ ps) cs = (shr_ref p ys, As ps cs)
+As (by-same R p ys κ ∷ ps) cs = (shr_ref p ys, As ps cs)
 As (by-mut R p ys ∷ ps) cs = (ref (lent p cs.0 cs.1.0) ys, As ps cs.1.1)
 As (by-ref R p h ∷ ps) cs = (ref (lent p cs.0 cs.1.0) h, As ps cs.1.1)
 
@@ -174,11 +179,20 @@ Facts (by-same R p ys κ ∷ ps) = (p.κ ≡ κ) × Facts ps
 Facts (by-mut R p ys ∷ ps) = Facts ps
 Facts (by-ref R p h ∷ ps) = Facts ps
 
+-- a `&[T]` that is passed is copied, by the two laws of its elements' row
+abbrev pub Copies : List Par → Type 2
+Copies [] = Unit {2}
+Copies (by-val D d ∷ ps) = Copies ps
+Copies (by_shr R p ys ∷ ps) = RowLaws R × Copies ps
+Copies (by-same R p ys κ ∷ ps) = RowLaws R × Copies ps
+Copies (by-mut R p ys ∷ ps) = Copies ps
+Copies (by-ref R p h ∷ ps) = Copies ps
+
 abbrev pub Owns : (ps : List Par) → Chosen ps → Fml
 Owns [] cs = ftrue
 Owns (by-val D d ∷ ps) cs = fsep (D.row.own_val d (D.val d ∷ [])) (Owns ps cs)
-Owns (by_shr R p ys ∷ ps) cs = fsep ((ShrSlice erased p.κ R).own_val (ref p ys) (fat_val p ∷ [])) (Owns ps cs)
-Owns (by-same R p ys κ ∷ ps) cs = fsep ((ShrSlice erased κ R).own_val (ref p ys) (fat_val p ∷ [])) (Owns ps cs)
+Owns (by_shr R p ys ∷ ps) cs = fsep ((ShrSlice erased p.κ R).own_val (shr_ref p ys) (fat_val p ∷ [])) (Owns ps cs)
+Owns (by-same R p ys κ ∷ ps) cs = fsep ((ShrSlice erased κ R).own_val (shr_ref p ys) (fat_val p ∷ [])) (Owns ps cs)
 Owns (by-mut R p ys ∷ ps) cs = fsep ((MutSlice erased (cs.0 ∷ []) R).own_val (ref (lent p cs.0 cs.1.0) ys) (fat_val p ∷ [])) (Owns ps cs.1.1)
 Owns (by-ref R p h ∷ ps) cs = fsep ((MutRef erased (cs.0 ∷ []) R).own_val (ref (lent p cs.0 cs.1.0) h) (ptr_val p ∷ [])) (Owns ps cs.1.1)
 
@@ -191,7 +205,7 @@ Kept (by-same R p ys κ ∷ ps) cs = fsep (HasShr R p ys) (Kept ps cs)
 Kept (by-mut R p ys ∷ ps) cs = fsep (KeptMut R p cs.0 cs.1.0 ys) (Kept ps cs.1.1)
 Kept (by-ref R p h ∷ ps) cs = fsep (KeptRef R p cs.0 cs.1.0 h) (Kept ps cs.1.1)
 
--- what the contract binds at exit, and what it says of that
+-- what the contract binds at exit, and what it says of that. It hands back each `&mut`'s borrow, closed
 abbrev pub Fins : List Par → Type 0
 Fins [] = Unit {0}
 Fins (by-val D d ∷ ps) = Last (D.row.exit yes) d × Fins ps
@@ -205,8 +219,8 @@ Lefts [] cs ws = ftrue
 Lefts (by-val D d ∷ ps) cs ws = fsep (left (D.row.exit yes) d ws.0) (Lefts ps cs ws.1)
 Lefts (by_shr R p ys ∷ ps) cs ws = fsep ftrue (Lefts ps cs ws.1)
 Lefts (by-same R p ys κ ∷ ps) cs ws = fsep ftrue (Lefts ps cs ws.1)
-Lefts (by-mut R p ys ∷ ps) cs ws = fsep (fsep (finally R cs.1.0 ws.0) (feq ℕ (length ws.0) (length ys))) (Lefts ps cs.1.1 ws.1)
-Lefts (by-ref R p h ∷ ps) cs ws = fsep (fres cs.1.0 (R.coded.code ws.0)) (Lefts ps cs.1.1 ws.1)
+Lefts (by-mut R p ys ∷ ps) cs ws = fsep (fsep (fsep (finally R cs.1.0 ws.0) (feq ℕ (length ws.0) (length ys))) (fbor (cs.0 ∷ []) (Borrowed R (length ys) p.b p.o cs.1.0))) (Lefts ps cs.1.1 ws.1)
+Lefts (by-ref R p h ∷ ps) cs ws = fsep (fsep (fres cs.1.0 (R.coded.code ws.0)) (fbor (cs.0 ∷ []) (Referent (mem R) p.b p.o cs.1.0))) (Lefts ps cs.1.1 ws.1)
 
 abbrev pub Zs : List Par → Type 0
 Zs [] = Unit {0}
@@ -244,7 +258,7 @@ Every (φ ∷ ψ ∷ φs) = φ × Every (ψ ∷ φs)
 
 -- a callee
 pub record Rule : Type 2 where
-  pub name : Name
+  pub name : Callee
   pub pars : List Par
   pub result : Data
   pub requires : List (Type 0)
@@ -281,13 +295,13 @@ Lasts (mut R ∷ ss) = List R.Denot × Lasts ss
 Lasts (ref' R ∷ ss) = R.Denot × Lasts ss
 
 pub record Terms : Type 2 where
-  pub name : Name
+  pub name : Callee
   pub sorts : List Sort
   pub result : Data
   pub requires : Over sorts (List (Type 0))
   pub ensures : Over sorts (result.row.Denot → Lasts sorts → List (Type 0))
 
-abbrev pub stated-as : Name → (result : Data) (sorts : List Sort) → Over sorts (List (Type 0)) → Over sorts (result.row.Denot → Lasts sorts → List (Type 0)) → Terms
+abbrev pub stated-as : Callee → (result : Data) (sorts : List Sort) → Over sorts (List (Type 0)) → Over sorts (result.row.Denot → Lasts sorts → List (Type 0)) → Terms
 stated-as name result sorts requires ensures = record { name = name; sorts = sorts; result = result; requires = requires; ensures = ensures }
 
 -- what is passed: a place and a value for each reference
@@ -349,19 +363,20 @@ rule-of F x = record {
   ensures = λ r z. over F.sorts F.ensures x r (lasts-of (first-life F.sorts x) F.sorts x z);
 }
 
-module _ {M : Type 1} (𝓤 : Ura M) where
-  abbrev pub clauses : List (Type 0) → SProp 𝓤
-  clauses [] = emp 𝓤
-  clauses (φ ∷ []) = fact 𝓤 φ
-  clauses (φ ∷ ψ ∷ φs) = sep 𝓤 (fact 𝓤 φ) (clauses (ψ ∷ φs))
+-- all of some facts, in a row
+abbrev pub clauses : {M : Type 1} (𝓤 : Ura M) → List (Type 0) → SProp 𝓤
+clauses 𝓤 [] = (connectives 𝓤).⊤ₛ
+clauses 𝓤 (φ ∷ []) = (connectives 𝓤).⌜◌⌝ φ
+clauses 𝓤 (φ ∷ ψ ∷ φs) = (connectives 𝓤).◌∗◌ ((connectives 𝓤).⌜◌⌝ φ) (clauses 𝓤 (ψ ∷ φs))
 
-  pub hear-all : (φs : List (Type 0)) → ent 𝓤 (clauses φs) (fact 𝓤 (Every φs))
+module _ {M : Type 1} (𝓤 : Ura M) where
+  pub hear-all : (φs : List (Type 0)) → ent 𝓤 (clauses 𝓤 φs) (fact 𝓤 (Every φs))
   hear-all [] = fact_i 𝓤 (Unit {0}) (emp 𝓤) tt
   hear-all (φ ∷ []) = id⊢ 𝓤 (fact 𝓤 φ)
-  hear-all (φ ∷ ψ ∷ φs) = fact_use 𝓤 φ (fst∗ 𝓤 (fact 𝓤 φ) (clauses (ψ ∷ φs))) (λ x. fact_use 𝓤 (Every (ψ ∷ φs)) (via 𝓤 (clauses (ψ ∷ φs)) (snd∗ 𝓤 (fact 𝓤 φ) (clauses (ψ ∷ φs))) (hear-all (ψ ∷ φs)))
-      (λ y. fact_i 𝓤 (φ × Every (ψ ∷ φs)) (sep 𝓤 (fact 𝓤 φ) (clauses (ψ ∷ φs))) (x, y)))
+  hear-all (φ ∷ ψ ∷ φs) = fact_use 𝓤 φ (fst∗ 𝓤 (fact 𝓤 φ) (clauses 𝓤 (ψ ∷ φs))) (λ x. fact_use 𝓤 (Every (ψ ∷ φs)) (via 𝓤 (clauses 𝓤 (ψ ∷ φs)) (snd∗ 𝓤 (fact 𝓤 φ) (clauses 𝓤 (ψ ∷ φs))) (hear-all (ψ ∷ φs)))
+      (λ y. fact_i 𝓤 (φ × Every (ψ ∷ φs)) (sep 𝓤 (fact 𝓤 φ) (clauses 𝓤 (ψ ∷ φs))) (x, y)))
 
-  pub say-all : (φs : List (Type 0)) → Every φs → ent 𝓤 (emp 𝓤) (clauses φs)
+  pub say-all : (φs : List (Type 0)) → Every φs → ent 𝓤 (emp 𝓤) (clauses 𝓤 φs)
   say-all [] x = id⊢ 𝓤 (emp 𝓤)
   say-all (φ ∷ []) x = fact_i 𝓤 φ (emp 𝓤) x
   say-all (φ ∷ ψ ∷ φs) x = via 𝓤 (sep 𝓤 (emp 𝓤) (emp 𝓤)) (emp∗ 𝓤 (emp 𝓤)) (mono∗ 𝓤 (fact_i 𝓤 φ (emp 𝓤) x.0) (say-all (ψ ∷ φs) x.1))
@@ -404,30 +419,30 @@ module _ {M : Type 1} {𝓤 : Ura M} (𝓛 : Logic 𝓤) where
   Lent ps = later (some (λ (cs : Chosen ps). raw (Toks ps cs) ⊛ (‵ (Owns ps cs) ⊛ ‵ (Kept ps cs))))
 
   module _ where
-    pub lend-all : (ps : List Par) → Facts ps → ent 𝓤 (⋆ 𝓛 (Held ps)) (mean 𝓛 (Lent ps))
-    lend-all [] fs = qed 𝓛 [] ∵ updating ! $ nothing ! $ nothing ! $ nothing ! $ at_once ! $ show ! (Lending []) tt $ frame ! $ done !
-    lend-all (by-val D d ∷ ps) fs =
-        qed 𝓛 (raw (⋆ 𝓛 (Held ps)) ∷ []) ∵ updating ! $ use1 𝓛 (Lent ps) (lend-all ps fs.1) $ await ! tt $ pick ! (λ cs. split3 ! $ at_once ! $
+    pub lend-all : (ps : List Par) → Copies ps → Facts ps → ent 𝓤 (⋆ 𝓛 (Held ps)) (mean 𝓛 (Lent ps))
+    lend-all [] ls fs = qed 𝓛 [] ∵ updating ! $ nothing ! $ nothing ! $ nothing ! $ at_once ! $ show ! (Lending []) tt $ frame ! $ done !
+    lend-all (by-val D d ∷ ps) ls fs =
+        qed 𝓛 (raw (⋆ 𝓛 (Held ps)) ∷ []) ∵ updating ! $ use1 𝓛 (Lent ps) (lend-all ps ls fs.1) $ await ! tt $ pick ! (λ cs. split3 ! $ at_once ! $
         show ! (Lending (by-val D d ∷ ps)) cs $ frame ! $ owned ! D.row (Is D.row) (D.makes M 𝓤 𝓛) d (D.val d ∷ []) fs.0 $ fjoin ! $ done !)
-    lend-all (by_shr R p ys ∷ ps) fs = via 𝓤 (sep 𝓤 (sem 𝓛 (HasShr R p ys)) (⋆ 𝓛 (Held ps))) (pop 𝓛 (‵ (HasShr R p ys)) (Held ps)) (
-        qed 𝓛 (‵ (HasShr R p ys) ∷ raw (⋆ 𝓛 (Held ps)) ∷ []) ∵ updating ! $ use1 𝓛 (‵ (HasShr R p ys) ⊛ ‵ (KeptShr R p ys)) (lend-shr R 𝓛 p ys) $ split ! $ fsplit ! $ move ! (3 ∷ []) $
-        use1 𝓛 (Lent ps) (lend-all ps fs) $ await ! tt $ pick ! (λ cs. split3 ! $
+    lend-all (by_shr R p ys ∷ ps) ls fs = via 𝓤 (sep 𝓤 (sem 𝓛 (HasShr R p ys)) (⋆ 𝓛 (Held ps))) (pop 𝓛 (‵ (HasShr R p ys)) (Held ps)) (
+        qed 𝓛 (‵ (HasShr R p ys) ∷ raw (⋆ 𝓛 (Held ps)) ∷ []) ∵ updating ! $ use1 𝓛 (‵ (HasShr R p ys) ⊛ ‵ (KeptShr R p ys)) (lend-shr R 𝓛 p ls.0 ys) $ split ! $ fsplit ! $ move ! (3 ∷ []) $
+        use1 𝓛 (Lent ps) (lend-all ps ls.1 fs) $ await ! tt $ pick ! (λ cs. split3 ! $
         -- [tokens; owned; kept; the slice; its token; its copy]
         at_once ! $ show ! (Lending (by_shr R p ys ∷ ps)) cs $ move ! (4 ∷ 0 ∷ []) $ join ! $ frame ! $ move ! (2 ∷ 0 ∷ []) $ fjoin ! $ frame ! $ move ! (1 ∷ 0 ∷ []) $ fjoin ! $ done !))
-    lend-all (by-same R p ys κ ∷ ps) fs = via 𝓤 (sep 𝓤 (sem 𝓛 (HasShr R p ys)) (⋆ 𝓛 (Held ps))) (pop 𝓛 (‵ (HasShr R p ys)) (Held ps)) (
-        qed 𝓛 (‵ (HasShr R p ys) ∷ raw (⋆ 𝓛 (Held ps)) ∷ []) ∵ updating ! $ use1 𝓛 (‵ (HasShr R p ys) ⊛ ‵ (KeptShr R p ys)) (lend-shr R 𝓛 p ys) $ split ! $ move ! (1 ∷ []) $
-        rewrite ! 0 (λ (κ' : Lft). ‵ ((ShrSlice erased κ' R).own_val (ref p ys) (fat_val p ∷ []))) fs.0 refl $ move ! (2 ∷ []) $
-        use1 𝓛 (Lent ps) (lend-all ps fs.1) $ await ! tt $ pick ! (λ cs. split3 ! $
+    lend-all (by-same R p ys κ ∷ ps) ls fs = via 𝓤 (sep 𝓤 (sem 𝓛 (HasShr R p ys)) (⋆ 𝓛 (Held ps))) (pop 𝓛 (‵ (HasShr R p ys)) (Held ps)) (
+        qed 𝓛 (‵ (HasShr R p ys) ∷ raw (⋆ 𝓛 (Held ps)) ∷ []) ∵ updating ! $ use1 𝓛 (‵ (HasShr R p ys) ⊛ ‵ (KeptShr R p ys)) (lend-shr R 𝓛 p ls.0 ys) $ split ! $ move ! (1 ∷ []) $
+        rewrite ! 0 (λ (κ' : Lft). ‵ ((ShrSlice erased κ' R).own_val (shr_ref p ys) (fat_val p ∷ []))) fs.0 refl $ move ! (2 ∷ []) $
+        use1 𝓛 (Lent ps) (lend-all ps ls.1 fs.1) $ await ! tt $ pick ! (λ cs. split3 ! $
         -- [tokens; owned; kept; the slice at κ; what is held]
         at_once ! $ show ! (Lending (by-same R p ys κ ∷ ps)) cs $ frame ! $ move ! (2 ∷ 0 ∷ []) $ fjoin ! $ frame ! $ move ! (1 ∷ 0 ∷ []) $ fjoin ! $ done !))
-    lend-all (by-mut R p ys ∷ ps) fs = via 𝓤 (sep 𝓤 (sem 𝓛 (HasMut R p ys)) (⋆ 𝓛 (Held ps))) (pop 𝓛 (‵ (HasMut R p ys)) (Held ps)) (
+    lend-all (by-mut R p ys ∷ ps) ls fs = via 𝓤 (sep 𝓤 (sem 𝓛 (HasMut R p ys)) (⋆ 𝓛 (Held ps))) (pop 𝓛 (‵ (HasMut R p ys)) (Held ps)) (
         qed 𝓛 (‵ (HasMut R p ys) ∷ raw (⋆ 𝓛 (Held ps)) ∷ []) ∵ updating ! $ use1 𝓛 (later (some (λ (ν : ℕ). some (λ (δ : GName). ‵ (HasMut R (lent p ν δ) ys) ⊛ ‵ (KeptMut R p ν δ ys))))) (lend-mut R 𝓛 p ys) $ await ! tt $
-        pick ! (λ ν. pick ! (λ δ. split ! $ fsplit ! $ move ! (3 ∷ []) $ use1 𝓛 (Lent ps) (lend-all ps fs) $ await ! tt $ pick ! (λ cs. split3 ! $
+        pick ! (λ ν. pick ! (λ δ. split ! $ fsplit ! $ move ! (3 ∷ []) $ use1 𝓛 (Lent ps) (lend-all ps ls fs) $ await ! tt $ pick ! (λ cs. split3 ! $
         -- [tokens; owned; kept; the slice; its token; what is kept of it]
         at_once ! $ show ! (Lending (by-mut R p ys ∷ ps)) (ν, (δ, cs)) $ move ! (4 ∷ 0 ∷ []) $ join ! $ frame ! $ move ! (2 ∷ 0 ∷ []) $ fjoin ! $ frame ! $ move ! (1 ∷ 0 ∷ []) $ fjoin ! $ done !))))
-    lend-all (by-ref R p h ∷ ps) fs = via 𝓤 (sep 𝓤 (sem 𝓛 (HasRef R p h)) (⋆ 𝓛 (Held ps))) (pop 𝓛 (‵ (HasRef R p h)) (Held ps)) (
+    lend-all (by-ref R p h ∷ ps) ls fs = via 𝓤 (sep 𝓤 (sem 𝓛 (HasRef R p h)) (⋆ 𝓛 (Held ps))) (pop 𝓛 (‵ (HasRef R p h)) (Held ps)) (
         qed 𝓛 (‵ (HasRef R p h) ∷ raw (⋆ 𝓛 (Held ps)) ∷ []) ∵ updating ! $ use1 𝓛 (later (some (λ (ν : ℕ). some (λ (δ : GName). ‵ (HasRef R (lent p ν δ) h) ⊛ ‵ (KeptRef R p ν δ h))))) (lend-ref R 𝓛 p h) $ await ! tt $
-        pick ! (λ ν. pick ! (λ δ. split ! $ fsplit ! $ move ! (3 ∷ []) $ use1 𝓛 (Lent ps) (lend-all ps fs) $ await ! tt $ pick ! (λ cs. split3 ! $
+        pick ! (λ ν. pick ! (λ δ. split ! $ fsplit ! $ move ! (3 ∷ []) $ use1 𝓛 (Lent ps) (lend-all ps ls fs) $ await ! tt $ pick ! (λ cs. split3 ! $
         at_once ! $ show ! (Lending (by-ref R p h ∷ ps)) (ν, (δ, cs)) $ move ! (4 ∷ 0 ∷ []) $ join ! $ frame ! $ move ! (2 ∷ 0 ∷ []) $ fjoin ! $ frame ! $ move ! (1 ∷ 0 ∷ []) $ fjoin ! $ done !))))
 
     abbrev Lending-in : (ps : List Par) → Chosen ps → Fins ps → List (Item 𝓤)
@@ -453,15 +468,15 @@ module _ {M : Type 1} {𝓤 : Ura M} (𝓛 : Logic 𝓤) where
         move ! (3 ∷ 2 ∷ 1 ∷ []) $ use3 𝓛 (Returned ps (seen ps ws.1) E) (back-all ps cs ws.1 E e) $ await ! tt $ learn ! (λ t. at_once ! $ check ! t $
         suffices ! (sep 𝓤 (sem 𝓛 (HasShr R p ys)) (⋆ 𝓛 (HeldAt 𝓤 ps (seen ps ws.1)))) (push 𝓛 (‵ (HasShr R p ys)) (HeldAt 𝓤 ps (seen ps ws.1))) $ move ! (1 ∷ 0 ∷ []) $ done !)
     back-all (by-mut R p ys ∷ ps) cs ws E e =
-        qed 𝓛 ((‵ (flft (cs.0 ∷ []) full_share) ⊛ raw (Toks ps cs.1.1)) ∷ ‵ (fsep (fsep (finally R cs.1.0 ws.0) (feq ℕ (length ws.0) (length ys))) (Lefts ps cs.1.1 ws.1)) ∷ ‵ (fsep (KeptMut R p cs.0 cs.1.0 ys) (Kept ps cs.1.1)) ∷ []) ∵ updating ! $
-        split ! $ move ! (2 ∷ []) $ fsplit ! $ fsplit ! $ move ! (1 ∷ []) $ feq_l ! (λ len. move ! (4 ∷ []) $ fsplit ! $
+        qed 𝓛 ((‵ (flft (cs.0 ∷ []) full_share) ⊛ raw (Toks ps cs.1.1)) ∷ ‵ (Lefts (by-mut R p ys ∷ ps) cs ws) ∷ ‵ (fsep (KeptMut R p cs.0 cs.1.0 ys) (Kept ps cs.1.1)) ∷ []) ∵ updating ! $
+        split ! $ move ! (2 ∷ []) $ fsplit ! $ fsplit ! $ move ! (1 ∷ []) $ drop ! $ fsplit ! $ move ! (1 ∷ []) $ feq_l ! (λ len. move ! (4 ∷ []) $ fsplit ! $
         -- [what is kept of it; kept; its last list; said; its token; tokens]
         move ! (4 ∷ 2 ∷ 0 ∷ []) $ use3 𝓛 (later (‵ (HasMut R p ws.0))) (back-mut R 𝓛 p cs.0 cs.1.0 ys ws.0 len) $ await ! tt $ move ! (3 ∷ 2 ∷ 1 ∷ []) $
         use3 𝓛 (Returned ps (seen ps ws.1) E) (back-all ps cs.1.1 ws.1 E e) $ await ! tt $ learn ! (λ t. at_once ! $ check ! (len, t) $
         suffices ! (sep 𝓤 (sem 𝓛 (HasMut R p ws.0)) (⋆ 𝓛 (HeldAt 𝓤 ps (seen ps ws.1)))) (push 𝓛 (‵ (HasMut R p ws.0)) (HeldAt 𝓤 ps (seen ps ws.1))) $ move ! (1 ∷ 0 ∷ []) $ done !))
     back-all (by-ref R p h ∷ ps) cs ws E e =
-        qed 𝓛 ((‵ (flft (cs.0 ∷ []) full_share) ⊛ raw (Toks ps cs.1.1)) ∷ ‵ (fsep (fres cs.1.0 (R.coded.code ws.0)) (Lefts ps cs.1.1 ws.1)) ∷ ‵ (fsep (KeptRef R p cs.0 cs.1.0 h) (Kept ps cs.1.1)) ∷ []) ∵ updating ! $
-        split ! $ move ! (2 ∷ []) $ fsplit ! $ move ! (4 ∷ []) $ fsplit ! $
+        qed 𝓛 ((‵ (flft (cs.0 ∷ []) full_share) ⊛ raw (Toks ps cs.1.1)) ∷ ‵ (Lefts (by-ref R p h ∷ ps) cs ws) ∷ ‵ (fsep (KeptRef R p cs.0 cs.1.0 h) (Kept ps cs.1.1)) ∷ []) ∵ updating ! $
+        split ! $ move ! (2 ∷ []) $ fsplit ! $ fsplit ! $ move ! (1 ∷ []) $ drop ! $ move ! (4 ∷ []) $ fsplit ! $
         -- [what is kept of it; kept; its last value; said; its token; tokens]
         move ! (4 ∷ 2 ∷ 0 ∷ []) $ use3 𝓛 (later (‵ (HasRef R p ws.0))) (back-ref R 𝓛 p cs.0 cs.1.0 h ws.0) $ await ! tt $ move ! (3 ∷ 2 ∷ 1 ∷ []) $
         use3 𝓛 (Returned ps (seen ps ws.1) E) (back-all ps cs.1.1 ws.1 E e) $ await ! tt $ learn ! (λ t. at_once ! $ check ! t $
@@ -491,7 +506,7 @@ module _ {M : Type 1} {𝓤 : Ura M} (𝓛 : Logic 𝓤) (ρ : Rule) where
   abbrev pub Met : Calls 𝓤 H → Type 1
   Met C = (cs : Chosen ρ.pars) → ent 𝓤 (sep 𝓤 (sep 𝓤 (Toks 𝓛 ρ.pars cs) (sem 𝓛 (Owns ρ.pars cs))) (clauses 𝓤 ρ.requires)) (C ρ.name (Vs ρ.pars) (Done cs))
 
-  module _ (C : Calls 𝓤 H) (fm : FmC 𝓤 H 𝓛.laws C) (fs : Facts ρ.pars) (req : Every ρ.requires) (met : Met C) where
+  module _ (C : Calls 𝓤 H) (fm : FmC 𝓤 H 𝓛.laws C) (ls : Copies ρ.pars) (fs : Facts ρ.pars) (req : Every ρ.requires) (met : Met C) where
     returns : (cs : Chosen ρ.pars) (v : Val) → ent 𝓤 (sep 𝓤 (Done cs v) (sem 𝓛 (Kept ρ.pars cs))) (mean 𝓛 (After v))
     returns cs v =
         qed 𝓛 (later (some (λ (r : ρ.result.row.Denot). (raw (Toks 𝓛 ρ.pars cs) ⊛ ‵ (ρ.result.row.own_val r (v ∷ []))) ⊛ some (λ (ws : Fins ρ.pars). ‵ (Lefts ρ.pars cs ws) ⊛ raw (clauses 𝓤 (ρ.ensures r (seen ρ.pars ws)))))) ∷ ‵ (Kept ρ.pars cs) ∷ []) ∵ updating ! $
@@ -502,7 +517,7 @@ module _ {M : Type 1} {𝓤 : Ura M} (𝓛 : Logic 𝓤) (ρ : Rule) where
 
     pub called : ent 𝓤 (⋆ 𝓛 (Held 𝓛 ρ.pars)) (H.⇛ (C ρ.name (Vs ρ.pars) (λ v. mean 𝓛 (After v))))
     called =
-        qed 𝓛 (raw (⋆ 𝓛 (Held 𝓛 ρ.pars)) ∷ []) ∵ updating ! $ use1 𝓛 (Lent 𝓛 ρ.pars) (lend-all 𝓛 ρ.pars fs) $ await ! tt $ pick ! (λ cs. split3 ! $
+        qed 𝓛 (raw (⋆ 𝓛 (Held 𝓛 ρ.pars)) ∷ []) ∵ updating ! $ use1 𝓛 (Lent 𝓛 ρ.pars) (lend-all 𝓛 ρ.pars ls fs) $ await ! tt $ pick ! (λ cs. split3 ! $
         join ! $ use0 𝓛 (raw (clauses 𝓤 ρ.requires)) (say-all 𝓤 ρ.requires req) $ move ! (1 ∷ 0 ∷ []) $ use2 𝓛 (raw (C ρ.name (Vs ρ.pars) (Done cs))) (met cs) $ at_once ! $
         by ! (fm ρ.name (Vs ρ.pars) (Done cs) (λ v. mean 𝓛 (After v)) (sem 𝓛 (Kept ρ.pars cs)) (returns cs)))
 
@@ -510,18 +525,18 @@ module _ {M : Type 1} {𝓤 : Ura M} {K : Type 0} (𝓛 : Logic 𝓤) {Γ : List
   open 𝓛 use {H}
 
   module _ (fm : FmC 𝓤 H 𝓛.laws C) where
-    calls_by : (ρ : Rule) → K → {rest : Body} → Facts ρ.pars → Every ρ.requires → Met 𝓛 ρ C → Opds K 𝓛 (raw (C ρ.name (Vs ρ.pars) (λ v. mean 𝓛 (After 𝓛 ρ v))) ∷ Γ) E xs (Vs ρ.pars)
+    calls_by : (ρ : Rule) → K → {rest : Body} → Copies ρ.pars → Facts ρ.pars → Every ρ.requires → Met 𝓛 ρ C → Opds K 𝓛 (raw (C ρ.name (Vs ρ.pars) (λ v. mean 𝓛 (After 𝓛 ρ v))) ∷ Γ) E xs (Vs ρ.pars)
         → ((z : Z 𝓛 ρ) → Says 𝓛 ρ (ρ.result.val z.0) z → Seq K 𝓛 (HeldAt 𝓤 ρ.pars z.1 ++ Γ) (lands C Λ E dst (ρ.result.val z.0) rest q)) → Seq K 𝓛 (Held 𝓛 ρ.pars ++ Γ) (runs C Λ E (seq (call ρ.name xs dst) rest) q)
-    calls_by ρ t {rest} fs req met os k =
-        cut (Held 𝓛 ρ.pars) (later (raw (C ρ.name (Vs ρ.pars) (λ v. mean 𝓛 (After 𝓛 ρ v)))) ∷ []) Γ (called 𝓛 ρ C fm fs req met) $ await t tt $
+    calls_by ρ t {rest} ls fs req met os k =
+        cut (Held 𝓛 ρ.pars) (later (raw (C ρ.name (Vs ρ.pars) (λ v. mean 𝓛 (After 𝓛 ρ v)))) ∷ []) Γ (called 𝓛 ρ C fm ls fs req met) $ await t tt $
         calls t fm (After 𝓛 ρ) os (λ v. await t tt $ pick t (λ z. learn t (λ s. cut (raw (⋆ 𝓛 (HeldAt 𝓤 ρ.pars z.1)) ∷ []) (HeldAt 𝓤 ρ.pars z.1) Γ (id⊢ 𝓤 _) $
         let e : v ∷ [] ≡ ρ.result.val z.0 ∷ [] = ρ.result.tells z.0 (v ∷ []) s.0 in
         subst (λ (u : Val). Seq K 𝓛 (HeldAt 𝓤 ρ.pars z.1 ++ Γ) (lands C Λ E dst u rest q)) (sym (ap only e)) (k z (subst (Is ρ.result.row z.0) e s.0, s.1)))))
 
-    calls-by-last : (ρ : Rule) → K → Facts ρ.pars → Every ρ.requires → Met 𝓛 ρ C → Opds K 𝓛 (raw (C ρ.name (Vs ρ.pars) (λ v. mean 𝓛 (After 𝓛 ρ v))) ∷ Γ) E xs (Vs ρ.pars)
+    calls-by-last : (ρ : Rule) → K → Copies ρ.pars → Facts ρ.pars → Every ρ.requires → Met 𝓛 ρ C → Opds K 𝓛 (raw (C ρ.name (Vs ρ.pars) (λ v. mean 𝓛 (After 𝓛 ρ v))) ∷ Γ) E xs (Vs ρ.pars)
         → ((z : Z 𝓛 ρ) → Says 𝓛 ρ (ρ.result.val z.0) z → Seq K 𝓛 (HeldAt 𝓤 ρ.pars z.1 ++ Γ) (settles E dst (ρ.result.val z.0) q)) → Seq K 𝓛 (Held 𝓛 ρ.pars ++ Γ) (runs C Λ E (call ρ.name xs dst) q)
-    calls-by-last ρ t fs req met os k =
-        cut (Held 𝓛 ρ.pars) (later (raw (C ρ.name (Vs ρ.pars) (λ v. mean 𝓛 (After 𝓛 ρ v)))) ∷ []) Γ (called 𝓛 ρ C fm fs req met) $ await t tt $
+    calls-by-last ρ t ls fs req met os k =
+        cut (Held 𝓛 ρ.pars) (later (raw (C ρ.name (Vs ρ.pars) (λ v. mean 𝓛 (After 𝓛 ρ v)))) ∷ []) Γ (called 𝓛 ρ C fm ls fs req met) $ await t tt $
         Calls-last t fm (After 𝓛 ρ) os (λ v. await t tt $ pick t (λ z. learn t (λ s. cut (raw (⋆ 𝓛 (HeldAt 𝓤 ρ.pars z.1)) ∷ []) (HeldAt 𝓤 ρ.pars z.1) Γ (id⊢ 𝓤 _) $
         let e : v ∷ [] ≡ ρ.result.val z.0 ∷ [] = ρ.result.tells z.0 (v ∷ []) s.0 in
         subst (λ (u : Val). Seq K 𝓛 (HeldAt 𝓤 ρ.pars z.1 ++ Γ) (settles E dst u q)) (sym (ap only e)) (k z (subst (Is ρ.result.row z.0) e s.0, s.1)))))
@@ -533,26 +548,26 @@ Knows 𝓛 C F = (x : Inputs F.sorts) → Met 𝓛 (rule-of F x) C
 -- a signature and its clauses are a function's contract: what is proved of its routine is all that a walk asks to know
 abbrev pub Known : (F : Terms) (S : Signature) → ((M : Type 1) (𝓤 : Ura M) (𝓛 : Logic 𝓤) → (Memory → SProp 𝓤) → (Routine → Fun 𝓤) → Spec 𝓤 S) → Type 2
 Known F S spec =
-    (M : Type 1) (𝓤 : Ura M) (𝓛 : Logic 𝓤) (𝓜 : Model 𝓤 𝓛.H) (𝓡 : Running 𝓤 𝓛.H 𝓜) (γ : Named) (r : Routine) → γ F.name ≡ r → Triple 𝓤 (𝓡.run r) (triple_of 𝓛 S (spec M 𝓤 𝓛 𝓜.mem 𝓡.run))
+    (M : Type 1) (𝓤 : Ura M) (𝓛 : Logic 𝓤) (𝓜 : Model 𝓤 𝓛.H) (𝓡 : Running 𝓤 𝓛.H 𝓜) (γ : Named) (r : Routine) → γ F.name ≡ r → Triple 𝓤 (𝓡.run r) (triple_of 𝓛 S (spec M 𝓤 𝓛 𝓜.mem 𝓡.returns))
     → Knows 𝓛 (tables 𝓤 𝓛.H 𝓜 𝓡 γ).C F
 
 module _ {M : Type 1} {𝓤 : Ura M} {K : Type 0} (𝓛 : Logic 𝓤) {Γ : List (Item 𝓤)} {E : Env 𝓤 𝓛.H} (𝓣 : Tables 𝓤 𝓛.H) {q : PostOf 𝓤 𝓛.H} {dst : Place} {xs : List Operand} where
   -- of one call
   open 𝓛 use {H}
 
-  pub calls-met : (F : Terms) (x : Inputs F.sorts) → K → {rest : Body} → Facts (rule-of F x).pars → Every (rule-of F x).requires → Met 𝓛 (rule-of F x) 𝓣.C → Opds K 𝓛 (raw (𝓣.C F.name (Vs (rule-of F x).pars) (λ v. mean 𝓛 (After 𝓛 (rule-of F x) v))) ∷ Γ) E xs (Vs (rule-of F x).pars)
+  pub calls-met : (F : Terms) (x : Inputs F.sorts) → K → {rest : Body} → Copies (rule-of F x).pars → Facts (rule-of F x).pars → Every (rule-of F x).requires → Met 𝓛 (rule-of F x) 𝓣.C → Opds K 𝓛 (raw (𝓣.C F.name (Vs (rule-of F x).pars) (λ v. mean 𝓛 (After 𝓛 (rule-of F x) v))) ∷ Γ) E xs (Vs (rule-of F x).pars)
       → ((z : Z 𝓛 (rule-of F x)) → Says 𝓛 (rule-of F x) (F.result.val z.0) z → Seq K 𝓛 (HeldAt 𝓤 (rule-of F x).pars z.1 ++ Γ) (lands 𝓣.C 𝓣.Λ E dst (F.result.val z.0) rest q)) → Seq K 𝓛 (Held 𝓛 (rule-of F x).pars ++ Γ) (runs 𝓣.C 𝓣.Λ E (seq (call F.name xs dst) rest) q)
-  calls-met F x t fs req met os k = calls_by 𝓛 (fm_of 𝓤 H 𝓛.laws 𝓣) (rule-of F x) t fs req met os k
+  calls-met F x t ls fs req met os k = calls_by 𝓛 (fm_of 𝓤 H 𝓛.laws 𝓣) (rule-of F x) t ls fs req met os k
 
-  pub calls-met-last : (F : Terms) (x : Inputs F.sorts) → K → Facts (rule-of F x).pars → Every (rule-of F x).requires → Met 𝓛 (rule-of F x) 𝓣.C → Opds K 𝓛 (raw (𝓣.C F.name (Vs (rule-of F x).pars) (λ v. mean 𝓛 (After 𝓛 (rule-of F x) v))) ∷ Γ) E xs (Vs (rule-of F x).pars)
+  pub calls-met-last : (F : Terms) (x : Inputs F.sorts) → K → Copies (rule-of F x).pars → Facts (rule-of F x).pars → Every (rule-of F x).requires → Met 𝓛 (rule-of F x) 𝓣.C → Opds K 𝓛 (raw (𝓣.C F.name (Vs (rule-of F x).pars) (λ v. mean 𝓛 (After 𝓛 (rule-of F x) v))) ∷ Γ) E xs (Vs (rule-of F x).pars)
       → ((z : Z 𝓛 (rule-of F x)) → Says 𝓛 (rule-of F x) (F.result.val z.0) z → Seq K 𝓛 (HeldAt 𝓤 (rule-of F x).pars z.1 ++ Γ) (settles E dst (F.result.val z.0) q)) → Seq K 𝓛 (Held 𝓛 (rule-of F x).pars ++ Γ) (runs 𝓣.C 𝓣.Λ E (call F.name xs dst) q)
-  calls-met-last F x t fs req met os k = calls-by-last 𝓛 (fm_of 𝓤 H 𝓛.laws 𝓣) (rule-of F x) t fs req met os k
+  calls-met-last F x t ls fs req met os k = calls-by-last 𝓛 (fm_of 𝓤 H 𝓛.laws 𝓣) (rule-of F x) t ls fs req met os k
 
   -- of a function whose contract is known
-  pub calls-any : (F : Terms) (x : Inputs F.sorts) → K → {rest : Body} → Facts (rule-of F x).pars → Every (rule-of F x).requires → Knows 𝓛 𝓣.C F → Opds K 𝓛 (raw (𝓣.C F.name (Vs (rule-of F x).pars) (λ v. mean 𝓛 (After 𝓛 (rule-of F x) v))) ∷ Γ) E xs (Vs (rule-of F x).pars)
+  pub calls-any : (F : Terms) (x : Inputs F.sorts) → K → {rest : Body} → Copies (rule-of F x).pars → Facts (rule-of F x).pars → Every (rule-of F x).requires → Knows 𝓛 𝓣.C F → Opds K 𝓛 (raw (𝓣.C F.name (Vs (rule-of F x).pars) (λ v. mean 𝓛 (After 𝓛 (rule-of F x) v))) ∷ Γ) E xs (Vs (rule-of F x).pars)
       → ((z : Z 𝓛 (rule-of F x)) → Says 𝓛 (rule-of F x) (F.result.val z.0) z → Seq K 𝓛 (HeldAt 𝓤 (rule-of F x).pars z.1 ++ Γ) (lands 𝓣.C 𝓣.Λ E dst (F.result.val z.0) rest q)) → Seq K 𝓛 (Held 𝓛 (rule-of F x).pars ++ Γ) (runs 𝓣.C 𝓣.Λ E (seq (call F.name xs dst) rest) q)
-  calls-any F x t fs req known os k = calls-met F x t fs req (known x) os k
+  calls-any F x t ls fs req known os k = calls-met F x t ls fs req (known x) os k
 
-  pub calls-any-last : (F : Terms) (x : Inputs F.sorts) → K → Facts (rule-of F x).pars → Every (rule-of F x).requires → Knows 𝓛 𝓣.C F → Opds K 𝓛 (raw (𝓣.C F.name (Vs (rule-of F x).pars) (λ v. mean 𝓛 (After 𝓛 (rule-of F x) v))) ∷ Γ) E xs (Vs (rule-of F x).pars)
+  pub calls-any-last : (F : Terms) (x : Inputs F.sorts) → K → Copies (rule-of F x).pars → Facts (rule-of F x).pars → Every (rule-of F x).requires → Knows 𝓛 𝓣.C F → Opds K 𝓛 (raw (𝓣.C F.name (Vs (rule-of F x).pars) (λ v. mean 𝓛 (After 𝓛 (rule-of F x) v))) ∷ Γ) E xs (Vs (rule-of F x).pars)
       → ((z : Z 𝓛 (rule-of F x)) → Says 𝓛 (rule-of F x) (F.result.val z.0) z → Seq K 𝓛 (HeldAt 𝓤 (rule-of F x).pars z.1 ++ Γ) (settles E dst (F.result.val z.0) q)) → Seq K 𝓛 (Held 𝓛 (rule-of F x).pars ++ Γ) (runs 𝓣.C 𝓣.Λ E (call F.name xs dst) q)
-  calls-any-last F x t fs req known os k = calls-met-last F x t fs req (known x) os k
+  calls-any-last F x t ls fs req known os k = calls-met-last F x t ls fs req (known x) os k

@@ -14,50 +14,52 @@ use mathlib.Core.List.{List, [], ◌∷◌, ◌++◌}
 use mathlib.Core.Bool.{Bool, true, false}
 use mathlib.Core.Option.{Option, some as full, none}
 use lib.Dec.{T}
-use seplogic.Ra.TreeShare.PosShare
-use seplogic.Ra.TreeShare.{full_share}
+use base.Fraction as PosShare
+use base.Fraction.{full_share}
 use lib.ListN.{length}
 use seplogic.Ra.Ura.{Ura}
 use mir.Syntax.{Ty, Local, local, Fn, return, erased}
 use mir.Val.{Val, has_ty, WT}
-use base.Logic.{SProp, ent, sep, ex, emp, id⊢, via, fst∗, snd∗, mono∗, mono_l, mono_r, ex_i, ex_e}
-use base.Fml.{Fml, Lft, Share, ftrue, ffalse, feq, flt, fsep, fand, for, fwand, fex, fall, fupd, fat, froom, fdies, flft, fdead, fobs, fauth, fres, fbor, fobor, flent, fshr_bor}
+use base.Logic.{SProp, ent, sep, ex, emp, id⊢, via, fst∗, snd∗, mono_l, mono_r, ex_i, ex_e}
+use base.Fml.{Fml, Lft, Share, ftrue, ffalse, feq, flt, fsep, fand, for, fwand, fex, fall, fupd, fat, froom, fdies, flft, fdead, fobs, fauth, fres, fbor, fobor, flent, fshr_bor, fhide, fleft, fown, finv, fnamed, ftok, fkid, fme, fsent}
 use prog.Wp.{Heap, Env, Calls, Loops, WpFn, Closed, returns as returnsᴼ, at_return}
 use prog.Model.{Model}
-use prog.Routine.{Name, Env as Named}
+use prog.Routine.{Callee, Env as Named}
 use types.Logic.{Logic, sem}
-use contract.Monad.{Fun, fact, fact_i, fact_use}
+use contract.Monad.{fact, fact_i, fact_use}
 use contract.Lifetimes.{Lfts, Shares}
 use contract.Running.{Running, tables, tables_of}
 use sound.WpLaws.{WpFn-mono}
-use types.Kit.{Item, ‵, raw, Step, some, given, later, Post, post, Seq, mean, ⋆, push, pop, ++⊢, ⊢++, Goal, allocs, params', passes, runs, at_ret, Sq, ◌⊛◌, ◌$◌, ◌∵◌, !, qed, by, move, keep, drop, use0, use1, use2, split, join, fsplit, fsplit3, fjoin, feq_i, suffices, frame, updating, now as at_once, show, done}
+use types.Kit.{Item, ‵, raw, Step, some, given, later, rewrite, Post, post, Seq, mean, ⋆, push, pop, ++⊢, ⊢++, Goal, allocs, params', passes, runs, at_ret, Sq, ◌⊛◌, ◌$◌, ◌∵◌, !, qed, by, move, keep, drop, use0, use1, use2, split, join, fsplit, fsplit3, fjoin, feq_i, suffices, frame, updating, now as at_once, show, done}
 use types.Run.{enter, alloc0, alloc1, params1, pass0, pass1, init, look, returns_within}
+use denote.Memory.{mem}
+use denote.Lend.{Held as Borrowed}
+use types.SemTy.{Body as Referent}
 use denote.Exit.{yes, Exit, unchanged, leaves as leavesᴱ, Last, left}
-use denote.RattleType.{RattleType}
 use denote.Laws.{Is, shows}
 use denote.Ref.{Bor, MutBor, MutRef, mut_Tells}
 use denote.Slice.{MutSlice, ShrSlice, Room, finally, res-finally, coded_holeys, heres, mut_slice_Tells, shr_slice_Tells}
 use denote.Steps.{owned, nothing}
 use Rattle.reference_laws.proofs.Flow.{Cells, Dies, frees_any}
-use Rattle.reference_laws.proofs.Hand.{At, ref, ptr_val, fat_val, HasRef, HasMut, HasShr}
-use Rattle.reference_laws.proofs.Call.{Data, Par, by-val, by_shr, by-same, by-mut, by-ref, Each, Vss, Vs, Fins, Zs, seen, Told, Every, Rule, clauses, hear-all, say-all, HeldAt, Held, Sort, val, shr, same, mut, ref', Inputs, Terms, first-life, pars-of, rule-of}
+use Rattle.reference_laws.proofs.Hand.{At, ref, shr_ref, ptr_val, fat_val, HasRef, HasMut, HasShr}
+use Rattle.reference_laws.proofs.Call.{Par, by-val, by_shr, by-same, by-mut, by-ref, Each, Vss, Vs, Fins, Zs, seen, Told, Every, Rule, clauses, hear-all, say-all, HeldAt, Held, Sort, val, shr, same, mut, ref', Inputs, Terms, first-life, pars-of, rule-of}
 
 -- ---- a value that was passed and of which nothing is said at exit
 abbrev quiet_then : {X : Type 0} → Exit X → Type 0 → Type 0
 quiet_then unchanged P = P
-quiet_then (leavesᴱ L l S s) P = ⊥
+quiet_then (leavesᴱ L l S s z) P = ⊥
 
 abbrev last_of : {X : Type 0} (e : Exit X) (d : X) (P : Type 0) → quiet_then e P → Last e d
 last_of unchanged d P q = tt
-last_of (leavesᴱ L l S s) d P q = absurd q
+last_of (leavesᴱ L l S s z) d P q = absurd q
 
 abbrev rest_of : {X : Type 0} (e : Exit X) (P : Type 0) → quiet_then e P → P
 rest_of unchanged P q = q
-rest_of (leavesᴱ L l S s) P q = absurd q
+rest_of (leavesᴱ L l S s z) P q = absurd q
 
 left-of : {M : Type 1} {𝓤 : Ura M} (𝓛 : Logic 𝓤) {X : Type 0} (e : Exit X) (d : X) (P : Type 0) (q : quiet_then e P) → ent 𝓤 (emp 𝓤) (sem 𝓛 (left e d (last_of e d P q)))
 left-of {𝓤 = 𝓤} 𝓛 unchanged d P q = id⊢ 𝓤 (emp 𝓤)
-left-of 𝓛 (leavesᴱ L l S s) d P q = absurd q
+left-of 𝓛 (leavesᴱ L l S s z) d P q = absurd q
 
 abbrev pub Quiet : List Par → Type 0
 Quiet [] = Unit {0}
@@ -90,15 +92,15 @@ LeftsIn [] ws = ftrue
 LeftsIn (by-val D d ∷ ps) ws = fsep (left (D.row.exit yes) d ws.0) (LeftsIn ps ws.1)
 LeftsIn (by_shr R p ys ∷ ps) ws = fsep ftrue (LeftsIn ps ws.1)
 LeftsIn (by-same R p ys κ ∷ ps) ws = fsep ftrue (LeftsIn ps ws.1)
-LeftsIn (by-mut R p ys ∷ ps) ws = fsep (fsep (finally R p.γ ws.0) (feq ℕ (length ws.0) (length ys))) (LeftsIn ps ws.1)
-LeftsIn (by-ref R p h ∷ ps) ws = fsep (fres p.γ (R.coded.code ws.0)) (LeftsIn ps ws.1)
+LeftsIn (by-mut R p ys ∷ ps) ws = fsep (fsep (fsep (finally R p.γ ws.0) (feq ℕ (length ws.0) (length ys))) (fbor p.κ (Borrowed R (length ys) p.b p.o p.γ))) (LeftsIn ps ws.1)
+LeftsIn (by-ref R p h ∷ ps) ws = fsep (fsep (fres p.γ (R.coded.code ws.0)) (fbor p.κ (Referent (mem R) p.b p.o p.γ))) (LeftsIn ps ws.1)
 
 -- what the parameters own at entry, at the machine values vss
 abbrev pub OwnsIn : (ps : List Par) → Each ps → Fml
 OwnsIn [] vss = ftrue
 OwnsIn (by-val D d ∷ ps) vss = fsep (D.row.own_val d vss.0) (OwnsIn ps vss.1)
-OwnsIn (by_shr R p ys ∷ ps) vss = fsep ((ShrSlice erased p.κ R).own_val (ref p ys) vss.0) (OwnsIn ps vss.1)
-OwnsIn (by-same R p ys κ ∷ ps) vss = fsep ((ShrSlice erased p.κ R).own_val (ref p ys) vss.0) (OwnsIn ps vss.1)
+OwnsIn (by_shr R p ys ∷ ps) vss = fsep ((ShrSlice erased p.κ R).own_val (shr_ref p ys) vss.0) (OwnsIn ps vss.1)
+OwnsIn (by-same R p ys κ ∷ ps) vss = fsep ((ShrSlice erased p.κ R).own_val (shr_ref p ys) vss.0) (OwnsIn ps vss.1)
 OwnsIn (by-mut R p ys ∷ ps) vss = fsep ((MutSlice erased p.κ R).own_val (ref p ys) vss.0) (OwnsIn ps vss.1)
 OwnsIn (by-ref R p h ∷ ps) vss = fsep ((MutRef erased p.κ R).own_val (ref p h) vss.0) (OwnsIn ps vss.1)
 
@@ -163,12 +165,13 @@ module _ {M : Type 1} {𝓤 : Ura M} (𝓛 : Logic 𝓤) where
         use1 𝓛 (‵ (fres p.γ ((coded_holeys R).code (heres R zs.0)))) (𝓛.names.obs-res p.γ ((coded_holeys R).code (heres R zs.0))) $ use1 𝓛 (‵ (finally R p.γ zs.0)) (res-finally 𝓛 erased p.κ R p.γ zs.0) $
         move ! (4 ∷ []) $ use1 𝓛 (raw (ToksIn ps) ⊛ ‵ (LeftsIn ps (finals ps q zs.1))) (give-up ps q zs.1 E e.1) $ split ! $
         -- [tokens; said; its last list; its borrow; its place; its token]
-        move ! (5 ∷ 0 ∷ []) $ join ! $ frame ! $ feq_i ! ℕ (length zs.0) (length ys) e.0 $ move ! (2 ∷ 0 ∷ []) $ fjoin ! $ move ! (0 ∷ 1 ∷ []) $ fjoin ! $ keep ! (0 ∷ []) $ done !)
+        move ! (5 ∷ 0 ∷ []) $ join ! $ frame ! $ feq_i ! ℕ (length zs.0) (length ys) e.0 $ move ! (2 ∷ 0 ∷ []) $ fjoin ! $
+        rewrite ! 2 (λ (m : ℕ). ‵ (fbor p.κ (Borrowed R m p.b p.o p.γ))) e.0 refl $ move ! (0 ∷ 2 ∷ []) $ fjoin ! $ fjoin ! $ keep ! (0 ∷ []) $ done !)
     give-up (by-ref R p h ∷ ps) q zs E e = via 𝓤 (sep 𝓤 (sem 𝓛 (HasRef R p zs.0)) (⋆ 𝓛 (HeldAt 𝓤 ps zs.1))) (pop 𝓛 (‵ (HasRef R p zs.0)) (HeldAt 𝓤 ps zs.1)) (
         qed 𝓛 (‵ (HasRef R p zs.0) ∷ raw (⋆ 𝓛 (HeldAt 𝓤 ps zs.1)) ∷ []) ∵ fsplit ! $ fsplit3 ! $ move ! (1 ∷ []) $
         use1 𝓛 (‵ (fres p.γ (R.coded.code zs.0))) (𝓛.names.obs-res p.γ (R.coded.code zs.0)) $
         move ! (4 ∷ []) $ use1 𝓛 (raw (ToksIn ps) ⊛ ‵ (LeftsIn ps (finals ps q zs.1))) (give-up ps q zs.1 E e) $ split ! $
-        move ! (5 ∷ 0 ∷ []) $ join ! $ frame ! $ move ! (1 ∷ 0 ∷ []) $ fjoin ! $ keep ! (0 ∷ []) $ done !)
+        move ! (5 ∷ 0 ∷ []) $ join ! $ frame ! $ move ! (1 ∷ 3 ∷ []) $ fjoin ! $ fjoin ! $ keep ! (0 ∷ []) $ done !)
 
     pub leaves : (ρ : Rule) → Quiet ρ.pars → (r : ρ.result.row.Denot) → Is ρ.result.row r (ρ.result.val r ∷ []) → (zs : Zs ρ.pars) → Told ρ.pars zs (Unit {0}) → Every (ρ.ensures r zs)
         → ent 𝓤 (⋆ 𝓛 (HeldAt 𝓤 ρ.pars zs)) (Leaves ρ (ρ.result.val r))
@@ -194,21 +197,24 @@ Passed [] = Unit {0}
 Passed (val D ∷ ss) = D.row.Denot × Passed ss
 Passed (shr R ∷ ss) = Bor (List R.Denot) × Passed ss
 Passed (same R ∷ ss) = Bor (List R.Denot) × Passed ss
-Passed (mut R ∷ ss) = Bor (List R.Denot) × Passed ss
-Passed (ref' R ∷ ss) = Bor R.Denot × Passed ss
+Passed (mut R ∷ ss) = MutBor (List R.Denot) × Passed ss
+Passed (ref' R ∷ ss) = MutBor R.Denot × Passed ss
 
 abbrev slice_at : {X : Type 0} → Lft → Share → MutBor (List X) → At
 slice_at κ q x = record { κ = κ; q = q; γ = x.ghost_name; b = x.ref_ptr.0; o = x.ref_ptr.1; n = length x.now }
 
+abbrev shr_slice_at : {X : Type 0} → Lft → Share → Bor (List X) → At
+shr_slice_at κ q x = record { κ = κ; q = q; γ = zero; b = x.ref_ptr.0; o = x.ref_ptr.1; n = length x.now }
+
 abbrev ref-at : {X : Type 0} → Lft → Share → MutBor X → At
-ref-at κ q x = record { κ = κ; q = q; γ = x.name; b = x.ptr.0; o = x.ptr.1; n = zero }
+ref-at κ q x = record { κ = κ; q = q; γ = x.ghost_name; b = x.ref_ptr.0; o = x.ref_ptr.1; n = zero }
 
 -- what a walk is over, of what the contract binds
 abbrev pub inputs : (ss : List Sort) → Lfts (refs ss) → Shares (refs ss) → Passed ss → Inputs ss
 inputs [] κs qs a = tt
 inputs (val D ∷ ss) κs qs a = (a.0, inputs ss κs qs a.1)
-inputs (shr R ∷ ss) κs qs a = ((slice_at κs.0 qs.0 a.0, a.0.now), inputs ss κs.1 qs.1 a.1)
-inputs (same R ∷ ss) κs qs a = ((slice_at κs.0 qs.0 a.0, a.0.now), inputs ss κs.1 qs.1 a.1)
+inputs (shr R ∷ ss) κs qs a = ((shr_slice_at κs.0 qs.0 a.0, a.0.now), inputs ss κs.1 qs.1 a.1)
+inputs (same R ∷ ss) κs qs a = ((shr_slice_at κs.0 qs.0 a.0, a.0.now), inputs ss κs.1 qs.1 a.1)
 inputs (mut R ∷ ss) κs qs a = ((slice_at κs.0 qs.0 a.0, a.0.now), inputs ss κs.1 qs.1 a.1)
 inputs (ref' R ∷ ss) κs qs a = ((ref-at κs.0 qs.0 a.0, a.0.now), inputs ss κs.1 qs.1 a.1)
 
@@ -225,8 +231,8 @@ Facing (ref' R ∷ ss) X = (p : At) (h : R.Denot) → Facing ss (λ x. X ((p, h)
 abbrev pub Related : (ps : List Par) → Each ps → Type 0
 Related [] vss = Unit {0}
 Related (by-val D d ∷ ps) vss = Is D.row d vss.0 × Related ps vss.1
-Related (by_shr R p ys ∷ ps) vss = Is (ShrSlice erased p.κ R) (ref p ys) vss.0 × Related ps vss.1
-Related (by-same R p ys κ ∷ ps) vss = Is (ShrSlice erased p.κ R) (ref p ys) vss.0 × Related ps vss.1
+Related (by_shr R p ys ∷ ps) vss = Is (ShrSlice erased p.κ R) (shr_ref p ys) vss.0 × Related ps vss.1
+Related (by-same R p ys κ ∷ ps) vss = Is (ShrSlice erased p.κ R) (shr_ref p ys) vss.0 × Related ps vss.1
 Related (by-mut R p ys ∷ ps) vss = Is (MutSlice erased p.κ R) (ref p ys) vss.0 × Related ps vss.1
 Related (by-ref R p h ∷ ps) vss = Is (MutRef erased p.κ R) (ref p h) vss.0 × Related ps vss.1
 
@@ -245,8 +251,8 @@ spelled κ (ref' R ∷ ss) κs qs a vss g = λ i. (mut_Tells erased κs.0 R a.0 
 faced : (κ : Lft) (ss : List Sort) (X : Inputs ss → Type 1) → Facing ss X → (κs : Lfts (refs ss)) (qs : Shares (refs ss)) (a : Passed ss) → Related (given_by κ ss κs qs a) (Vss (given_by κ ss κs qs a)) → X (inputs ss κs qs a)
 faced κ [] X w κs qs a g = w
 faced κ (val D ∷ ss) X w κs qs a g = faced κ ss (λ x. X (a.0, x)) (w a.0 (D.known a.0 g.0)) κs qs a.1 g.1
-faced κ (shr R ∷ ss) X w κs qs a g = let p : At = slice_at κs.0 qs.0 a.0 in faced κ ss (λ x. X ((p, a.0.now), x)) (w p a.0.now g.0.0.1 refl) κs.1 qs.1 a.1 g.1
-faced κ (same R ∷ ss) X w κs qs a g = let p : At = slice_at κs.0 qs.0 a.0 in faced κ ss (λ x. X ((p, a.0.now), x)) (w p a.0.now g.0.0.1 refl) κs.1 qs.1 a.1 g.1
+faced κ (shr R ∷ ss) X w κs qs a g = let p : At = shr_slice_at κs.0 qs.0 a.0 in faced κ ss (λ x. X ((p, a.0.now), x)) (w p a.0.now g.0.0.1 refl) κs.1 qs.1 a.1 g.1
+faced κ (same R ∷ ss) X w κs qs a g = let p : At = shr_slice_at κs.0 qs.0 a.0 in faced κ ss (λ x. X ((p, a.0.now), x)) (w p a.0.now g.0.0.1 refl) κs.1 qs.1 a.1 g.1
 faced κ (mut R ∷ ss) X w κs qs a g = let p : At = slice_at κs.0 qs.0 a.0 in faced κ ss (λ x. X ((p, a.0.now), x)) (w p a.0.now g.0.0.1 refl) κs.1 qs.1 a.1 g.1
 faced κ (ref' R ∷ ss) X w κs qs a g = let p : At = ref-at κs.0 qs.0 a.0 in faced κ ss (λ x. X ((p, a.0.now), x)) (w p a.0.now) κs.1 qs.1 a.1 g.1
 
@@ -257,8 +263,8 @@ module _ {M : Type 1} {𝓤 : Ura M} (𝓛 : Logic 𝓤) where
   related : (ps : List Par) (vss : Each ps) → ent 𝓤 (sem 𝓛 (OwnsIn ps vss)) (fact 𝓤 (Related ps vss))
   related [] vss = fact_i 𝓤 (Unit {0}) (emp 𝓤) tt
   related (by-val D d ∷ ps) vss = both _ _ _ _ (shows 𝓛 D.row d vss.0) (related ps vss.1)
-  related (by_shr R p ys ∷ ps) vss = both _ _ _ _ (shows 𝓛 (ShrSlice erased p.κ R) (ref p ys) vss.0) (related ps vss.1)
-  related (by-same R p ys κ ∷ ps) vss = both _ _ _ _ (shows 𝓛 (ShrSlice erased p.κ R) (ref p ys) vss.0) (related ps vss.1)
+  related (by_shr R p ys ∷ ps) vss = both _ _ _ _ (shows 𝓛 (ShrSlice erased p.κ R) (shr_ref p ys) vss.0) (related ps vss.1)
+  related (by-same R p ys κ ∷ ps) vss = both _ _ _ _ (shows 𝓛 (ShrSlice erased p.κ R) (shr_ref p ys) vss.0) (related ps vss.1)
   related (by-mut R p ys ∷ ps) vss = both _ _ _ _ (shows 𝓛 (MutSlice erased p.κ R) (ref p ys) vss.0) (related ps vss.1)
   related (by-ref R p h ∷ ps) vss = both _ _ _ _ (shows 𝓛 (MutRef erased p.κ R) (ref p h) vss.0) (related ps vss.1)
 
@@ -266,9 +272,9 @@ module _ {M : Type 1} {𝓤 : Ura M} (𝓛 : Logic 𝓤) where
     take-up : (ps : List Par) → ent 𝓤 (sep 𝓤 (ToksIn 𝓛 ps) (sem 𝓛 (OwnsIn ps (Vss ps)))) (⋆ 𝓛 (Held 𝓛 ps))
     take-up [] = fst∗ 𝓤 (emp 𝓤) (emp 𝓤)
     take-up (by-val D d ∷ ps) = qed 𝓛 (raw (ToksIn 𝓛 ps) ∷ ‵ (fsep (D.row.own_val d (D.val d ∷ [])) (OwnsIn ps (Vss ps))) ∷ []) ∵ move ! (1 ∷ []) $ fsplit ! $ drop ! $ move ! (1 ∷ 0 ∷ []) $ use2 𝓛 (raw (⋆ 𝓛 (Held 𝓛 ps))) (take-up ps) $ done !
-    take-up (by_shr R p ys ∷ ps) = qed 𝓛 ((‵ (flft p.κ p.q) ⊛ raw (ToksIn 𝓛 ps)) ∷ ‵ (fsep ((ShrSlice erased p.κ R).own_val (ref p ys) (fat_val p ∷ [])) (OwnsIn ps (Vss ps))) ∷ []) ∵ split ! $ move ! (2 ∷ []) $ fsplit ! $ move ! (3 ∷ 1 ∷ []) $ use2 𝓛 (raw (⋆ 𝓛 (Held 𝓛 ps))) (take-up ps) $
+    take-up (by_shr R p ys ∷ ps) = qed 𝓛 ((‵ (flft p.κ p.q) ⊛ raw (ToksIn 𝓛 ps)) ∷ ‵ (fsep ((ShrSlice erased p.κ R).own_val (shr_ref p ys) (fat_val p ∷ [])) (OwnsIn ps (Vss ps))) ∷ []) ∵ split ! $ move ! (2 ∷ []) $ fsplit ! $ move ! (3 ∷ 1 ∷ []) $ use2 𝓛 (raw (⋆ 𝓛 (Held 𝓛 ps))) (take-up ps) $
         move ! (1 ∷ 2 ∷ []) $ fjoin ! $ suffices ! _ (push 𝓛 (‵ (HasShr R p ys)) (Held 𝓛 ps)) $ done !
-    take-up (by-same R p ys κ ∷ ps) = qed 𝓛 ((‵ (flft p.κ p.q) ⊛ raw (ToksIn 𝓛 ps)) ∷ ‵ (fsep ((ShrSlice erased p.κ R).own_val (ref p ys) (fat_val p ∷ [])) (OwnsIn ps (Vss ps))) ∷ []) ∵ split ! $ move ! (2 ∷ []) $ fsplit ! $ move ! (3 ∷ 1 ∷ []) $ use2 𝓛 (raw (⋆ 𝓛 (Held 𝓛 ps))) (take-up ps) $
+    take-up (by-same R p ys κ ∷ ps) = qed 𝓛 ((‵ (flft p.κ p.q) ⊛ raw (ToksIn 𝓛 ps)) ∷ ‵ (fsep ((ShrSlice erased p.κ R).own_val (shr_ref p ys) (fat_val p ∷ [])) (OwnsIn ps (Vss ps))) ∷ []) ∵ split ! $ move ! (2 ∷ []) $ fsplit ! $ move ! (3 ∷ 1 ∷ []) $ use2 𝓛 (raw (⋆ 𝓛 (Held 𝓛 ps))) (take-up ps) $
         move ! (1 ∷ 2 ∷ []) $ fjoin ! $ suffices ! _ (push 𝓛 (‵ (HasShr R p ys)) (Held 𝓛 ps)) $ done !
     take-up (by-mut R p ys ∷ ps) = qed 𝓛 ((‵ (flft p.κ p.q) ⊛ raw (ToksIn 𝓛 ps)) ∷ ‵ (fsep ((MutSlice erased p.κ R).own_val (ref p ys) (fat_val p ∷ [])) (OwnsIn ps (Vss ps))) ∷ []) ∵ split ! $ move ! (2 ∷ []) $ fsplit ! $ move ! (3 ∷ 1 ∷ []) $ use2 𝓛 (raw (⋆ 𝓛 (Held 𝓛 ps))) (take-up ps) $
         move ! (1 ∷ 2 ∷ []) $ fjoin ! $ suffices ! _ (push 𝓛 (‵ (HasMut R p ys)) (Held 𝓛 ps)) $ done !
@@ -453,7 +459,7 @@ module _ {M : Type 1} {𝓤 : Ura M} (𝓛 : Logic 𝓤) (C : Calls 𝓤 𝓛.H)
 module _ {M : Type 1} {𝓤 : Ura M} (𝓛 : Logic 𝓤) (𝓜 : Model 𝓤 𝓛.H) (𝓡 : Running 𝓤 𝓛.H 𝓜) (γ : Named) where
   open 𝓛 use {H}
 
-  pub proves : (k : Name) (f : Fn) → Closed 𝓤 H (tables 𝓤 H 𝓜 𝓡 γ).C (tables 𝓤 H 𝓜 𝓡 γ).Λ k f → (F : Terms) (κs : Lfts (refs F.sorts)) (qs : Shares (refs F.sorts)) (a : Passed F.sorts) (vss : Each (rule-of F (inputs F.sorts κs qs a)).pars)
+  pub proves : (k : Callee) (f : Fn) → Closed 𝓤 H (tables 𝓤 H 𝓜 𝓡 γ).C (tables 𝓤 H 𝓜 𝓡 γ).Λ k f → (F : Terms) (κs : Lfts (refs F.sorts)) (qs : Shares (refs F.sorts)) (a : Passed F.sorts) (vss : Each (rule-of F (inputs F.sorts κs qs a)).pars)
       → TakesIn 𝓛 f.locals (rule-of F (inputs F.sorts κs qs a)).pars → Facing F.sorts (WalkFor 𝓛 (tables 𝓤 H 𝓜 𝓡 γ).C (tables 𝓤 H 𝓜 𝓡 γ).Λ f F)
       → ent 𝓤 (Enters 𝓛 (rule-of F (inputs F.sorts κs qs a)) vss) ((tables 𝓤 H 𝓜 𝓡 γ).C k (flat-of (rule-of F (inputs F.sorts κs qs a)).pars vss) (Leaves 𝓛 (rule-of F (inputs F.sorts κs qs a))))
   proves k f closed F κs qs a vss takes w = via 𝓤 _ (walks 𝓛 (tables 𝓤 H 𝓜 𝓡 γ).C (tables 𝓤 H 𝓜 𝓡 γ).Λ f F κs qs a vss takes w) (closed _ _)
@@ -473,7 +479,7 @@ module _ {M : Type 1} {𝓤 : Ura M} (𝓛 : Logic 𝓤) (𝓜 : Model 𝓤 𝓛
   -- the same from other tokens T than one for each reference
   open 𝓛 use {H}
 
-  pub proves-by : (k : Name) (f : Fn) → Closed 𝓤 H (tables 𝓤 H 𝓜 𝓡 γ).C (tables 𝓤 H 𝓜 𝓡 γ).Λ k f → (F : Terms) (κs : Lfts (refs F.sorts)) (qs : Shares (refs F.sorts)) (a : Passed F.sorts) (vss : Each (rule-of F (inputs F.sorts κs qs a)).pars)
+  pub proves-by : (k : Callee) (f : Fn) → Closed 𝓤 H (tables 𝓤 H 𝓜 𝓡 γ).C (tables 𝓤 H 𝓜 𝓡 γ).Λ k f → (F : Terms) (κs : Lfts (refs F.sorts)) (qs : Shares (refs F.sorts)) (a : Passed F.sorts) (vss : Each (rule-of F (inputs F.sorts κs qs a)).pars)
       (T : SProp 𝓤) → ent 𝓤 T (ToksIn 𝓛 (rule-of F (inputs F.sorts κs qs a)).pars) → ent 𝓤 (ToksIn 𝓛 (rule-of F (inputs F.sorts κs qs a)).pars) T
       → TakesIn 𝓛 f.locals (rule-of F (inputs F.sorts κs qs a)).pars
       → (Related (rule-of F (inputs F.sorts κs qs a)).pars (Vss (rule-of F (inputs F.sorts κs qs a)).pars) → WalkFor 𝓛 (tables 𝓤 H 𝓜 𝓡 γ).C (tables 𝓤 H 𝓜 𝓡 γ).Λ f F (inputs F.sorts κs qs a))
@@ -526,6 +532,15 @@ stored (fbor κ P) = none
 stored (fobor κ q P) = none
 stored (flent κ P) = none
 stored (fshr_bor κ F) = none
+stored (fhide P) = none
+stored (fleft q τ τs b o) = none
+stored (fown A γ x) = none
+stored (finv P) = none
+stored (fnamed n P) = none
+stored (ftok m) = none
+stored (fkid h a) = none
+stored (fme t) = none
+stored (fsent x) = none
 
 module _ {M : Type 1} {𝓤 : Ura M} where
   abbrev stored-in : Item 𝓤 → Option Val

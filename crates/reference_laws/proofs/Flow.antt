@@ -9,21 +9,21 @@
 use mathlib.Core.Bool.{Bool, true, false, not}
 use mathlib.Core.Path.{◌≡◌, refl, subst}
 use mathlib.Core.Option.{Option, some, none}
-use Prim.Native.Nat.{ℕ, zero, suc}
+use Prim.Native.Nat.{ℕ}
 use mathlib.Core.List.{List, [], ◌∷◌, ◌++◌}
 use mathlib.Core.WellFounded.{WellFounded}
 use seplogic.Ra.Ura.{Ura}
-use seplogic.Ra.TreeShare.{full_share}
+use base.Fraction.{full_share}
 use lib.Dec.{T, T_not, eqb, eqb_refl}
-use mir.Syntax.{Opd as Operand, Body, Ty, assign, call, return, cond, skip, exit, seq, switch, block, loop, Arms, arm, default, no_default, Width}
+use mir.Syntax.{Opd as Operand, Body, Ty, assign, call, call_v, unreachable, lend_static, return, cond, skip, exit, seq, switch, block, loop, Arms, arm, default, no_default, Width}
 use mir.Val.{Val, vbool, vint, has_key}
-use base.Logic.{SProp, ent, via, id⊢, sep, never, assoc', mono_l}
+use base.Logic.{SProp, ent, via, id⊢}
 use base.Fml.{froom, fdies, fat}
 use prog.Wp.{Heap, Env, Calls, Loops, Tables, Out, next, exits, returns as returnsᴼ, after_seq, after_block, after_turn, branch, Wp, WpArms}
 use types.Logic.{Logic}
 use sound.WpLaws.{Wp-mono}
 use sound.Laws.{Laws}
-use types.Kit.{Item, ‵, ◌⊛◌, Goal, Post, post, any_q, runs, prop, frees, Seq, Step, step, move, split, use1, drop, ◌$◌, mean}
+use types.Kit.{Item, ‵, ◌⊛◌, Goal, Post, post, any_q, runs, prop, frees, Seq, Step, step, move, split, use1, ◌$◌}
 use types.Run.{Opd, first, branches, skips, jumps, blocks, loops, exec, switches_on, Below, free1, free0}
 
 abbrev arm-if : Bool → Body → Body → Body
@@ -74,6 +74,9 @@ onto (switch c arms) rest = seq (switch c arms) rest
 onto (exit k) rest = seq (exit k) rest
 onto return rest = seq return rest
 onto (call f xs d) rest = seq (call f xs d) rest
+onto unreachable rest = seq unreachable rest
+onto (call_v f s xs d) rest = seq (call_v f s xs d) rest
+onto (lend_static p τ c) rest = seq (lend_static p τ c) rest
 
 module _ {M : Type 1} (𝓤 : Ura M) (H : Heap 𝓤) (L : Laws 𝓤 H) (𝓣 : Tables 𝓤 H) (E : Env 𝓤 H) where
   abbrev ⟦◌⟧ : Body → (Out → SProp 𝓤) → SProp 𝓤
@@ -98,6 +101,9 @@ module _ {M : Type 1} (𝓤 : Ura M) (H : Heap 𝓤) (L : Laws 𝓤 H) (𝓣 : T
   onto-runs (exit k) rest Q = id⊢ 𝓤 _
   onto-runs return rest Q = id⊢ 𝓤 _
   onto-runs (call f xs d) rest Q = id⊢ 𝓤 _
+  onto-runs unreachable rest Q = id⊢ 𝓤 _
+  onto-runs (call_v f s xs d) rest Q = id⊢ 𝓤 _
+  onto-runs (lend_static p τ c) rest Q = id⊢ 𝓤 _
 
 -- what a loop's turn is handed: where the loop is left, what follows it runs
 abbrev pub Leaves : {M : Type 1} {𝓤 : Ura M} (𝓛 : Logic 𝓤) (K : Type 0) (𝓣 : Tables 𝓤 𝓛.H) (E : Env 𝓤 𝓛.H) → Body → Post 𝓤 𝓛.H → Type 2

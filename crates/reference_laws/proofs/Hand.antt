@@ -1,9 +1,10 @@
 -- What a walk by hand holds of a reference parameter, as ONE entry of its context, with the steps that a call and an access make of it. It says nothing of any one crate.
 --     At               where a reference parameter is: its lifetime κ, the share q of κ's token, its ghost name γ, its place (b, o), and a slice's count n
 --     HasRef p h       the `&mut T` at p, at the value h, with its token.        HasMut p ys     the `&mut [T]`.        HasShr p ys     the `&[T]`
+--     ref p h, shr_ref p h     the `&mut` and the `&` themselves
 --     lent p ν δ       the same place, lent again for the lifetime ν under the name δ
 --     KeptRef, KeptMut     what the holder keeps meanwhile
---     lend-ref, back-ref, lend-mut, back-mut, lend-shr, back_shr      a call: what is held is lent again for a lifetime that is made for it, and is back once that has ended, at the last value
+--     lend-ref, back-ref, lend-mut, back-mut, lend-shr, back_shr      a call: what is held is lent again for a lifetime that is made for it, and is back once that has ended, at the last value. A `&[T]` is copied, by the laws of T's row
 --     open_ref, shut-ref       a struct behind a `&mut`: its cell, and back, at any value.        open_at, shut_at, back_at     element i of a `&mut [T]`, likewise
 -- Assumes `Logic`.
 use mathlib.Core.Path.{◌≡◌, refl, sym, ap, subst, ◌∙◌}
@@ -13,21 +14,21 @@ use mathlib.Core.List.{List, [], ◌∷◌, ◌++◌}
 use lib.ListN.{length, get_or, set, length-set, take, drop as skip, length-append, take-append-drop}
 use borrow.Table.Elements.{at, cut_app, join_app}
 use seplogic.Ra.Ura.{Ura}
-use seplogic.Ra.TreeShare.{full_share}
-use mir.Syntax.{Lifetime, erased}
+use base.Fraction.{full_share}
+use mir.Syntax.{erased}
 use mir.Val.{Val, vptr}
 use base.Logic.{SProp, ent, sep, ex, guard}
-use base.Fml.{Lft, GName, Share, Fml, fsep, flft, fdead, fobs, fauth, fres, flent, fobor, fbor}
+use base.Fml.{Lft, GName, Share, Fml, fsep, flft, fobs, fauth, fres, flent, fobor}
 use types.Logic.{Logic, sem}
-use types.Kit.{‵, raw, ◌⊛◌, some, given, later, ◌$◌, ◌∵◌, !, qed, by, move, keep, use1, use2, use3, rewrite, drop, split, join, pick, learn, fsplit, fsplit3, fjoin, fjoin3, fpick, fpack, feq_l, feq_i, frame, await, updating, check, now as at_once, show, done}
+use types.Kit.{‵, ◌⊛◌, some, later, ◌$◌, ◌∵◌, !, qed, move, keep, use1, use2, use3, rewrite, drop, split, pick, fsplit, fsplit3, fjoin, fjoin3, fpick, fpack, feq_l, feq_i, frame, await, updating, check, now as at_once, show, done}
 use types.Tokens.{lft_new, lft_end}
 use types.SemTy.{cells, Arr, Body}
-use denote.RattleType.{RattleType}
+use denote.RattleType.{RattleType, RowLaws}
 use denote.Shadow.{pure_l, pure_i}
-use denote.Laws.{Rel, Is, Tells, Shows, Makes, shows}
+use denote.Laws.{Is, Tells, Makes, shows}
 use denote.Memory.{mem, cell_at, shares, part_of}
-use denote.Ref.{Bor, MutRef}
-use denote.Slice.{slice_val, MutSlice, ShrSlice, heres, Room, finally, shr_slice_at, mut_slice_at, coded_holeys, shr_slice_copy, res-finally}
+use denote.Ref.{Bor, MutBor, MutRef}
+use denote.Slice.{slice_val, MutSlice, ShrSlice, heres, Room, finally, mut_slice_at, coded_holeys, shr_slice_copy, res-finally}
 use denote.Lend.{Held, lends_slice, slice_back}
 use denote.Lend as lend
 use denote.Index.{row, others, place, whole_out, whole_in, opens_slice, closes_slice, elem_out, elem_put, elem_back}
@@ -51,8 +52,11 @@ ptr_val p = vptr p.b p.o
 abbrev pub fat_val : At → Val
 fat_val p = slice_val (p.b, p.o) p.n
 
-abbrev pub ref : {X : Type 0} → At → X → Bor X
+abbrev pub ref : {X : Type 0} → At → X → MutBor X
 ref p h = record { ref_ptr = (p.b, p.o); ghost_name = p.γ; now = h }
+
+abbrev pub shr_ref : {X : Type 0} → At → X → Bor X
+shr_ref p h = record { ref_ptr = (p.b, p.o); now = h }
 
 module _ (R : RattleType) where
   abbrev pub HasRef : At → R.Denot → Fml
@@ -62,7 +66,7 @@ module _ (R : RattleType) where
   HasMut p ys = fsep ((MutSlice erased p.κ R).own_val (ref p ys) (fat_val p ∷ [])) (flft p.κ p.q)
 
   abbrev pub HasShr : At → List R.Denot → Fml
-  HasShr p ys = fsep ((ShrSlice erased p.κ R).own_val (ref p ys) (fat_val p ∷ [])) (flft p.κ p.q)
+  HasShr p ys = fsep ((ShrSlice erased p.κ R).own_val (shr_ref p ys) (fat_val p ∷ [])) (flft p.κ p.q)
 
   abbrev pub KeptRef : At → ℕ → GName → R.Denot → Fml
   KeptRef p ν δ h = lend.LentAgain R p.κ (ν ∷ []) p.q p.γ p.b p.o δ h
@@ -71,7 +75,7 @@ module _ (R : RattleType) where
   KeptMut p ν δ ys = fsep (mut_slice_at R (ref p ys) (fat_val p ∷ [])) (fsep (flent (ν ∷ []) (Held R (length ys) p.b p.o δ)) (fsep (fobor p.κ p.q (Held R (length ys) p.b p.o p.γ)) (fsep (fobs p.γ ((coded_holeys R).code (heres R ys))) (fauth p.γ ((coded_holeys R).code (heres R ys))))))
 
   abbrev pub KeptShr : At → List R.Denot → Fml
-  KeptShr p ys = (ShrSlice erased p.κ R).own_val (ref p ys) (fat_val p ∷ [])
+  KeptShr p ys = (ShrSlice erased p.κ R).own_val (shr_ref p ys) (fat_val p ∷ [])
 
   -- a struct behind a `&mut`, opened
   abbrev pub OpenRef : At → R.Denot → Fml
@@ -116,9 +120,9 @@ module _ (R : RattleType) where
         move ! (1 ∷ []) $ fsplit ! $ move ! (1 ∷ []) $ fsplit ! $ move ! (3 ∷ 2 ∷ 0 ∷ 1 ∷ []) $ closes_slice ! tt R ys zs l p.b p.o $ at_once ! $
         fjoin ! $ pure_i ! (mut_slice_at R (ref p zs) (fat_val p ∷ [])) (tt, (tt, tt)) (e.0 ∙ ap (λ (m : ℕ). slice_val (p.b, p.o) m ∷ []) (sym l), subst (Room R) (sym l) e.1) $ fjoin ! $ fjoin ! $ done !)
 
-    pub lend-shr : (ys : List R.Denot) → ent 𝓤 ⟦ HasShr p ys ⟧ (sep 𝓤 ⟦ HasShr p ys ⟧ ⟦ KeptShr p ys ⟧)
-    lend-shr ys =
-        qed 𝓛 (‵ (HasShr p ys) ∷ []) ∵ fsplit ! $ use1 𝓛 (‵ (KeptShr p ys) ⊛ ‵ (KeptShr p ys)) ((shr_slice_copy 𝓛 erased p.κ R).twice (ref p ys) (fat_val p ∷ [])) $ split ! $ move ! (0 ∷ 2 ∷ []) $ fjoin ! $ done !
+    pub lend-shr : RowLaws R → (ys : List R.Denot) → ent 𝓤 ⟦ HasShr p ys ⟧ (sep 𝓤 ⟦ HasShr p ys ⟧ ⟦ KeptShr p ys ⟧)
+    lend-shr L ys =
+        qed 𝓛 (‵ (HasShr p ys) ∷ []) ∵ fsplit ! $ use1 𝓛 (‵ (KeptShr p ys) ⊛ ‵ (KeptShr p ys)) ((shr_slice_copy 𝓛 erased p.κ R L).twice (shr_ref p ys) (fat_val p ∷ [])) $ split ! $ move ! (0 ∷ 2 ∷ []) $ fjoin ! $ done !
 
     pub back_shr : (ys : List R.Denot) → ent 𝓤 (sep 𝓤 (A.lft p.κ p.q) ⟦ KeptShr p ys ⟧) ⟦ HasShr p ys ⟧
     back_shr ys = qed 𝓛 (‵ (flft p.κ p.q) ∷ ‵ (KeptShr p ys) ∷ []) ∵ move ! (1 ∷ 0 ∷ []) $ fjoin ! $ done !
@@ -146,17 +150,17 @@ module _ (R : RattleType) where
         pub shut_at : (ys : List R.Denot) (i : ℕ) (y : R.Denot) → i < length ys → Is R y (vals y)
             → ent 𝓤 (sep 𝓤 ⟦ cell_at full_share R.mir (vals y) p.b (place (mem R).size p.o i) ⟧ ⟦ OpenAt p ys i ⟧) (H.⇛ ⟦ HasMut p (set ys i y) ⟧)
         shut_at ys i y l is =
-            qed 𝓛 (‵ (cell_at full_share R.mir (vals y) p.b (place (mem R).size p.o i)) ∷ ‵ (OpenAt p ys i) ∷ []) ∵ updating ! $ move ! (1 ∷ []) $ fsplit ! $ pure_l ! (shr_slice_at R (ref p ys) (fat_val p ∷ [])) (λ e. fsplit ! $ move ! (1 ∷ []) $ fsplit3 ! $
+            qed 𝓛 (‵ (cell_at full_share R.mir (vals y) p.b (place (mem R).size p.o i)) ∷ ‵ (OpenAt p ys i) ∷ []) ∵ updating ! $ move ! (1 ∷ []) $ fsplit ! $ pure_l ! (mut_slice_at R (ref p ys) (fat_val p ∷ [])) (λ e. fsplit ! $ move ! (1 ∷ []) $ fsplit3 ! $
             -- [the open borrow; obs; auth; the others; the cell]
             owned ! R (Is R) mk y (vals y) is $ move ! (5 ∷ 0 ∷ 4 ∷ []) $ elem_put ! R full_share ys i y (vals y) p.b p.o l $ closes_slice ! tt R ys (set ys i y) (length-set ys i y) p.b p.o $ at_once ! $
-            fjoin ! $ pure_i ! (shr_slice_at R (ref p (set ys i y)) (fat_val p ∷ [])) (tt, (tt, tt)) (e.0 ∙ ap (λ (m : ℕ). slice_val (p.b, p.o) m ∷ []) (sym (length-set ys i y)), subst (Room R) (sym (length-set ys i y)) e.1) $ fjoin ! $ fjoin ! $ done !)
+            fjoin ! $ pure_i ! (mut_slice_at R (ref p (set ys i y)) (fat_val p ∷ [])) (tt, (tt, tt)) (e.0 ∙ ap (λ (m : ℕ). slice_val (p.b, p.o) m ∷ []) (sym (length-set ys i y)), subst (Room R) (sym (length-set ys i y)) e.1) $ fjoin ! $ fjoin ! $ done !)
 
         pub back_at : (ys : List R.Denot) (i : ℕ) (d : R.Denot) → i < length ys → Is R (get_or ys i d) (vals (get_or ys i d))
             → ent 𝓤 (sep 𝓤 ⟦ cell_at full_share R.mir (vals (get_or ys i d)) p.b (place (mem R).size p.o i) ⟧ ⟦ OpenAt p ys i ⟧) (H.⇛ ⟦ HasMut p ys ⟧)
         back_at ys i d l is =
-            qed 𝓛 (‵ (cell_at full_share R.mir (vals (get_or ys i d)) p.b (place (mem R).size p.o i)) ∷ ‵ (OpenAt p ys i) ∷ []) ∵ updating ! $ move ! (1 ∷ []) $ fsplit ! $ pure_l ! (shr_slice_at R (ref p ys) (fat_val p ∷ [])) (λ e. fsplit ! $ move ! (1 ∷ []) $ fsplit3 ! $
+            qed 𝓛 (‵ (cell_at full_share R.mir (vals (get_or ys i d)) p.b (place (mem R).size p.o i)) ∷ ‵ (OpenAt p ys i) ∷ []) ∵ updating ! $ move ! (1 ∷ []) $ fsplit ! $ pure_l ! (mut_slice_at R (ref p ys) (fat_val p ∷ [])) (λ e. fsplit ! $ move ! (1 ∷ []) $ fsplit3 ! $
             owned ! R (Is R) mk (get_or ys i d) (vals (get_or ys i d)) is $ move ! (5 ∷ 0 ∷ 4 ∷ []) $ elem_back ! R full_share ys i d (vals (get_or ys i d)) p.b p.o l $ closes_slice ! tt R ys ys refl p.b p.o $ at_once ! $
-            fjoin ! $ pure_i ! (shr_slice_at R (ref p ys) (fat_val p ∷ [])) (tt, (tt, tt)) e $ fjoin ! $ fjoin ! $ done !)
+            fjoin ! $ pure_i ! (mut_slice_at R (ref p ys) (fat_val p ∷ [])) (tt, (tt, tt)) e $ fjoin ! $ fjoin ! $ done !)
 
 -- ---- a local struct that is lent for a call
 abbrev pub local : ℕ → ℕ → GName → At
@@ -172,7 +176,7 @@ module _ (R : RattleType) {M : Type 1} {𝓤 : Ura M} (𝓛 : Logic 𝓤) (vals 
       → ent 𝓤 (sem 𝓛 (cell_at full_share R.mir (vals h) l 0)) (H.⇛ (ex 𝓤 (λ (ν : ℕ). ex 𝓤 (λ (δ : GName). sep 𝓤 (sem 𝓛 (HasRef R (local l ν δ) h)) (sem 𝓛 (KeptLocal R l ν δ))))))
   unfolding part_of
   lend-local mk l h is =
-      qed 𝓛 (‵ (cell_at full_share R.mir (vals h) l 0) ∷ []) ∵ updating ! $ owned ! R (Is R) mk h (vals h) is $ move ! (1 ∷ 0 ∷ []) $ fjoin ! $ fpack ! (List Val) (λ us. fsep (cell_at full_share R.mir us l 0) (R.own h us)) (vals h) $
+      qed 𝓛 (‵ (cell_at full_share R.mir (vals h) l 0) ∷ []) ∵ updating ! $ owned ! R (Is R) mk h (vals h) is $ move ! (1 ∷ 0 ∷ []) $ fjoin ! $ fpack ! (List Val) (λ us. fsep (cell_at full_share R.mir us l 0) (R.own_val h us)) (vals h) $
       lft_new ! tt (λ ν. move ! (1 ∷ []) $ use1 𝓛 (later (some (λ (δ : GName). ‵ ((MutRef erased (ν ∷ []) R).own_val (ref (local l ν δ) h) (vptr l 0 ∷ [])) ⊛ ‵ (KeptLocal R l ν δ)))) (lend.lends_ref 𝓛 R erased (ν ∷ []) h l 0) $ await ! tt $ pick ! (λ δ. split ! $
       at_once ! $ show ! (λ (ν' : ℕ). ex 𝓤 (λ (δ' : GName). sep 𝓤 (sem 𝓛 (HasRef R (local l ν' δ') h)) (sem 𝓛 (KeptLocal R l ν' δ')))) ν $ show ! (λ (δ' : GName). sep 𝓤 (sem 𝓛 (HasRef R (local l ν δ') h)) (sem 𝓛 (KeptLocal R l ν δ'))) δ $
       move ! (0 ∷ 2 ∷ []) $ fjoin ! $ done !))

@@ -5,3 +5,4 @@ pub mod Arrays
 pub mod Call
 pub mod Ends
 pub mod Walk
+pub mod Sample

@@ -21,9 +21,9 @@ pub use lib.ListN.{length, get_or, set, length-set, take, drop as skip}
 pub use lib.WfN.{lt-wf_rel as Nat·lt-wfRel}
 pub use lib.Dec.{T, lit<, ltb, leb, eqb, ltb→lt, nltb→le, leb→le, eqb→eq, nleb→lt}
 pub use seplogic.Ra.Ura.{Ura}
-pub use seplogic.Ra.TreeShare.PosShare.{left as PosShare·left}
-pub use seplogic.Ra.TreeShare.PosShare.{right as PosShare·right}
-pub use seplogic.Ra.TreeShare.{full_share}
+pub use base.Fraction.{left as PosShare·left}
+pub use base.Fraction.{right as PosShare·right}
+pub use base.Fraction.{full_share}
 pub use mir.Syntax.{seq, call, named, erased, mut, w8, w16, w32, w64, ty_int, ty_bool, ty_unit, ty_ptr, ty_ref, ty_array}
 use mir.Syntax.{Ty, Body, Opd as Operand, field, variant, deref, copy, place as at_place, assign, switch, addr_of, aggregate, Rv as RValue, Lifetime, Mutability, Width, Arms, Tys, Tyss, Sym, ty_struct, ty_enum, int_big}
 pub use mir.Val.{vunit, vint, vbool, vptr}
@@ -39,9 +39,9 @@ use prog.Wp.{Loops, spot_of}
 pub use ghost.Atoms.{Atoms}
 use types.Logic.{Logic}
 pub use contract.Monad.{Fun, fact}
-pub use contract.Running.{given_of, tables}
+pub use contract.Running.{tables}
 pub use contract.Lifetimes.{Lfts, Shares, toks}
-pub use types.Kit.{Given, Item, ‵, raw, given, cut, at_ret, runs, ◌$◌, !, by, move, keep, rewrite, done, Sq}
+pub use types.Kit.{Item, ‵, raw, given, cut, at_ret, runs, ◌$◌, !, by, move, keep, rewrite, done, Sq}
 use types.Kit.{mean, Post as PostOf, Seq, lands, ◌⊛◌, some, later, use1, use2, split, pick, learn, await, nth, put, Step, step, Goal, Soaks}
 pub use types.Run.{look, look_raw, store, store_raw, init, forget, stop, hop, fld, from, load, lit, unit_lit, false_lit, addr, of_opd, bin, un, and_then, no_more, assigns, assigns_last, first, branches, skips, jumps, calls, land_last, again}
 use types.Run.{Opds, land, Opd, Rv}
@@ -52,6 +52,7 @@ pub use denote.Laws.{Is, shows}
 pub use denote.Memory.{pointee}
 use denote.Memory.{mem, cell_at, lone}
 use denote.RattleType.{RattleType}
+use denote.Shares.{Shares as SharedOut}
 use denote.ArrayMemory.{Single}
 pub use denote.Builtin.{u8, u16, u32, u64, usize, bool, unit}
 pub use denote.Slice.{Room as SizeOf, slice_ty, slice_val}
@@ -65,7 +66,7 @@ use Rattle.reference_laws.proofs.Flow.{switch-then, onto-then, arm_at, has-arm}
 pub use Rattle.reference_laws.proofs.Hand.{At, ptr_val, fat_val, ref, HasRef, HasMut, HasShr, part, part_length, local}
 use Rattle.reference_laws.proofs.Hand.{OpenRef, OpenAt, open_ref, shut-ref, open_at, shut_at, back_at, KeptPart, lend-part, back-part, room-le, KeptLocal, lend-local, back-local}
 pub use Rattle.reference_laws.proofs.Call.{of_number, of-truth, of-nothing, of_struct, of-enum, Inputs, Rule, rule-of, Met, Knows, bound_at, calls-any, calls-any-last, calls-met-last}
-use Rattle.reference_laws.proofs.Call.{calls-met, Data, Terms, Facts, Every, Vs, Z, Says, After, Held, HeldAt}
+use Rattle.reference_laws.proofs.Call.{calls-met, Data, Terms, Copies, Facts, Every, Vs, Z, Says, After, Held, HeldAt}
 pub use Rattle.reference_laws.proofs.Ends.{Facing, WalkFor, WalkIn, Leaves, walks-under, proves, proves-by, halves, whole_again, refs, inputs, ends, say, span, env-of, Stands, Dying}
 use lib.Seq.{length-take-le}
 pub use Rattle.reference_laws.proofs.Arrays.{Filled, as_long, array, ArrayAt, fills-array}
@@ -173,17 +174,17 @@ module _ {M : Type 1} {𝓤 : Ura M} {𝓛 : Logic 𝓤} {K : Type 0} {Γ : List
 module _ {M : Type 1} {𝓤 : Ura M} {K : Type 0} (𝓛 : Logic 𝓤) {Γ : List (Item 𝓤)} {E : Env 𝓤 𝓛.H} (𝓣 : Tables 𝓤 𝓛.H) {q : PostOf 𝓤 𝓛.H} {xs : List Operand} where
   open 𝓛 use {H}
 
-  pub calls-into-met : (F : Terms) (x : Inputs F.sorts) → K → {i : ℕ} {rest : Body} → Facts (rule-of F x).pars → Every (rule-of F x).requires → Met 𝓛 (rule-of F x) 𝓣.C → Opds K 𝓛 (raw (𝓣.C F.name (Vs (rule-of F x).pars) (λ v. mean 𝓛 (After 𝓛 (rule-of F x) v))) ∷ Γ) E xs (Vs (rule-of F x).pars)
+  pub calls-into-met : (F : Terms) (x : Inputs F.sorts) → K → {i : ℕ} {rest : Body} → Copies (rule-of F x).pars → Facts (rule-of F x).pars → Every (rule-of F x).requires → Met 𝓛 (rule-of F x) 𝓣.C → Opds K 𝓛 (raw (𝓣.C F.name (Vs (rule-of F x).pars) (λ v. mean 𝓛 (After 𝓛 (rule-of F x) v))) ∷ Γ) E xs (Vs (rule-of F x).pars)
       → (n : ℕ) → ((z : Z 𝓛 (rule-of F x)) → nth 𝓛 n (HeldAt 𝓤 (rule-of F x).pars z.1 ++ Γ) ≡ ‵ (froom (spot_of 𝓤 H E i).0 (spot_of 𝓤 H E i).1 (spot_of 𝓤 H E i).2)) → (spot_of 𝓤 H E i).0 ≡ F.result.mir
       → ((z : Z 𝓛 (rule-of F x)) → Says 𝓛 (rule-of F x) (F.result.val z.0) z → Seq K 𝓛 (put 𝓛 n (‵ (fat full_share (spot_of 𝓤 H E i).0 (spot_of 𝓤 H E i).1 (spot_of 𝓤 H E i).2 (F.result.val z.0))) (HeldAt 𝓤 (rule-of F x).pars z.1 ++ Γ)) (runs 𝓣.C 𝓣.Λ E rest q))
       → Seq K 𝓛 (Held 𝓛 (rule-of F x).pars ++ Γ) (runs 𝓣.C 𝓣.Λ E (seq (call F.name xs (at_place i [])) rest) q)
-  calls-into-met F x t {i} fs req met os n room fits k = calls-met 𝓛 𝓣 F x t fs req met os (λ z s. lands-at t n (room z) (subst (λ (τ : Ty). T (has_ty τ (F.result.val z.0)) × WT (F.result.val z.0)) (sym fits) (F.result.typed M 𝓤 𝓛 z.0 s.0)) $ k z s)
+  calls-into-met F x t {i} ls fs req met os n room fits k = calls-met 𝓛 𝓣 F x t ls fs req met os (λ z s. lands-at t n (room z) (subst (λ (τ : Ty). T (has_ty τ (F.result.val z.0)) × WT (F.result.val z.0)) (sym fits) (F.result.typed M 𝓤 𝓛 z.0 s.0)) $ k z s)
 
-  pub calls-into : (F : Terms) (x : Inputs F.sorts) → K → {i : ℕ} {rest : Body} → Facts (rule-of F x).pars → Every (rule-of F x).requires → Knows 𝓛 𝓣.C F → Opds K 𝓛 (raw (𝓣.C F.name (Vs (rule-of F x).pars) (λ v. mean 𝓛 (After 𝓛 (rule-of F x) v))) ∷ Γ) E xs (Vs (rule-of F x).pars)
+  pub calls-into : (F : Terms) (x : Inputs F.sorts) → K → {i : ℕ} {rest : Body} → Copies (rule-of F x).pars → Facts (rule-of F x).pars → Every (rule-of F x).requires → Knows 𝓛 𝓣.C F → Opds K 𝓛 (raw (𝓣.C F.name (Vs (rule-of F x).pars) (λ v. mean 𝓛 (After 𝓛 (rule-of F x) v))) ∷ Γ) E xs (Vs (rule-of F x).pars)
       → (n : ℕ) → ((z : Z 𝓛 (rule-of F x)) → nth 𝓛 n (HeldAt 𝓤 (rule-of F x).pars z.1 ++ Γ) ≡ ‵ (froom (spot_of 𝓤 H E i).0 (spot_of 𝓤 H E i).1 (spot_of 𝓤 H E i).2)) → (spot_of 𝓤 H E i).0 ≡ F.result.mir
       → ((z : Z 𝓛 (rule-of F x)) → Says 𝓛 (rule-of F x) (F.result.val z.0) z → Seq K 𝓛 (put 𝓛 n (‵ (fat full_share (spot_of 𝓤 H E i).0 (spot_of 𝓤 H E i).1 (spot_of 𝓤 H E i).2 (F.result.val z.0))) (HeldAt 𝓤 (rule-of F x).pars z.1 ++ Γ)) (runs 𝓣.C 𝓣.Λ E rest q))
       → Seq K 𝓛 (Held 𝓛 (rule-of F x).pars ++ Γ) (runs 𝓣.C 𝓣.Λ E (seq (call F.name xs (at_place i [])) rest) q)
-  calls-into F x t fs req known os n room fits k = calls-into-met F x t fs req (known x) os n room fits k
+  calls-into F x t ls fs req known os n room fits k = calls-into-met F x t ls fs req (known x) os n room fits k
 
 -- ---- a local, or a part of a slice, lent for a call
 module _ {M : Type 1} {𝓤 : Ura M} {𝓛 : Logic 𝓤} {K : Type 0} {Γ : List (Item 𝓤)} {G : Goal 𝓤 𝓛.H} where
@@ -193,8 +194,8 @@ module _ {M : Type 1} {𝓤 : Ura M} {𝓛 : Logic 𝓤} {K : Type 0} {Γ : List
   pub backs-array : K → Soaks G → (R : RattleType) (n l ν : ℕ) (δ : GName) (zs : List R.Denot) → Step K 𝓛 (‵ (ArrayAt R n l zs) ∷ Γ) G (‵ (HasMut R (array l n ν δ) zs) ∷ ‵ (KeptArray R n l ν δ) ∷ Γ) G
   backs-array t z R n l ν δ zs = step (λ s. use2 𝓛 (later (‵ (ArrayAt R n l zs))) (back-array R n l 𝓛 ν δ zs) $ await t z $ s)
 
-  pub lends-array-shr : K → Soaks G → (R : RattleType) → Single R.mir → (n l : ℕ) → SizeOf R n → (xs : List R.Denot) → ((ν : ℕ) (δ : GName) → Seq K 𝓛 (‵ (HasShr R (array l n ν δ) xs) ∷ ‵ (KeptArrayShr R n l ν xs) ∷ Γ) G) → Seq K 𝓛 (‵ (ArrayAt R n l xs) ∷ Γ) G
-  lends-array-shr t z R one n l room xs k = use1 𝓛 (later (some (λ (ν : ℕ). some (λ (δ : GName). ‵ (HasShr R (array l n ν δ) xs) ⊛ ‵ (KeptArrayShr R n l ν xs))))) (lend-array-shr R n l 𝓛 one room xs) $ await t z $ pick t (λ ν. pick t (λ δ. split t $ k ν δ))
+  pub lends-array-shr : K → Soaks G → (R : RattleType) → Single R.mir → ((ν : ℕ) → SharedOut 𝓛 R (ν ∷ [])) → (n l : ℕ) → SizeOf R n → (xs : List R.Denot) → ((ν : ℕ) (δ : GName) → Seq K 𝓛 (‵ (HasShr R (array l n ν δ) xs) ∷ ‵ (KeptArrayShr R n l ν xs) ∷ Γ) G) → Seq K 𝓛 (‵ (ArrayAt R n l xs) ∷ Γ) G
+  lends-array-shr t z R one law n l room xs k = use1 𝓛 (later (some (λ (ν : ℕ). some (λ (δ : GName). ‵ (HasShr R (array l n ν δ) xs) ⊛ ‵ (KeptArrayShr R n l ν xs))))) (lend-array-shr R n l 𝓛 one law room xs) $ await t z $ pick t (λ ν. pick t (λ δ. split t $ k ν δ))
 
   pub backs-array-shr : K → Soaks G → (R : RattleType) (n l ν : ℕ) (δ : GName) (xs : List R.Denot) → Step K 𝓛 (‵ (ArrayAt R n l xs) ∷ Γ) G (‵ (HasShr R (array l n ν δ) xs) ∷ ‵ (KeptArrayShr R n l ν xs) ∷ Γ) G
   backs-array-shr t z R n l ν δ xs = step (λ s. use2 𝓛 (later (‵ (ArrayAt R n l xs))) (back-array-shr R n l 𝓛 ν δ xs) $ await t z $ s)
