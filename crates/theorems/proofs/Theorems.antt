@@ -13,8 +13,7 @@ use prog.Model.{Model}
 use types.Logic.{Logic}
 use contract.Running.{Running}
 use prog.Wired.{Wired}
-use base.Logic.{SProp}
-use contract.Notation.{connectives}
+use Rattle.reference_laws.proofs.Call.{clauses}
 use denote.Builtin.{u8, u32, u64, SliceRefOf, SliceRefMutOf}
 use denote.Exit.{yes}
 use denote.Signature.{Signature, plain}
@@ -121,12 +120,6 @@ check_signature =
           ∷ [];
       result = plain (λ κs. answers.the_row);
     }
-
--- all of some facts, in a row
-abbrev pub clauses : {M : Type 1} (𝓤 : Ura M) → List (Type 0) → SProp 𝓤
-clauses 𝓤 [] = (connectives 𝓤).⊤ₛ
-clauses 𝓤 (φ ∷ []) = (connectives 𝓤).⌜◌⌝ φ
-clauses 𝓤 (φ ∷ ψ ∷ φs) = (connectives 𝓤).◌∗◌ ((connectives 𝓤).⌜◌⌝ φ) (clauses 𝓤 (ψ ∷ φs))
 
 -- what it says of all that is lent, of its answer r, and of the lists at exit
 abbrev pub check_ensures : Lent → Answer → (seen : List ℕ) (opens : List OpenStart) (list : List ℕ) → List (Type 0)
