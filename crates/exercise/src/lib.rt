@@ -80,7 +80,7 @@ pub fn is_too_large(table: usize, source: usize, nodes: usize) -> bool
     LARGEST_FILE < nodes
 }
 
-// Writes a list up to a place, where its text ends, to standard output.
+// Writes a list up to a place, where its text ends, to standard output. On an error part of it may be written; nothing lent changes.
 pub fn write(rt: &impl Print, out: &[u8], end: usize) -> io::Result<()>
     requires { end ≤ length out.now }
 {

@@ -1,7 +1,7 @@
 // The numbers that a caller is turned back with: document 01, "Turned back, in checking order".
-// "The table text breaks its layout."
 #![tactic(auto)]
 
+// "The table text breaks its layout."
 pub const BAD_TABLE_LAYOUT: u64 = 1;
 
 // "The source is too long."

@@ -1,4 +1,4 @@
--- Document 01, "Turned back, in checking order": the condition of each number by itself, at a place. Which of several numbers is given is `one_number` in proofs/Theorems.antt.
+-- Document 01, "Turned back, in checking order": the condition of each number by itself, at a place. Which of several numbers is given is `one-number` in proofs/Theorems.antt.
 use Rattle.std.specs.Prelude.{ℕ, zero, suc, ◌<◌, ◌≡◌, true, false, List, [], ◌∷◌, ◌⊎◌, length}
 use Rattle.text.specs.Utf8.{FirstIllFormed}
 use Rattle.tape.specs.Nodes.{count}
