@@ -32,7 +32,7 @@ pub loop-i-preserved : goal.loop-i-preserved
 loop-i-preserved c =
     let a = c.args in
     let l = c.loop-i in
-    plain-going a.source.now a.tape.now a.from l.i a.to l.invariant (omega arith) (λ e. c.if-kind_at-eq-MARKER_OPEN.false (c.kind_at.ensures ∙ e)) c.past_node-i.result c.past_node-i.ensures
+    plain-going a.source.now a.tape.now a.from l.i a.to l.invariant (omega arith) (λ e. omega arith) c.past_node-i.result c.past_node-i.ensures
 
 pub returns : goal.returns
 returns c =
