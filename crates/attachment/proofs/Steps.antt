@@ -6,7 +6,7 @@ use mathlib.Core.Bool.{Bool, true, false, not, false≢true, ◌&&◌, ◌||◌}
 use mathlib.Core.List.{List, [], ◌∷◌, ◌++◌}
 use native.Mathlib.Omega.{arith}
 use lib.ListN.{length, length-append}
-use borrow.Author.Tests.{eq-eqb, ne_eqb, eqb-true}
+use borrow.Author.Tests.{ne_eqb, eqb-true}
 use Rattle.text.specs.Pick.{pick}
 use Rattle.tape.specs.Nodes.{Node, node_at, kind_at, start_at, link_at, is_open, marker_open_kind, text_kind}
 use Rattle.tape.specs.Forest.{forest}
@@ -19,23 +19,6 @@ use Rattle.attachment.specs.Attached.{is_alternate, is_published, claims, is_bla
 use Rattle.attachment.specs.Inner.{claims_at, taken_alternate, taken_published}
 use Rattle.attachment.specs.declared.Attached.{Attached}
 use Rattle.text.proofs.Bool.{and_left, and_right}
-
--- plainness
-module _ (s t : List ℕ) (a b : ℕ) (run : Run s t a b) (more : a < b) where
-  pub plain-not : kind_at t a ≡ marker_open_kind → plain (forest s t a b) ≡ false
-  unfolding plain
-  plain-not e = rw (forest-at-open s t a b run more (eq-eqb (kind_at t a) marker_open_kind e))
-
-  pub plain-past : (kind_at t a ≡ marker_open_kind → ⊥) → plain (forest s t a b) ≡ plain (forest s t (past_node t a) b)
-  unfolding plain
-  plain-past n = rw (forest-at-leaf s t a b run more (ne_eqb (kind_at t a) marker_open_kind n))
-
-pub plain-going : (s t : List ℕ) (from i to : ℕ) → (Run s t i to) × (plain (forest s t i to) ≡ plain (forest s t from to)) → i < to → (kind_at t i ≡ marker_open_kind → ⊥) → (j : ℕ) → j ≡ past_node t i → (Run s t j to) × (plain (forest s t j to) ≡ plain (forest s t from to))
-plain-going s t from i to h l n j e = rw e (run-next s t i to h.0 l, sym (plain-past s t i to h.0 l n) ∙ h.1)
-
-pub plain_end : (s t : List ℕ) (a b : ℕ) → b ≤ a → plain (forest s t a b) ≡ true
-unfolding plain
-plain_end s t a b h = rw (forest-done s t a b h)
 
 -- a place that is taken counts
 abbrev pub bit : Bool → ℕ

@@ -1,13 +1,14 @@
 // Alternate and published numbers: which of them are attached to a chapter or a verse.
 #![tactic(auto)]
 
-ghost use Rattle.std.specs.Prelude.{◌≡◌, not, ◌&&◌, [], ◌∷◌, ◌++◌, ◌<◌, length};
+ghost use Rattle.std.specs.Prelude.{◌≡◌, [], ◌∷◌, ◌++◌, ◌<◌, length};
 ghost use Rattle.tape.specs.Nodes.{node_at};
 ghost use Rattle.tape.specs.Forest.{forest};
 ghost use Rattle.cursor.specs.Inner.{Spanned, Run};
 ghost use Rattle.attachment.specs.Attached.{number_letter, is_alternate, is_published, is_blank, plain, attached_numbers, start_offsets, starts_of, among};
-ghost use Rattle.attachment.specs.Inner.{claims_at, taken_alternate, taken_published};
-ghost use Rattle.text.specs.Bytes.{equal};
+ghost use Rattle.attachment.specs.Inner.{claims_at};
+
+use cursor::Siblings;
 
 // The start offsets of the numbers that are attached to one chapter or verse, at most one of each sort.
 // How many they are, and the first and the second; fields pass in registers, where an enum would be copied.
@@ -24,25 +25,18 @@ fn letter(kind: u8) -> u8
     if kind == tape::CHAPTER { b'c' } else { b'v' }
 }
 
-fn is_pair(name: &[u8], a: u8, b: u8) -> bool
-    ensures { result ≡ equal name.now (a ∷ b ∷ []) }
-{
-    if name.len() != 2 {
-        return false;
-    }
-    if name[0] == a { name[1] == b } else { false }
-}
-
+#[tactic(auto, using(crate::proofs::Sorts::pairs_equal), unfolding(crate::specs::Attached::is_alternate))]
 fn is_alternate(kind: u8, name: &[u8]) -> bool
     ensures { result ≡ is_alternate kind name.now }
 {
-    is_pair(name, letter(kind), b'a')
+    name[..] == [letter(kind), b'a']
 }
 
+#[tactic(auto, using(crate::proofs::Sorts::pairs_equal), unfolding(crate::specs::Attached::is_published))]
 fn is_published(kind: u8, name: &[u8]) -> bool
     ensures { result ≡ is_published kind name.now }
 {
-    is_pair(name, letter(kind), b'p')
+    name[..] == [letter(kind), b'p']
 }
 
 // Whether a node is blank or empty text.
@@ -50,10 +44,7 @@ pub fn is_blank(source: &[u8], tape: &[u8], i: usize) -> bool
     requires { Spanned source.now tape.now i }
     ensures { result ≡ is_blank (node_at source.now tape.now i) }
 {
-    if tape::kind_at(tape, i) != tape::TEXT {
-        return false;
-    }
-    text::is_blank_text(cursor::text(source, tape, i))
+    tape::kind_at(tape, i) == tape::TEXT && text::is_blank_text(cursor::text(source, tape, i))
 }
 
 // Whether a run of siblings has no marker in it.
@@ -61,31 +52,14 @@ pub fn is_plain_text(source: &[u8], tape: &[u8], from: usize, to: usize) -> bool
     requires { Run source.now tape.now from to }
     ensures { result ≡ plain (forest source.now tape.now from to) }
 {
-    let mut i = from;
-    while i < to {
-        if tape::kind_at(tape, i) == tape::MARKER_OPEN {
-            return false;
-        }
-        i = cursor::past_node(tape, i);
-    }
-    true
-}
-
-// Whether a name of a sort finds the place of that sort free.
-fn finds_free(named: bool, taken: bool) -> bool
-    ensures { result ≡ (named && not taken) }
-{
-    if named { !taken } else { false }
+    Siblings::new(tape, from, to).all(|i| tape::kind_at(tape, i) != tape::MARKER_OPEN)
 }
 
 // Whether a number of the name has its place still free.
 fn claims(kind: u8, alt: bool, pubn: bool, name: &[u8]) -> bool
     ensures { result ≡ Rattle.attachment.specs.Attached.claims kind alt pubn name.now }
 {
-    if finds_free(is_alternate(kind, name), alt) {
-        return true;
-    }
-    finds_free(is_published(kind, name), pubn)
+    is_alternate(kind, name) && !alt || is_published(kind, name) && !pubn
 }
 
 // Whether a node is an open marker whose name claims a free place.
@@ -93,32 +67,8 @@ fn claims_at(source: &[u8], tape: &[u8], i: usize, kind: u8, alt: bool, pubn: bo
     requires { Spanned source.now tape.now i }
     ensures { result ≡ claims_at kind alt pubn (node_at source.now tape.now i) }
 {
-    if tape::kind_at(tape, i) != tape::MARKER_OPEN {
-        return false;
-    }
-    claims(kind, alt, pubn, cursor::marker_name(source, tape, i))
-}
-
-// Whether the place of the alternate number is taken, after a node.
-fn alternate_after(source: &[u8], tape: &[u8], i: usize, kind: u8, alt: bool) -> bool
-    requires { Spanned source.now tape.now i }
-    ensures { result ≡ taken_alternate kind alt (node_at source.now tape.now i) }
-{
-    if alt {
-        return true;
-    }
-    is_alternate(kind, cursor::marker_name(source, tape, i))
-}
-
-// Whether the place of the published number is taken, after a node.
-fn published_after(source: &[u8], tape: &[u8], i: usize, kind: u8, pubn: bool) -> bool
-    requires { Spanned source.now tape.now i }
-    ensures { result ≡ taken_published kind pubn (node_at source.now tape.now i) }
-{
-    if pubn {
-        return true;
-    }
-    is_published(kind, cursor::marker_name(source, tape, i))
+    tape::kind_at(tape, i) == tape::MARKER_OPEN
+        && claims(kind, alt, pubn, cursor::marker_name(source, tape, i))
 }
 
 // One more start offset; never a third, since each sort is attached once.
@@ -152,10 +102,8 @@ pub fn attached_numbers(source: &[u8], tape: &[u8], kind: u8, from: usize, to: u
     };
     let mut alt = false;
     let mut pubn = false;
-    let mut i = from;
-    while i < to {
+    for i in Siblings::new(tape, from, to) {
         if is_blank(source, tape, i) {
-            i = cursor::past_node(tape, i);
             continue;
         }
         if !claims_at(source, tape, i, kind, alt, pubn) {
@@ -165,9 +113,9 @@ pub fn attached_numbers(source: &[u8], tape: &[u8], kind: u8, from: usize, to: u
         if !is_plain_text(source, tape, i + 1, tape::link_at(tape, i) as usize) {
             return found;
         }
-        alt = alternate_after(source, tape, i, kind, alt);
-        pubn = published_after(source, tape, i, kind, pubn);
-        i = cursor::past_node(tape, i);
+        let name = cursor::marker_name(source, tape, i);
+        alt |= is_alternate(kind, name);
+        pubn |= is_published(kind, name);
     }
     found
 }
@@ -176,14 +124,8 @@ pub fn attached_numbers(source: &[u8], tape: &[u8], kind: u8, from: usize, to: u
 pub fn is_attached(numbers: Attached, at: u32) -> bool
     ensures { result ≡ among at (starts_of numbers) }
 {
-    if numbers.count == 0 {
-        return false;
-    }
-    if numbers.first == at {
-        return true;
-    }
-    if numbers.count == 1 {
-        return false;
-    }
-    numbers.second == at
+    [numbers.first, numbers.second]
+        .iter()
+        .take(numbers.count as usize)
+        .any(|start| *start == at)
 }

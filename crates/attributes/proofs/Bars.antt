@@ -5,8 +5,9 @@ use mathlib.Core.Bool.{true, false, false≢true}
 use mathlib.Core.List.{List, [], ◌∷◌}
 use Prim.Native.Nat.{ℕ, ◌-◌}
 use lib.ListN.{length, take, drop}
+use Rattle.std.specs.Prelude.{Option, Some, None, is_some}
 use Rattle.table.specs.declared.DefaultAttribute.{DefaultAttribute}
-use Rattle.table.specs.declared.DefaultAttribute.TheVariants.{Lemma, Gloss, Href, Loc, LinkHref, Id, Who, NoDefault}
+use Rattle.table.specs.declared.DefaultAttribute.TheVariants.{Lemma, Gloss, Href, Loc, LinkHref, Id, Who}
 use Rattle.text.proofs.Cuts.{rest_all}
 use Rattle.table.specs.Names.{attribute_name}
 use Rattle.attributes.specs.Attributes.{after_bar, has_default}
@@ -20,13 +21,12 @@ pub bar-no : (s : List ℕ) → leads 0x7C s ≡ false → s ≡ after_bar s
 bar-no [] h = refl
 bar-no (b ∷ s) h = rw h
 
--- the arm of all variants but the last
-pub some-default : (d : DefaultAttribute) → (d ≡ NoDefault → ⊥) → true ≡ has_default (attribute_name d)
-some-default Lemma h = refl
-some-default Gloss h = refl
-some-default Href h = refl
-some-default Loc h = refl
-some-default LinkHref h = refl
-some-default Id h = refl
-some-default Who h = refl
-some-default NoDefault h = absurd (h refl)
+pub default-there : (d : Option DefaultAttribute) → is_some d ≡ has_default (attribute_name d)
+default-there None = refl
+default-there (Some Lemma) = refl
+default-there (Some Gloss) = refl
+default-there (Some Href) = refl
+default-there (Some Loc) = refl
+default-there (Some LinkHref) = refl
+default-there (Some Id) = refl
+default-there (Some Who) = refl

@@ -1,6 +1,6 @@
 -- Document 01, module 5: "As `validate_attributes`; the scan ends at an unterminated quote or at a key without `=`, and goes on after an unquoted value."
 use Rattle.std.specs.Prelude.{ℕ, Bool, true, false, List, [], ◌∷◌, ◌++◌, eqb, ltb, length, drop}
-use Rattle.std.proofs.Math.Option.{Option, some, none}
+use Rattle.std.specs.Prelude.{Option, Some, None}
 use Rattle.text.specs.Pick.{cut, pick}
 use Rattle.text.specs.Blank.{blank}
 use Rattle.text.specs.declared.Decoded.{Decoded}
@@ -94,8 +94,8 @@ body text = cut (trim (after_bar text)) (after_bar text)
 
 -- the marker has an attribute that a bare value sets
 abbrev pub has_default : Option (List ℕ) → Bool
-has_default none = false
-has_default (some name) = true
+has_default None = false
+has_default (Some name) = true
 
 abbrev pub holds_equals : List ℕ → Bool
 holds_equals s = ltb (find_byte (eqb 0x3D) s) (length s)

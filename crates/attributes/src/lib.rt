@@ -11,15 +11,15 @@ ghost use Rattle.cursor.specs.Inner.{Run, Spanned};
 ghost use Rattle.findings.specs.Finding.{finding_of, severity_of, error_severity};
 ghost use Rattle.findings.specs.Written.{only};
 ghost use Rattle.table.specs.Names.{attribute_name};
-ghost use Rattle.attributes.specs.Attributes.{has_default, kind, empty_value, attribute_scan, between, after_bar, attribute_kinds, findings_at, attributes_findings};
+ghost use Rattle.attributes.specs.Attributes.{kind, empty_value, attribute_scan, between, after_bar, attribute_kinds, findings_at, attributes_findings};
 ghost use Rattle.attributes.specs.Inner.{leads, ends_key, escapes, finding_of_kind, of_node};
 ghost use Rattle.findings.specs.Inner.{Wrote, Room};
 
+use cursor::Siblings;
 use findings::{
     Counts, DEFAULT_ATTRIBUTE_NOT_DEFINED, Finding, INVALID_ATTRIBUTES, Severity,
     UNQUOTED_ATTRIBUTE_VALUE,
 };
-use table::DefaultAttribute;
 
 // The Attribute node that is checked, and the node that owns it.
 #[derive(Clone, Copy)]
@@ -28,15 +28,6 @@ pub struct Where {
     pub len: u64,
     pub node: u64,
     pub owner: u64,
-}
-
-fn has_default(d: DefaultAttribute) -> bool
-    ensures { result ≡ has_default (attribute_name d) }
-{
-    match d {
-        DefaultAttribute::NoDefault => false,
-        _ => true,
-    }
 }
 
 fn byte_is(s: &[u8], i: usize, b: u8) -> bool
@@ -196,7 +187,7 @@ pub fn validate_attribute(
     if text::find_byte(body, b'=') < body.len() {
         return scan_list(body, w, list, c);
     }
-    let known = has_default(table::default_attribute(cursor::name_of(marker)));
+    let known = table::default_attribute(cursor::name_of(marker)).is_some();
     let bare = finding(
         w,
         Severity::Error,
@@ -247,10 +238,8 @@ pub fn validate_attributes(
     ensures { Wrote (attributes_findings owner (name_of (node_at source.now tape.now owner).text) (forest source.now tape.now from to)) list.old c list.new result }
 {
     let mut r = c;
-    let mut i = from;
-    while i < to {
+    for i in Siblings::new(tape, from, to) {
         r = attribute_at(source, tape, i, owner, list, r);
-        i = cursor::past_node(tape, i);
     }
     r
 }

@@ -1,6 +1,6 @@
 -- Laws of bytes written over a list.
 -- Assumes nothing.
-use Prim.Native.Nat.{ℕ, zero, suc, ◌+◌, ◌<◌, ◌≤◌}
+use Prim.Native.Nat.{ℕ, zero, suc, ◌+◌, ◌-◌, ◌<◌, ◌≤◌, min}
 use native.Mathlib.Omega.{arith}
 use native.Mathlib.Nat.{zero-add, suc-add}
 use mathlib.Core.Path.{◌≡◌, refl, sym, ap, ◌∙◌}
@@ -25,6 +25,16 @@ over-is (x ∷ l) (b ∷ s) = ap (b ∷◌) (over-is l s)
 
 pub over-fits : (l s : List ℕ) → length s ≤ length l → over l 0 s ≡ s ++ drop (length s) l
 over-fits l s h = over-is l s ∙ ap (◌++ drop (length s) l) (take_all (length l) s h)
+
+-- the bytes that have room, n of them, between what stands before them and behind them
+pub over-mid : (l : List ℕ) (at : ℕ) (s : List ℕ) (n : ℕ) → n ≡ min (length s) (length l - at) → over l at s ≡ take at l ++ (take n s ++ drop n (drop at l))
+unfolding over
+over-mid [] zero s n h = let z : n ≡ 0 = omega arith in rw z
+over-mid [] (suc at) s n h = let z : n ≡ 0 = omega arith in rw z
+over-mid (x ∷ l) zero [] n h = let z : n ≡ 0 = omega arith in rw z
+over-mid (x ∷ l) zero (b ∷ s) zero h = absurd (omega arith)
+over-mid (x ∷ l) zero (b ∷ s) (suc n) h = ap (b ∷◌) (over-mid l zero s n (omega arith))
+over-mid (x ∷ l) (suc at) s n h = ap (x ∷◌) (over-mid l at s n (omega arith))
 
 pub over-past : (l : List ℕ) (at : ℕ) (s : List ℕ) → length l ≤ at → over l at s ≡ l
 unfolding over

@@ -9,25 +9,17 @@ ghost use Rattle.buffer.specs.Decimal.{decimal};
 pub fn fitting(bytes: usize, list: usize, at: usize) -> usize
     ensures { result ≡ min bytes (list - at) }
 {
-    if list <= at {
-        return 0;
-    }
-    if bytes < list - at {
-        return bytes;
-    }
-    list - at
+    bytes.min(list.saturating_sub(at))
 }
 
-// Writes the bytes, and gives the place behind them, whether or not they had room. How many have room is known before the loop, so that it has one test and writes many bytes in one step.
+// Writes the bytes, and gives the place behind them, whether or not they had room.
 pub fn put(out: &mut [u8], at: usize, s: &[u8]) -> usize
     requires { (at ≤ place_limit) × (length s.now ≤ place_limit) }
     ensures { Put s.now out.old at out.new result }
 {
     let n = fitting(s.len(), out.len(), at);
-    let mut i: usize = 0;
-    while i < n {
-        out[at + i] = s[i];
-        i += 1;
+    if 0 < n {
+        out[at..at + n].copy_from_slice(&s[..n]);
     }
     at + s.len()
 }

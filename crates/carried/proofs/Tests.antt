@@ -6,7 +6,7 @@ use native.Mathlib.Omega.{arith}
 use mathlib.Core.Path.{◌≡◌, refl, sym, ap, ◌∙◌}
 use mathlib.Core.Bool.{Bool, true, false, not, ◌&&◌, ◌||◌}
 use mathlib.Core.List.{List}
-use mathlib.Core.Option.{some, none}
+use Rattle.std.specs.Prelude.{Some, None}
 use lib.Dec.{eqb}
 use lib.ListN.{length, get_or-eq_default}
 use borrow.Author.Tests.{eqb-true, eq-eqb, ne_eqb, lt-ltb, le-ltb, not-true, not-false}
@@ -88,11 +88,11 @@ module _ (table s t : List ℕ) (accepted : Accepted s t) (o : OpenStart) where
       opened : eqb (kind_at t o.node) marker_open_kind ≡ true
       opened = eq-eqb (kind_at t o.node) marker_open_kind (sym is ∙ e)
 
-      pub no-entry : none ≡ info_at table t o.node → true ≡ bad_start table s t o
+      pub no-entry : None ≡ info_at table t o.node → true ≡ bad_start table s t o
       unfolding info_at
       no-entry h = rw (opened, ← h)
 
-      pub with-entry : (x : Entry) (b : Bool) → some x ≡ info_at table t o.node → b ≡ is_start_of x (node_at s t o.node) o.base_len → not b ≡ bad_start table s t o
+      pub with-entry : (x : Entry) (b : Bool) → Some x ≡ info_at table t o.node → b ≡ is_start_of x (node_at s t o.node) o.base_len → not b ≡ bad_start table s t o
       unfolding info_at
       with-entry x b h y = ap not y ∙ rw (opened, ← h)
 

@@ -4,7 +4,7 @@ use Prim.Native.Nat.{ℕ}
 use mathlib.Core.Path.{◌≡◌, refl}
 use mathlib.Core.Bool.{true, false}
 use mathlib.Core.List.{List}
-use mathlib.Core.Option.{none}
+use Rattle.std.specs.Prelude.{None}
 use Rattle.text.specs.Literal.{ascii}
 use Rattle.text.specs.Pick.{in_any}
 use Rattle.text.specs.Blank.{blank_ranges, blank}
@@ -41,7 +41,7 @@ carrying place chapter verse seen opens anchor =
       front_matter = false;
       verse_outside_warned = false;
       expected_chapter = chapter;
-      expected_verse = record { number = verse; letter = none };
+      expected_verse = record { number = verse; letter = None };
       seen_len = seen;
       open_len = opens;
       anchor = anchor;

@@ -13,8 +13,9 @@ ghost use Rattle.definition.specs.Carried.{number_too_large, list_too_long, bad_
 ghost use Rattle.carried.specs.Record.{record_of, bad_record};
 ghost use Rattle.carried.specs.Inner.{is_start_of};
 
+use cursor::Siblings;
 use numbers::VersePart;
-use table::{Info, MarkerInfo};
+use table::MarkerInfo;
 
 // What the walk knows between two sections: the node where the next begins, the flags, what is expected next, how many entries of the
 // two working lists count, and the node of the last anchor or 0. Whatever a caller writes here has a defined outcome.
@@ -43,12 +44,10 @@ pub fn is_border(source: &[u8], tape: &[u8], p: u64) -> bool
     ensures { result ≡ is_border source.now tape.now p }
 {
     let end = tape::link_at(tape, 0) as usize;
-    let mut i: usize = 1;
-    while i < end {
+    for i in Siblings::new(tape, 1, end) {
         if p <= i as u64 {
             return i as u64 == p;
         }
-        i = cursor::past_node(tape, i);
     }
     end as u64 == p
 }
@@ -127,8 +126,8 @@ pub fn is_bad_start(
         return true;
     }
     match cursor::marker_info(table, index, entries, tape, i) {
-        Info::Known(m) => !is_start_of(m, source, tape, i, base_len),
-        Info::Missing => true,
+        Some(m) => !is_start_of(m, source, tape, i, base_len),
+        None => true,
     }
 }
 

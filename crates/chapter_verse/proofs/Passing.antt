@@ -1,10 +1,11 @@
 -- The record after a Chapter, a Verse or another leaf.
 -- Assumes nothing.
+use Rattle.std.specs.Prelude.{Option, Some, None}
 use Prim.Native.Nat.{ℕ, ◌+◌, ◌<◌, ◌≤◌}
 use mathlib.Core.Path.{◌≡◌, refl, sym, ap, ap₂, ◌∙◌}
 use mathlib.Core.Bool.{Bool, true, false, not, ◌||◌}
 use mathlib.Core.List.{List, [], ◌∷◌}
-use mathlib.Core.Option.{Option}
+use Rattle.std.specs.Prelude.{Option}
 use native.Mathlib.Omega.{arith}
 use lib.Dec.{eqb}
 use lib.ListN.{length, set}
@@ -15,10 +16,10 @@ use Rattle.table.specs.Entries.{Entry}
 use Rattle.cursor.specs.Info.{info_at}
 use Rattle.findings.specs.declared.Counts.{Counts}
 use Rattle.findings.proofs.Overlay.{wrote_none}
+use Rattle.numbers.specs.declared.Suffix.TheVariants as suffix
 use Rattle.numbers.specs.Label.{label_of, numbered}
 use Rattle.numbers.specs.Verse.{Position, position_of, verse_part}
 use Rattle.numbers.specs.declared.VersePart.{VersePart}
-use Rattle.numbers.specs.declared.Suffix.TheVariants as suffix
 use Rattle.definition.specs.State.{WalkState, first_verse}
 use Rattle.definition.specs.State as state
 use Rattle.definition.specs.Checks.{given, chapter_checks, verse_checks, after_chapter, after_verse, expected_after, leaf_checked}

@@ -1,10 +1,13 @@
 -- What a verse's label is read as, and the position expected after it.
 -- Assumes nothing.
+use Rattle.std.specs.Prelude.{Result, Ok, Err}
+use Rattle.numbers.specs.declared.Unread.{Unread}
+use Rattle.numbers.specs.declared.Unread.TheVariants as unread
 use Prim.Native.Nat.{ℕ, ◌<◌, ◌≤◌}
 use mathlib.Core.Path.{◌≡◌, refl, sym, ap, ◌∙◌}
 use mathlib.Core.Bool.{Bool, true, false, not, false≢true, ◌&&◌}
 use mathlib.Core.List.{List}
-use mathlib.Core.Option.{Option, some, none}
+use Rattle.std.specs.Prelude.{Option, Some, None}
 use native.Mathlib.Omega.{arith}
 use lib.Dec.{eqb, ltb}
 use lib.ListN.{length, get_or}
@@ -12,8 +15,6 @@ use borrow.Author.Tests.{lt-ltb, le-ltb}
 use Rattle.numbers.specs.Verse.{Position, PartReading, position, no_digits, too_large, Readable, verse_part, verse_end, next, in_sequence, position_of, read_of}
 use Rattle.numbers.specs.Verse as verse
 use Rattle.numbers.specs.declared.VersePart.{VersePart}
-use Rattle.numbers.specs.declared.PartRead.{PartRead}
-use Rattle.numbers.specs.declared.PartRead.TheVariants as read
 use Rattle.numbers.proofs.Readable.{start-readable, end-readable}
 use Rattle.definition.specs.Checks.{breaks, unread, end_or, expected_after}
 use Rattle.chapter_verse.specs.Inner.{LowRead}
@@ -25,8 +26,8 @@ pub long-label : (s : List ℕ) → 1 < length s → eqb (get_or s 0 0) 0x30 ≡
 long-label s h = rw (lt-ltb 1 (length s) h) refl
 
 next_low : (n : ℕ) (l : Option ℕ) → n ≤ 4294967295 → (verse.next_position n l).number ≤ 4294967296
-next_low n none h = omega arith
-next_low n (some b) h = omega arith
+next_low n None h = omega arith
+next_low n (Some b) h = omega arith
 
 after-low : (r : VersePart) (p : Position) → Readable p → position_of r ≡ next p → r.num ≤ 4294967296
 unfolding next
@@ -35,7 +36,7 @@ after-low r p h e =
     rw q (next_low p.number p.letter h.number_low)
 
 -- what is read breaks the sequence, as the code asks
-module _ (x : PartRead) (p : VersePart) (part-read : x ≡ read.Is p) where
+module _ (x : Result VersePart Unread) (p : VersePart) (part-read : x ≡ Ok p) where
   pub low_of : LowRead x → p.num ≤ 4294967296
   low_of h = rw part-read at h
 
@@ -43,10 +44,10 @@ module _ (x : PartRead) (p : VersePart) (part-read : x ≡ read.Is p) where
   breaks-by e b h = rw part-read (ap not h)
 
 -- the end of a label, as the code reads it
-pub end_by : (y : PartRead) (p q : VersePart) → y ≡ read.Is q → position_of q ≡ end_or (read_of y) (position_of p)
+pub end_by : (y : Result VersePart Unread) (p q : VersePart) → y ≡ Ok q → position_of q ≡ end_or (read_of y) (position_of p)
 end_by y p q h = rw h refl
 
-pub end_none : (y : PartRead) (p : VersePart) (z : PartRead) → y ≡ z → unread (read_of z) ≡ true → position_of p ≡ end_or (read_of y) (position_of p)
+pub end_none : (y : Result VersePart Unread) (p : VersePart) (z : Result VersePart Unread) → y ≡ z → unread (read_of z) ≡ true → position_of p ≡ end_or (read_of y) (position_of p)
 end_none y p z h u = rw h (go (read_of z) u)
   where
     go : (r : PartReading) → unread r ≡ true → position_of p ≡ end_or r (position_of p)
@@ -63,7 +64,7 @@ end-or-readable s p h = go (verse_end s) refl
     go too_large k = h
 
 -- the start of a label, as the code reads it
-module _ (s : List ℕ) (x : PartRead) (is : read_of x ≡ verse_part s) where
+module _ (s : List ℕ) (x : Result VersePart Unread) (is : read_of x ≡ verse_part s) where
   pub stays : (v : VersePart) → v.num ≤ 4294967296 → unread (read_of x) ≡ true → (position_of v ≡ expected_after (verse_part s) s (position_of v)) × (v.num ≤ 4294967296)
   stays v h u = (go (verse_part s) (ap unread (sym is) ∙ u), h)
     where
@@ -72,7 +73,7 @@ module _ (s : List ℕ) (x : PartRead) (is : read_of x ≡ verse_part s) where
       go no_digits k = refl
       go too_large k = refl
 
-  module _ (p : VersePart) (part-read : x ≡ read.Is p) where
+  module _ (p : VersePart) (part-read : x ≡ Ok p) where
     start : verse_part s ≡ position (position_of p)
     start = sym is ∙ ap read_of part-read
 
@@ -83,14 +84,14 @@ module _ (s : List ℕ) (x : PartRead) (is : read_of x ≡ verse_part s) where
     start_low = let l = start_is.number_low in omega arith
 
     -- and its end
-    module _ (y : PartRead) (end_is : read_of y ≡ verse_end s) (q : VersePart) (q-is : position_of q ≡ end_or (read_of y) (position_of p)) where
+    module _ (y : Result VersePart Unread) (end_is : read_of y ≡ verse_end s) (q : VersePart) (q-is : position_of q ≡ end_or (read_of y) (position_of p)) where
       pub last-readable : Readable (position_of q)
       last-readable = rw (q-is, end_is) (end-or-readable s (position_of p) start_is)
 
       pub next-of-last : (r : VersePart) (e : Position) → position_of r ≡ next (position_of q) → (position_of r ≡ expected_after (verse_part s) s e) × (r.num ≤ 4294967296)
       next-of-last r e g = (rw start (g ∙ ap next (q-is ∙ ap (λ (z : PartReading). end_or z (position_of p)) end_is)), after-low r (position_of q) last-readable g)
 
-pub low_read : (s : List ℕ) (x : PartRead) → read_of x ≡ verse_part s → LowRead x
-low_read s (read.Is p) is = start_low s (read.Is p) is p refl
-low_read s read.NoDigits is = tt
-low_read s read.TooLarge is = tt
+pub low_read : (s : List ℕ) (x : Result VersePart Unread) → read_of x ≡ verse_part s → LowRead x
+low_read s (Ok p) is = start_low s (Ok p) is p refl
+low_read s (Err unread.NoDigits) is = tt
+low_read s (Err unread.TooLarge) is = tt

@@ -1,12 +1,14 @@
 -- What the inner functions promise.
+use Rattle.numbers.specs.declared.VersePart.{VersePart}
+use Rattle.std.specs.Prelude.{Result, Ok, Err}
+use Rattle.numbers.specs.declared.Unread.{Unread}
+use Rattle.numbers.specs.declared.Unread.TheVariants as unread
 use Rattle.std.specs.Prelude.{ℕ, ◌+◌, ◌≤◌, ◌≡◌, Bool, List}
-use Rattle.std.proofs.Math.Option.{Option}
+use Rattle.std.specs.Prelude.{Option}
 use Rattle.tape.specs.Nodes.{Node, node_at}
 use Rattle.table.specs.Entries.{Entry}
 use Rattle.cursor.specs.Names.{name_of}
 use Rattle.numbers.specs.Label.{is_glued, label_of}
-use Rattle.numbers.specs.declared.PartRead.{PartRead}
-use Rattle.numbers.specs.declared.PartRead.TheVariants as read
 use Rattle.definition.specs.State as state
 use Rattle.definition.specs.Checks.{after_chapter, after_verse}
 use Rattle.definition.specs.declared.OpenStart.{OpenStart}
@@ -14,10 +16,10 @@ use Rattle.state.specs.Inner.{state_of, VerseBounded}
 use Rattle.state.specs.declared.State.{State}
 
 -- a number that a verse position can have, if one is read
-abbrev pub LowRead : PartRead → Type 0
-LowRead (read.Is p) = p.num ≤ 4294967296
-LowRead read.NoDigits = Unit {0}
-LowRead read.TooLarge = Unit {0}
+abbrev pub LowRead : Result VersePart Unread → Type 0
+LowRead (Ok p) = p.num ≤ 4294967296
+LowRead (Err unread.NoDigits) = Unit {0}
+LowRead (Err unread.TooLarge) = Unit {0}
 
 -- the label of a node, and whether it stands in the marker's name
 pub record LabelRead (e : Option Entry) (x : Node) (label : List ℕ) (glued : Bool) : Type 0 where

@@ -23,9 +23,9 @@ use findings::{
     INVALID_VERSE_SEQUENCE, LEADING_ZEROS, MISSING_CHAPTER_NUMBER, MISSING_SPACE_BEFORE_NUMBER,
     MISSING_VERSE_NUMBER, Severity, UNREADABLE_VERSE_NUMBER, VERSE_OUTSIDE_PARAGRAPH,
 };
-use numbers::{PartRead, Suffix, VersePart};
+use numbers::{Suffix, Unread, VersePart};
 use state::{Context, State};
-use table::Info;
+use table::MarkerInfo;
 
 // Whether a number is among the first k words, a word at a time.
 fn is_among_few(seen: &[u32], k: usize, num: u32) -> bool
@@ -131,7 +131,7 @@ fn warn_if(
 // How the number of a chapter (form 0) or a verse (form 1) is written, by its label.
 fn check_number_form(
     form: u64,
-    info: Info,
+    info: Option<MarkerInfo>,
     label: &[u8],
     glued: bool,
     source: &[u8],
@@ -150,7 +150,7 @@ fn check_number_form(
 
 // The findings of a Chapter, by its label and the chapters seen so far. Its number is its link.
 fn chapter_findings(
-    info: Info,
+    info: Option<MarkerInfo>,
     label: &[u8],
     glued: bool,
     source: &[u8],
@@ -187,46 +187,37 @@ fn chapter_findings(
 }
 
 // Whether what is read of a label breaks the sequence of verses.
-fn breaks(read: PartRead, v: VersePart) -> bool
+fn breaks(read: Result<VersePart, Unread>, v: VersePart) -> bool
     requires { (v.num ≤ 4294967296) × LowRead read }
     ensures { result ≡ Checks.breaks (read_of read) (position_of v) }
 {
     match read {
-        PartRead::Is(p) => !numbers::is_valid_verse_sequence(v, p),
-        PartRead::NoDigits => false,
-        PartRead::TooLarge => false,
+        Ok(p) => !numbers::is_valid_verse_sequence(v, p),
+        Err(_) => false,
     }
 }
 
 // Whether a label has something and nothing is read of its start.
-fn is_unread(bare: bool, read: PartRead) -> bool
+fn is_unread(bare: bool, read: Result<VersePart, Unread>) -> bool
     ensures { result ≡ (not bare && unread (read_of read)) }
 {
-    if bare {
-        return false;
-    }
-    match read {
-        PartRead::Is(_) => false,
-        PartRead::NoDigits => true,
-        PartRead::TooLarge => true,
-    }
+    !bare && read.is_err()
 }
 
 // Why nothing is read, as a form of UnreadableVerseNumber.
-fn unread_form(read: PartRead) -> u64
+fn unread_form(read: Result<VersePart, Unread>) -> u64
     ensures { result ≡ unread_form (read_of read) }
 {
     match read {
-        PartRead::Is(_) => findings::NO_DIGITS_FORM,
-        PartRead::NoDigits => findings::NO_DIGITS_FORM,
-        PartRead::TooLarge => findings::TOO_LARGE_FORM,
+        Err(Unread::TooLarge) => findings::TOO_LARGE_FORM,
+        _ => findings::NO_DIGITS_FORM,
     }
 }
 
 // UnreadableVerseNumber, by whether the label is empty and what is read of its start.
 fn unread_finding(
     bare: bool,
-    read: PartRead,
+    read: Result<VersePart, Unread>,
     tape: &[u8],
     i: usize,
     list: &mut [u64],
@@ -262,10 +253,10 @@ fn letter_byte(v: VersePart) -> u64
 
 // The findings of a Verse, by its label and what is read of it.
 fn verse_findings(
-    info: Info,
+    info: Option<MarkerInfo>,
     label: &[u8],
     glued: bool,
-    read: PartRead,
+    read: Result<VersePart, Unread>,
     source: &[u8],
     tape: &[u8],
     i: usize,
@@ -323,7 +314,7 @@ fn after_chapter(tape: &[u8], i: usize, rec: State, seen: &mut [u32]) -> State
 }
 
 // What is read of a label's end, by what is read of its start, which is the end of a label without a hyphen.
-fn end_read(label: &[u8], start: PartRead) -> PartRead
+fn end_read(label: &[u8], start: Result<VersePart, Unread>) -> Result<VersePart, Unread>
     requires { read_of start ≡ verse_part label.now }
     ensures { read_of result ≡ verse_end label.now }
 {
@@ -334,33 +325,31 @@ fn end_read(label: &[u8], start: PartRead) -> PartRead
 }
 
 // The position that a label ends with: an end that isn't read lets the start serve.
-fn end_or(end: PartRead, start: VersePart) -> VersePart
+fn end_or(end: Result<VersePart, Unread>, start: VersePart) -> VersePart
     ensures { position_of result ≡ end_or (read_of end) (position_of start) }
 {
     match end {
-        PartRead::Is(p) => p,
-        PartRead::NoDigits => start,
-        PartRead::TooLarge => start,
+        Ok(p) => p,
+        Err(_) => start,
     }
 }
 
 // The position expected after a label, by what is read of its start. A label that isn't read doesn't change it.
-fn verse_after(label: &[u8], read: PartRead, v: VersePart) -> VersePart
+fn verse_after(label: &[u8], read: Result<VersePart, Unread>, v: VersePart) -> VersePart
     requires { (v.num ≤ 4294967296) × (read_of read ≡ verse_part label.now) }
     ensures { (position_of result ≡ expected_after (verse_part label.now) label.now (position_of v)) × (result.num ≤ 4294967296) }
 {
     match read {
-        PartRead::Is(start) => numbers::next_expected(end_or(end_read(label, read), start)),
-        PartRead::NoDigits => v,
-        PartRead::TooLarge => v,
+        Ok(start) => numbers::next_expected(end_or(end_read(label, read), start)),
+        Err(_) => v,
     }
 }
 
 // The record after a Verse, by its label and what is read of it.
 fn after_verse(
-    info: Info,
+    info: Option<MarkerInfo>,
     label: &[u8],
-    read: PartRead,
+    read: Result<VersePart, Unread>,
     source: &[u8],
     tape: &[u8],
     i: usize,

@@ -5,8 +5,9 @@ use mathlib.Core.Path.{◌≡◌, ap, ◌∙◌}
 use mathlib.Core.List.{List, [], ◌∷◌, ◌++◌}
 use native.Mathlib.Omega.{arith}
 use native.Mathlib.Numerals.{add-one}
-use lib.ListN.{length, get_or}
-use Rattle.tape.specs.Nodes.{node_at, count}
+use lib.ListN.{length, get_or, take, length-take}
+use Rattle.std.proofs.Common.{get_or-take}
+use Rattle.tape.specs.Nodes.{node_at}
 use Rattle.findings.specs.Finding.{Finding}
 use Rattle.findings.specs.declared.Counts.{Counts}
 use Rattle.findings.specs.Written.{total}
@@ -41,18 +42,20 @@ unfolding unclosed open_nodes
 unclosed-none s t opens n l c₀ c e o r = rw e (record { few = omega arith; known = o; room = r; wrote = wrote_none l c₀ })
 
 module _ {s t : List ℕ} {opens : List OpenStart} {n : ℕ} {l₀ : List ℕ} {c₀ : Counts} {l : List ℕ} {c : Counts} {k : ℕ} (so_far : UnclosedSoFar s t opens n l₀ c₀ l c k) where
-  pub unclosed-all : n ≤ k → Wrote (unclosed (open_nodes s t opens n)) l₀ c₀ l c
+  pub unclosed-all : length (take n opens) ≤ k → Wrote (unclosed (open_nodes s t opens n)) l₀ c₀ l c
   unclosed-all h =
       let f = so_far.few in
-      let e : n ≡ k = omega arith in
+      let r = so_far.known.room in
+      let e : n ≡ k = omega (arith, length-take n opens) in
       rw e so_far.wrote
 
-  module _ (more : k < n) where
-    pub unclosed-inside : k < length opens
-    unclosed-inside = let r = so_far.known.room in omega arith
+  -- the next of the first n
+  module _ (more : k < length (take n opens)) where
+    here : k < n
+    here = omega (arith, length-take n opens)
 
-    unclosed-node : (get_or opens k no_start).node < count t
-    unclosed-node = (so_far.known.spanned k more).inside
+    same : get_or (take n opens) k no_start ≡ get_or opens k no_start
+    same = let h = here in get_or-take n opens k no_start h
 
     unclosed-room : Room c (of_open t (get_or opens k no_start))
     unclosed-room =
@@ -60,18 +63,20 @@ module _ {s t : List ℕ} {opens : List OpenStart} {n : ℕ} {l₀ : List ℕ} {
         let i = left-length s t opens k in
         let j = left-length s t opens n in
         let r = so_far.room in
+        let h = here in
         omega arith
 
-    pub unclosed-ready : UnclosedReady t (get_or opens k no_start) c
-    unclosed-ready = record { inside = unclosed-node; room = unclosed-room }
+    pub unclosed-ready : UnclosedReady t (get_or (take n opens) k no_start) c
+    unclosed-ready = rw same (record { inside = (so_far.known.spanned k here).inside; room = unclosed-room })
 
-    pub unclosed-next : {l' : List ℕ} {c' : Counts} → Wrote (of_open t (get_or opens k no_start)) l c l' c' → UnclosedSoFar s t opens n l₀ c₀ l' c' (k + 1)
+    pub unclosed-next : {l' : List ℕ} {c' : Counts} → Wrote (of_open t (get_or (take n opens) k no_start)) l c l' c' → UnclosedSoFar s t opens n l₀ c₀ l' c' (k + 1)
     unclosed-next w =
+        let h = here in
         record {
           few = omega arith;
           known = so_far.known;
           room = so_far.room;
-          wrote = rw (unclosed-more s t opens k) (wrote-append so_far.wrote w);
+          wrote = rw (unclosed-more s t opens k) (wrote-append so_far.wrote (rw same at w));
         }
 
 -- what is written of a finding that is another by an equation

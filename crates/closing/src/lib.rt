@@ -1,7 +1,7 @@
 // Before the walk and after it: text before `\id`, the closing findings, and the working lists cleared.
 #![tactic(auto)]
 
-ghost use Rattle.std.specs.Prelude.{◌≡◌, ◌≤◌, length};
+ghost use Rattle.std.specs.Prelude.{◌≡◌, ◌≤◌, not, ◌&&◌, ◌||◌, length};
 ghost use Rattle.tape.specs.Forest.{forest};
 ghost use Rattle.cursor.specs.Inner.{Run};
 ghost use Rattle.findings.specs.Finding.{finding_of};
@@ -82,15 +82,23 @@ pub fn unclosed(
     requires { Left source.now tape.now opens.old rec }
     ensures { (opens.new ≡ opens.old) × Wrote (Document.unclosed (open_nodes source.now tape.now opens.old rec.open_len)) list.old (counts_of rec) list.new result }
 {
-    let n = rec.open_len;
     let mut c = state::counts(rec);
-    let mut k: usize = 0;
-    while k < n {
-        let o = opens[k];
-        c = push_unclosed(tape, o, list, c);
-        k += 1;
+    for o in &opens[..rec.open_len] {
+        c = push_unclosed(tape, *o, list, c);
     }
     c
+}
+
+fn lacks_id(rec: State) -> bool
+    ensures { result ≡ (not rec.has_id && (rec.has_chapter || rec.has_verse)) }
+{
+    !rec.has_id && (rec.has_chapter || rec.has_verse)
+}
+
+fn lacks_chapter(rec: State) -> bool
+    ensures { result ≡ ((rec.has_id || rec.has_verse) && (not rec.has_chapter && not rec.front_matter)) }
+{
+    (rec.has_id || rec.has_verse) && !rec.has_chapter && !rec.front_matter
 }
 
 // MissingIdMarker and MissingChapterMarker.
@@ -98,19 +106,11 @@ pub fn missing(rec: State, list: &mut [u64], c: Counts) -> Counts
     requires { Room c (given (missing_checks rec)) }
     ensures { Wrote (given (missing_checks rec)) list.old c list.new result }
 {
-    let numbered = state::or(rec.has_chapter, rec.has_verse);
-    let first = findings::push_if(
-        list,
-        c,
-        state::and(!rec.has_id, numbered),
-        of_document(MISSING_ID_MARKER),
-    );
-    let book = state::or(rec.has_id, rec.has_verse);
-    let bare = state::and(!rec.has_chapter, !rec.front_matter);
+    let first = findings::push_if(list, c, lacks_id(rec), of_document(MISSING_ID_MARKER));
     findings::push_if(
         list,
         first,
-        state::and(book, bare),
+        lacks_chapter(rec),
         of_document(MISSING_CHAPTER_MARKER),
     )
 }
@@ -119,11 +119,7 @@ pub fn clear_seen(seen: &mut [u32], n: usize)
     requires { n ≤ length seen.old }
     ensures { seen.new ≡ cleared 0 n seen.old }
 {
-    let mut i: usize = 0;
-    while i < n {
-        seen[i] = 0;
-        i += 1;
-    }
+    seen[..n].fill(0);
 }
 
 pub fn clear_opens(opens: &mut [OpenStart], n: usize)
@@ -134,9 +130,5 @@ pub fn clear_opens(opens: &mut [OpenStart], n: usize)
         node: 0,
         base_len: 0,
     };
-    let mut i: usize = 0;
-    while i < n {
-        opens[i] = nothing;
-        i += 1;
-    }
+    opens[..n].fill(nothing);
 }

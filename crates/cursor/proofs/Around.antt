@@ -4,7 +4,7 @@ use mathlib.Core.Path.{◌≡◌, refl, sym, ap, ◌∙◌}
 use mathlib.Core.Bool.{Bool, true, false, not, false≢true, ◌&&◌, ◌||◌}
 use mathlib.Core.List.{List}
 use mathlib.Core.Logic.{◌⊎◌, inl, inr}
-use mathlib.Core.Option.{some, none}
+use Rattle.std.specs.Prelude.{Some, None}
 use Prim.Native.Nat.{ℕ, ◌+◌, ◌<◌, ◌≤◌}
 use native.Mathlib.Decide.{dec_lt}
 use native.Mathlib.Omega.{arith}
@@ -23,15 +23,15 @@ module _ (t : List ℕ) (i k : ℕ) (x : Bool) (is-kind : k ≡ kind_at t i) (ho
   holds_as : (v : Bool) → x ≡ v → holds_nodes (kind_at t i) ≡ v
   holds_as v e = ap holds_nodes (sym is-kind) ∙ sym holds ∙ e
 
-  pub child-none : not x ≡ true → none ≡ first_child t i
+  pub child-none : not x ≡ true → None ≡ first_child t i
   unfolding first_child
   child-none y = rw (holds_as false (not-true x y))
 
-  pub child-there : (l : ℕ) → not x ≡ false → l ≡ link_at t i → i + 1 < l → some (i + 1) ≡ first_child t i
+  pub child-there : (l : ℕ) → not x ≡ false → l ≡ link_at t i → i + 1 < l → Some (i + 1) ≡ first_child t i
   unfolding first_child
   child-there l y e h = rw (holds_as true (not-false x y), ← e, lt-ltb (i + 1) l h)
 
-  pub child-empty : (l : ℕ) → not x ≡ false → l ≡ link_at t i → l ≤ i + 1 → none ≡ first_child t i
+  pub child-empty : (l : ℕ) → not x ≡ false → l ≡ link_at t i → l ≤ i + 1 → None ≡ first_child t i
   unfolding first_child
   child-empty l y e h = rw (holds_as true (not-false x y), ← e, le-ltb (i + 1) l h)
 
@@ -42,24 +42,24 @@ module _ (t : List ℕ) (i k : ℕ) (x : Bool) (is-kind : k ≡ kind_at t i) (ho
   past-leaf y = rw (holds_as false y)
 
 module _ (t : List ℕ) (i p : ℕ) (is-past : p ≡ past_node t i) where
-  pub next-off : count t ≤ p → none ≡ next_sibling t i
+  pub next-off : count t ≤ p → None ≡ next_sibling t i
   unfolding next_sibling
   next-off h = rw (← is-past, le-ltb p (count t) h)
 
-  pub next-by : (k : ℕ) (x : Bool) → p < count t → k ≡ kind_at t p → x ≡ is_close k → pick (not x) (some p) none ≡ next_sibling t i
+  pub next-by : (k : ℕ) (x : Bool) → p < count t → k ≡ kind_at t p → x ≡ is_close k → pick (not x) (Some p) None ≡ next_sibling t i
   unfolding next_sibling
   next-by k x h e f = rw (← is-past, lt-ltb p (count t) h, ← e, ← f)
 
 module _ (t : List ℕ) (i k : ℕ) (is-kind : k ≡ kind_at t i) where
-  pub number-chapter : (l : ℕ) → k ≡ 3 → l ≡ link_at t i → some l ≡ number_at t i
+  pub number-chapter : (l : ℕ) → k ≡ 3 → l ≡ link_at t i → Some l ≡ number_at t i
   unfolding number_at
   number-chapter l e z = rw (← is-kind, eq-eqb k 3 e, ← z)
 
-  pub number-verse : (l : ℕ) → (k ≡ 3 → ⊥) → k ≡ 4 → l ≡ link_at t i → some l ≡ number_at t i
+  pub number-verse : (l : ℕ) → (k ≡ 3 → ⊥) → k ≡ 4 → l ≡ link_at t i → Some l ≡ number_at t i
   unfolding number_at
   number-verse l n e z = rw (← is-kind, ne_eqb k 3 n, eq-eqb k 4 e, ← z)
 
-  pub number-none : (k ≡ 3 → ⊥) → (k ≡ 4 → ⊥) → none ≡ number_at t i
+  pub number-none : (k ≡ 3 → ⊥) → (k ≡ 4 → ⊥) → None ≡ number_at t i
   unfolding number_at
   number-none n m = rw (← is-kind, ne_eqb k 3 n, ne_eqb k 4 m)
 
@@ -87,7 +87,7 @@ module _ (t : List ℕ) where
   next-nested (one h z r) l = rw h r
   next-nested (inner h z c r) l = rw h r
 
-  pub next-in : {d a b : ℕ} → Nested t d a b → a < b → (kind_at t a ≡ root_kind → ⊥) → Border b → next_sibling t a ≡ pick (ltb (next_at t a) b) (some (next_at t a)) none
+  pub next-in : {d a b : ℕ} → Nested t d a b → a < b → (kind_at t a ≡ root_kind → ⊥) → Border b → next_sibling t a ≡ pick (ltb (next_at t a) b) (Some (next_at t a)) None
   unfolding next_sibling
   next-in {d} {a} {b} n l k border =
       let p = past_next a k in
@@ -99,7 +99,7 @@ module _ (t : List ℕ) where
       inside (inl e) = omega arith
       inside (inr e) = omega (arith, e.0)
 
-      go : Dec (next_at t a < b) → Border b → Nested t d (next_at t a) b → next_at t a ≤ b → pick (ltb (next_at t a) (count t) && not (is_close (kind_at t (next_at t a)))) (some (next_at t a)) none ≡ pick (ltb (next_at t a) b) (some (next_at t a)) none
+      go : Dec (next_at t a < b) → Border b → Nested t d (next_at t a) b → next_at t a ≤ b → pick (ltb (next_at t a) (count t) && not (is_close (kind_at t (next_at t a)))) (Some (next_at t a)) None ≡ pick (ltb (next_at t a) b) (Some (next_at t a)) None
       go (yes q) w r h = rw (lt-ltb (next_at t a) b q, lt-ltb (next_at t a) (count t) (omega (arith, inside w)), no-close r q)
       go (no q) (inl e) r h = rw (le-ltb (next_at t a) b (omega arith), le-ltb (next_at t a) (count t) (omega arith))
       go (no q) (inr e) r h =

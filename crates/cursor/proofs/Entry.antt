@@ -3,7 +3,7 @@
 use mathlib.Core.Path.{◌≡◌}
 use mathlib.Core.Bool.{Bool, true, false, not}
 use mathlib.Core.List.{List}
-use mathlib.Core.Option.{none}
+use Rattle.std.specs.Prelude.{None}
 use Prim.Native.Nat.{ℕ, ◌<◌, ◌≤◌}
 use native.Mathlib.Omega.{arith}
 use lib.Dec.{eqb}
@@ -22,7 +22,7 @@ pub marker-last : (k : ℕ) → 1 ≤ k → 4 < k → eqb k 7 ≡ has_marker k
 marker-last k h l = rw (le-leb 1 k h, lt-leb k 4 l)
 
 module _ (table t : List ℕ) (i k : ℕ) (x : Bool) (is-kind : k ≡ kind_at t i) (has : x ≡ has_marker k) where
-  pub info-none : not x ≡ true → none ≡ info_at table t i
+  pub info-none : not x ≡ true → None ≡ info_at table t i
   unfolding info_at
   info-none y = rw (← is-kind, ← has, not-true x y)
 

@@ -4,3 +4,4 @@ pub mod Entry
 pub mod Runs
 pub mod OfKind
 pub mod WellFormed
+pub mod InTurn

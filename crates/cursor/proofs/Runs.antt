@@ -33,7 +33,7 @@ module _ (s t : List ℕ) (a b : ℕ) (run : Run s t a b) (more : a < b) where
   pub run-below : a < count t
   run-below = below
 
-  past_is : past_node t a ≡ next_at t a
+  pub past_is : past_node t a ≡ next_at t a
   past_is = past_next t a no-root
 
   past-nested : Nested t run.depth (past_node t a) b

@@ -7,14 +7,16 @@ ghost use Rattle.text.specs.Characters.{find};
 ghost use Rattle.tape.specs.Nodes.{count, start_at, len_at, kind_at, link_at, node_at};
 ghost use Rattle.tape.specs.Nodes as nodes;
 ghost use Rattle.cursor.specs.Names.{past_one, ends_name, name_part, name_of};
-ghost use Rattle.cursor.specs.Steps.{first_child, next_sibling, number_at, holds_nodes, node_place, number_read};
+ghost use Rattle.cursor.specs.Steps.{first_child, next_sibling, number_at, holds_nodes};
 ghost use Rattle.table.specs.Entries.{info_of};
 ghost use Rattle.cursor.specs.Info.{has_marker, info_at};
 ghost use Rattle.cursor.specs.Inner.{is_kind, Spanned, Reached, PlainByte, Named};
+ghost use Rattle.cursor.specs.InTurn.{siblings, SomeRun, left, HasRun};
+ghost use Rattle.std.specs.Iterator.{YieldsFirst, item_count};
 ghost use Rattle.text.specs.Inner.{Ended};
 ghost use Rattle.table.specs.Inner.{Indexed};
 
-use table::{Info, MarkerId};
+use table::{MarkerId, MarkerInfo};
 
 // Where a node's text stands in the source.
 #[derive(Clone, Copy)]
@@ -28,20 +30,6 @@ pub struct NodeSpan {
 pub struct NameSpan {
     pub start: usize,
     pub end: usize,
-}
-
-// A node's number, if there is such a node.
-#[derive(Clone, Copy)]
-pub enum Place {
-    At(usize),
-    Nowhere,
-}
-
-// The number of a chapter or a verse.
-#[derive(Clone, Copy)]
-pub enum NumberRead {
-    Is(u32),
-    NoNumber,
 }
 
 pub fn span(tape: &[u8], i: usize) -> NodeSpan
@@ -179,17 +167,17 @@ fn holds_nodes(kind: u8) -> bool
     }
 }
 
-pub fn first_child(tape: &[u8], i: usize) -> Place
+pub fn first_child(tape: &[u8], i: usize) -> Option<usize>
     requires { i < count tape.now }
-    ensures { node_place result ≡ first_child tape.now i }
+    ensures { result ≡ first_child tape.now i }
 {
     if !holds_nodes(tape::kind_at(tape, i)) {
-        return Place::Nowhere;
+        return None;
     }
     if i + 1 < tape::link_at(tape, i) as usize {
-        Place::At(i + 1)
+        Some(i + 1)
     } else {
-        Place::Nowhere
+        None
     }
 }
 
@@ -205,33 +193,75 @@ pub fn past_node(tape: &[u8], i: usize) -> usize
     }
 }
 
-pub fn next_sibling(tape: &[u8], i: usize) -> Place
-    requires { i < count tape.now }
-    ensures { node_place result ≡ next_sibling tape.now i }
-{
-    let next = past_node(tape, i);
-    if tape.len() / 16 <= next {
-        return Place::Nowhere;
-    }
-    if tape::is_close(tape::kind_at(tape, next)) {
-        Place::Nowhere
-    } else {
-        Place::At(next)
+// An iterator over a run of siblings: the numbers of its nodes, without those inside them.
+#[derive(Drop)]
+pub struct Siblings<'a> {
+    tape: &'a [u8],
+    next: usize,
+    end: usize,
+}
+
+impl<'a> Iterator for Siblings<'a> {
+    type Item = usize;
+
+    ghost can_next = { HasRun };
+
+    ghost next_gives = { YieldsFirst left };
+
+    ghost remaining = { item_count left };
+
+    fn next(&mut self) -> Option<usize> {
+        if self.end <= self.next {
+            return None;
+        }
+        let i = self.next;
+        self.next = past_node(self.tape, i);
+        Some(i)
     }
 }
 
-pub fn number(tape: &[u8], i: usize) -> NumberRead
+impl<'a> Siblings<'a> {
+    // The siblings from a node up to the end of its run.
+    pub fn new(tape: &'a [u8], from: usize, to: usize) -> Siblings<'a>
+        requires { SomeRun tape.now from to }
+        ensures run { HasRun result }
+        ensures items { left result ≡ siblings tape.now from to }
+    {
+        Siblings {
+            tape,
+            next: from,
+            end: to,
+        }
+    }
+}
+
+pub fn next_sibling(tape: &[u8], i: usize) -> Option<usize>
     requires { i < count tape.now }
-    ensures { number_read result ≡ number_at tape.now i }
+    ensures { result ≡ next_sibling tape.now i }
+{
+    let next = past_node(tape, i);
+    if tape.len() / 16 <= next {
+        return None;
+    }
+    if tape::is_close(tape::kind_at(tape, next)) {
+        None
+    } else {
+        Some(next)
+    }
+}
+
+pub fn number(tape: &[u8], i: usize) -> Option<u32>
+    requires { i < count tape.now }
+    ensures { result ≡ number_at tape.now i }
 {
     let kind = tape::kind_at(tape, i);
     if kind == tape::CHAPTER {
-        return NumberRead::Is(tape::link_at(tape, i));
+        return Some(tape::link_at(tape, i));
     }
     if kind == tape::VERSE {
-        return NumberRead::Is(tape::link_at(tape, i));
+        return Some(tape::link_at(tape, i));
     }
-    NumberRead::NoNumber
+    None
 }
 
 fn has_marker(kind: u8) -> bool
@@ -248,12 +278,18 @@ fn has_marker(kind: u8) -> bool
 }
 
 // The table entry of a node that bears a marker.
-pub fn marker_info(table: &[u8], index: &[u64], entries: usize, tape: &[u8], i: usize) -> Info
+pub fn marker_info(
+    table: &[u8],
+    index: &[u64],
+    entries: usize,
+    tape: &[u8],
+    i: usize,
+) -> Option<MarkerInfo>
     requires { (Indexed table.now index.now entries) × (i < count tape.now) }
     ensures { info_of result ≡ info_at table.now tape.now i }
 {
     if !has_marker(tape::kind_at(tape, i)) {
-        return Info::Missing;
+        return None;
     }
     MarkerId::info(table, index, entries, MarkerId(tape::marker_at(tape, i)))
 }

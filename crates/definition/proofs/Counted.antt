@@ -7,7 +7,7 @@ use mathlib.Core.Path.{◌≡◌, refl}
 use mathlib.Core.Bool.{Bool, true, false, false≢true}
 use mathlib.Core.List.{List, [], ◌∷◌}
 use mathlib.Core.Logic.{◌⊎◌, inl, inr}
-use mathlib.Core.Option.{Option, some, none}
+use Rattle.std.specs.Prelude.{Option, Some, None}
 use lib.Dec.{eqb, ltb}
 use lib.ListN.{length}
 use borrow.Author.Tests.{ltb-true, ltb-false}
@@ -89,13 +89,13 @@ walk-verses table o a (leaf x r) st =
     let k = walk-verses table o (leaf_anchor a x) r (leaf_checked table o st x).state in
     omega arith
 walk-verses table o a (node x c r) st =
-    go (entry_of table x) (λ p s. walk-verses table p none c s) (λ s. walk-verses table o (past a (node x c end)) r s)
+    go (entry_of table x) (λ p s. walk-verses table p None c s) (λ s. walk-verses table o (past a (node x c end)) r s)
   where
-    go : (q : Option Entry) → ((p : WalkContext) (s : WalkState) → (walk table p none c s).state.verses ≤ s.verses + nodes_in c) → ((s : WalkState) → (walk table o (past a (node x c end)) r s).state.verses ≤ s.verses + nodes_in r) → (by_entry q (walk table o (past a (node x c end)) r st) (λ e. after_node (open_checked table o a st e x c (node x c r)) (λ st₁. then_walk (walk table (inside o e) none c st₁) (walk table o (past a (node x c end)) r)))).state.verses ≤ st.verses + (1 + nodes_in c + nodes_in r)
-    go none below later = let k = later st in omega arith
-    go (some e) below later =
+    go : (q : Option Entry) → ((p : WalkContext) (s : WalkState) → (walk table p None c s).state.verses ≤ s.verses + nodes_in c) → ((s : WalkState) → (walk table o (past a (node x c end)) r s).state.verses ≤ s.verses + nodes_in r) → (by_entry q (walk table o (past a (node x c end)) r st) (λ e. after_node (open_checked table o a st e x c (node x c r)) (λ st₁. then_walk (walk table (inside o e) None c st₁) (walk table o (past a (node x c end)) r)))).state.verses ≤ st.verses + (1 + nodes_in c + nodes_in r)
+    go None below later = let k = later st in omega arith
+    go (Some e) below later =
         let t = open_checked table o a st e x c (node x c r) in
-        let w = walk table (inside o e) none c t.state in
+        let w = walk table (inside o e) None c t.state in
         let m = open-verses table o a st e x c (node x c r) in
         let k = below (inside o e) t.state in
         let j = later w.state in
@@ -141,11 +141,11 @@ uncut-fits l e = test (smaller-is (length (list_of l)) (room l.list)) (ltb-false
     test (inl h) more = h.1
     test (inr h) more = rw h.0 at more
 
-pub verses_few : (l : Lent) → refusal l ≡ none → (checked_of l).verses ≤ count l.tape
+pub verses_few : (l : Lent) → refusal l ≡ None → (checked_of l).verses ≤ count l.tape
 unfolding checked_of
 verses_few l e =
     let run = run-top l.source l.tape (checked-accepted l e) in
     let k = nodes-le l.source l.tape run.nested in
-    let j = walk-verses l.table outside none (top l.source l.tape) initial in
+    let j = walk-verses l.table outside None (top l.source l.tape) initial in
     let i = run.inside in
     omega arith

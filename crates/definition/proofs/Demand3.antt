@@ -6,7 +6,7 @@ use native.Mathlib.Omega.{arith}
 use mathlib.Core.Path.{◌≡◌}
 use mathlib.Core.Bool.{Bool, true, false, not}
 use mathlib.Core.List.{List, [], ◌∷◌, ◌++◌}
-use mathlib.Core.Option.{Option, some, none}
+use Rattle.std.specs.Prelude.{Option, Some, None}
 use lib.Dec.{ltb}
 use Rattle.tape.specs.Nodes.{Node, node_at, link_at}
 use Rattle.tape.specs.Forest.{forest, Nested, done, one, inner, Accepted, top}
@@ -53,8 +53,8 @@ visits-rise table s t {a} {b} (inner {d} h z c r) =
     own false = let k : a ≤ a + 1 = omega arith in none_left k
 
     go : (q : Option Entry) → a ≤ link_at t a + 1 → Rising (a + 1) (link_at t a) (visits table (forest s t (a + 1) (link_at t a))) → Rising (link_at t a + 1) b (visits table (forest s t (link_at t a + 1) b)) → Rising a b (visit_of q m (visits table (forest s t (a + 1) (link_at t a))) (visits table (forest s t (link_at t a + 1) b)))
-    go none l p q = rising-from a l q
-    go (some e) l p q = rising-join (rising-join (own (is_milestone e x)) p) (rising-from (link_at t a) (omega arith) q)
+    go None l p q = rising-from a l q
+    go (Some e) l p q = rising-join (rising-join (own (is_milestone e x)) p) (rising-from (link_at t a) (omega arith) q)
 
 module _ (table s t s' t' : List ℕ) (short : Accepted s t) (long : Accepted s' t') (alike : Alike s t s' t') where
   -- without the condition on start offsets
@@ -67,7 +67,7 @@ module _ (table s t s' t' : List ℕ) (short : Accepted s t) (long : Accepted s'
       (unclosed-longer table (top s t) (forest s' t' (link_at t 0) (link_at t' 0)) (link_at t 0) (link_at t' 0) (rising-from 0 (omega arith) (visits-rise table s t short.nested)) (visits-rise table s' t' (rest-nested s t s' t' short long alike)))
 
 -- a document that no number turns back is accepted
-pub checked-accepted : (l : Lent) → refusal l ≡ none → Accepted l.source l.tape
+pub checked-accepted : (l : Lent) → refusal l ≡ None → Accepted l.source l.tape
 unfolding refusal
 checked-accepted l e =
     let a = (neither (of1 l) (or_else (of2 l) (or_else (of3 l) (or_else (of_tape l) (or_else (of9 l) (of10 l))))) e).1 in
@@ -76,7 +76,7 @@ checked-accepted l e =
     (accepted l.source l.tape).0 (neither (of_tape l) (or_else (of9 l) (of10 l)) c).0
 
 -- demand 3 as document 01 asks for it: two documents that none of 1 to 10 turns back, under the same table, that begin alike
-module _ (l l' : Lent) (same-table : l.table ≡ l'.table) (short : refusal l ≡ none) (long : refusal l' ≡ none) (alike : BeginAlike l.source l.tape l'.source l'.tape) where
+module _ (l l' : Lent) (same-table : l.table ≡ l'.table) (short : refusal l ≡ None) (long : refusal l' ≡ None) (alike : BeginAlike l.source l.tape l'.source l'.tape) where
   pub longer-keeps-findings : Beginning (running l.table (top l.source l.tape)) (running l'.table (top l'.source l'.tape))
   longer-keeps-findings = rw (← same-table) (keeps-findings l.table l.source l.tape l'.source l'.tape (checked-accepted l short) (checked-accepted l' long) alike.alike)
 

@@ -4,7 +4,7 @@ use Prim.Native.Nat.{ℕ, zero, suc, ◌+◌}
 use mathlib.Core.Path.{◌≡◌, refl}
 use mathlib.Core.Bool.{Bool, true, false, not, false≢true, ◌&&◌, ◌||◌}
 use mathlib.Core.List.{List, [], ◌∷◌, ◌++◌}
-use mathlib.Core.Option.{Option, some, none}
+use Rattle.std.specs.Prelude.{Option, Some, None}
 use lib.Dec.{eqb}
 use borrow.Author.Tests.{eqb-true}
 use Rattle.text.specs.Pick.{cut, pick, AllOf}
@@ -136,8 +136,8 @@ module _ (P : ℕ → ℕ → ℕ → Type 0) where
   module _ (h : (severity code form : ℕ) → is_given severity code ≡ true → P severity code form) where
     each-cell : (q : Option ColumnRange) (x : Node) (e : ℕ) (later : ℕ → List Finding) → ((n : ℕ) → EachFinding P (later n)) → EachFinding P (by_columns q x e later)
     unfolding codes_of among
-    each-cell none x e later k = k e
-    each-cell (some c) x e later k =
+    each-cell None x e later k = k e
+    each-cell (Some c) x e later k =
         each_append (only (not (eqb c.start e)) (out_of_order x e c.start)) (later (c.end + 1)) (each-only (not (eqb c.start e)) (out_of_order x e c.start) (h error_severity codes.invalid_table_column_sequence 0 refl)) (k (c.end + 1))
 
     each_row : (e : ℕ) (f : Forest) → EachFinding P (row_from e f)
@@ -226,18 +226,18 @@ module _ (P : ℕ → ℕ → ℕ → Type 0) where
       each-walk table o a end st = tt
       each-walk table o a (leaf x r) st =
           each_append (leaf_checked table o st x).findings (walk table o (leaf_anchor a x) r (leaf_checked table o st x).state).findings (each-leaf unread table o st x) (each-walk table o (leaf_anchor a x) r (leaf_checked table o st x).state)
-      each-walk table o a (node x c r) st = test (entry_of table x) (λ p s. each-walk table p none c s) (λ s. each-walk table o (past a (node x c end)) r s)
+      each-walk table o a (node x c r) st = test (entry_of table x) (λ p s. each-walk table p None c s) (λ s. each-walk table o (past a (node x c end)) r s)
         where
-          test : (q : Option Entry) → ((p : WalkContext) (s : WalkState) → EachFinding P (walk table p none c s).findings) → ((s : WalkState) → EachFinding P (walk table o (past a (node x c end)) r s).findings) → EachFinding P (by_entry q (walk table o (past a (node x c end)) r st) (λ e. after_node (open_checked table o a st e x c (node x c r)) (λ st₁. then_walk (walk table (inside o e) none c st₁) (walk table o (past a (node x c end)) r)))).findings
-          test none below later = later st
-          test (some e) below later =
+          test : (q : Option Entry) → ((p : WalkContext) (s : WalkState) → EachFinding P (walk table p None c s).findings) → ((s : WalkState) → EachFinding P (walk table o (past a (node x c end)) r s).findings) → EachFinding P (by_entry q (walk table o (past a (node x c end)) r st) (λ e. after_node (open_checked table o a st e x c (node x c r)) (λ st₁. then_walk (walk table (inside o e) None c st₁) (walk table o (past a (node x c end)) r)))).findings
+          test None below later = later st
+          test (Some e) below later =
               let t = open_checked table o a st e x c (node x c r) in
-              let w = walk table (inside o e) none c t.state in
+              let w = walk table (inside o e) None c t.state in
               each_append t.findings (w.findings ++ (walk table o (past a (node x c end)) r w.state).findings) (each-open alone pairing table o a st e x c (node x c r))
               (each_append w.findings (walk table o (past a (node x c end)) r w.state).findings (below (inside o e) t.state) (later w.state))
 
       pub each-running : (table : List ℕ) (f : Forest) → EachFinding P (running table f)
-      each-running table f = each_append (text_before f) (walked table f).findings (each-text f) (each-walk table outside none f initial)
+      each-running table f = each_append (text_before f) (walked table f).findings (each-text f) (each-walk table outside None f initial)
 
       -- the whole list
       pub each-finding : P error_severity codes.milestone_mismatch codes.unclosed_start → (table : List ℕ) (f : Forest) → EachFinding P (findings table f)

@@ -6,7 +6,7 @@ use native.Mathlib.Omega.{arith}
 use mathlib.Core.Path.{◌≡◌, refl, ◌∙◌}
 use mathlib.Core.Bool.{Bool, true, false, not, ◌&&◌, ◌||◌}
 use mathlib.Core.List.{List, [], ◌∷◌, ◌++◌}
-use mathlib.Core.Option.{Option, some, none}
+use Rattle.std.specs.Prelude.{Option, Some, None}
 use lib.Dec.{eqb}
 use lib.ListN.{length, length-append}
 use Rattle.text.specs.Pick.{cut, pick}
@@ -76,13 +76,13 @@ walk-few table o a (leaf x r) st =
     let k = walk-few table o (leaf_anchor a x) r t.state in
     omega (arith, length-append t.findings (walk table o (leaf_anchor a x) r t.state).findings)
 walk-few table o a (node x c r) st =
-    go (entry_of table x) (λ p s. walk-few table p none c s) (λ s. walk-few table o (past a (node x c end)) r s)
+    go (entry_of table x) (λ p s. walk-few table p None c s) (λ s. walk-few table o (past a (node x c end)) r s)
   where
-    go : (q : Option Entry) → ((p : WalkContext) (s : WalkState) → length (walk table p none c s).findings + 2 * breadth c ≤ 16 * weight c) → ((s : WalkState) → length (walk table o (past a (node x c end)) r s).findings + 2 * breadth r ≤ 16 * weight r) → length (by_entry q (walk table o (past a (node x c end)) r st) (λ e. after_node (open_checked table o a st e x c (node x c r)) (λ st₁. then_walk (walk table (inside o e) none c st₁) (walk table o (past a (node x c end)) r)))).findings + 2 * (amount x + breadth r) ≤ 16 * (amount x + weight c + weight r)
-    go none below later = let k = later st in omega arith
-    go (some e) below later =
+    go : (q : Option Entry) → ((p : WalkContext) (s : WalkState) → length (walk table p None c s).findings + 2 * breadth c ≤ 16 * weight c) → ((s : WalkState) → length (walk table o (past a (node x c end)) r s).findings + 2 * breadth r ≤ 16 * weight r) → length (by_entry q (walk table o (past a (node x c end)) r st) (λ e. after_node (open_checked table o a st e x c (node x c r)) (λ st₁. then_walk (walk table (inside o e) None c st₁) (walk table o (past a (node x c end)) r)))).findings + 2 * (amount x + breadth r) ≤ 16 * (amount x + weight c + weight r)
+    go None below later = let k = later st in omega arith
+    go (Some e) below later =
         let t = open_checked table o a st e x c (node x c r) in
-        let w = walk table (inside o e) none c t.state in
+        let w = walk table (inside o e) None c t.state in
         let v = walk table o (past a (node x c end)) r w.state in
         let h = open_few table o a st e x c (node x c r) in
         let k = below (inside o e) t.state in
@@ -112,7 +112,7 @@ closing-few st =
 pub findings-few : (table : List ℕ) (f : Forest) → length (findings table f) ≤ 16 * weight f + length (walked table f).state.open_starts + 3
 findings-few table f =
     let w = walked table f in
-    let h = walk-few table outside none f initial in
+    let h = walk-few table outside None f initial in
     let t = text-few f in
     let c = closing-few w.state in
     omega (arith, length-append (running table f) (closing w.state), length-append (text_before f) w.findings)

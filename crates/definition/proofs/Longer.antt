@@ -6,7 +6,7 @@ use native.Mathlib.Omega.{arith}
 use mathlib.Core.Path.{◌≡◌, refl, sym, ap, ◌∙◌}
 use mathlib.Core.Bool.{Bool, true, false, not, false≢true, ◌&&◌, ◌||◌}
 use mathlib.Core.List.{List, [], ◌∷◌, ◌++◌, append_assoc, append-nil}
-use mathlib.Core.Option.{Option, some, none}
+use Rattle.std.specs.Prelude.{Option, Some, None}
 use lib.Dec.{eqb, ltb}
 use borrow.Author.Tests.{lt-ltb, le-ltb, le-leb, eq-eqb, ne_eqb}
 use Rattle.text.specs.Pick.{pick}
@@ -24,7 +24,7 @@ use Rattle.findings.specs.Codes.{milestone_mismatch, unclosed_start}
 
 -- the findings of the walk of a longer run begin with those of the shorter
 walked_then : (table : List ℕ) (f g : Forest) → (walked table (followed f g)).findings ≡ (walked table f).findings ++ (walk table outside (walked table f).anchor g (walked table f).state).findings
-walked_then table f g = ap (λ (w : Walked). w.findings) (walk-then table outside none f g initial)
+walked_then table f g = ap (λ (w : Walked). w.findings) (walk-then table outside None f g initial)
 
 -- demand 3, of forests: a run with more siblings after it keeps its findings
 pub running-longer : (table : List ℕ) (f g : Forest) → Beginning (running table f) (running table (followed f g))
@@ -57,7 +57,7 @@ unfolding taking_by
 falling-taking fits x b [] h = tt
 falling-taking fits x b (m ∷ ms) h = go (untaken m && fits m.milestone x) (falling-taking fits x (node_of m.milestone).number ms h.1)
   where
-    go : (v : Bool) → Falling (node_of m.milestone).number (taking_by fits x ms) → Falling b (pick v (record { milestone = m.milestone; taker = some x } ∷ ms) (m ∷ taking_by fits x ms))
+    go : (v : Bool) → Falling (node_of m.milestone).number (taking_by fits x ms) → Falling b (pick v (record { milestone = m.milestone; taker = Some x } ∷ ms) (m ∷ taking_by fits x ms))
     go true k = h
     go false k = (h.0, k)
 
@@ -85,7 +85,7 @@ High m (k ∷ ks) = (m ≤ (node_of k.milestone).number) × High m ks
 data Later (m : ℕ) : List Mark → List Mark → Type 0 where
   nothing : Later m [] []
   same : (k : Mark) {ms ls : List Mark} → Later m ms ls → Later m (k ∷ ms) (k ∷ ls)
-  took : (k : Mark) (e : Milestone) {ms ls : List Mark} → untaken k ≡ true → m ≤ (node_of e).number → Later m ms ls → Later m (k ∷ ms) (record { milestone = k.milestone; taker = some e } ∷ ls)
+  took : (k : Mark) (e : Milestone) {ms ls : List Mark} → untaken k ≡ true → m ≤ (node_of e).number → Later m ms ls → Later m (k ∷ ms) (record { milestone = k.milestone; taker = Some e } ∷ ls)
 
 record Split (m : ℕ) (ms ks : List Mark) : Type 0 where
   added : List Mark
@@ -103,13 +103,13 @@ unfolding taking_by
 later-taking fits m x h nothing = nothing
 later-taking fits m x h (same k {ms} {ls} r) = go (untaken k) refl (fits k.milestone x) (later-taking fits m x h r)
   where
-    go : (u : Bool) → untaken k ≡ u → (v : Bool) → Later m ms (taking_by fits x ls) → Later m (k ∷ ms) (pick (u && v) (record { milestone = k.milestone; taker = some x } ∷ ls) (k ∷ taking_by fits x ls))
+    go : (u : Bool) → untaken k ≡ u → (v : Bool) → Later m ms (taking_by fits x ls) → Later m (k ∷ ms) (pick (u && v) (record { milestone = k.milestone; taker = Some x } ∷ ls) (k ∷ taking_by fits x ls))
     go true e true q = took k x e h r
     go true e false q = same k q
     go false e v q = same k q
 later-taking fits m x h (took k e {ms} {ls} u l r) = go (is_start (node_of k.milestone)) (later-taking fits m x h r)
   where
-    go : (b : Bool) → Later m ms (taking_by fits x ls) → Later m (k ∷ ms) (pick ((b && false) && fits k.milestone x) (record { milestone = k.milestone; taker = some x } ∷ ls) (record { milestone = k.milestone; taker = some e } ∷ taking_by fits x ls))
+    go : (b : Bool) → Later m ms (taking_by fits x ls) → Later m (k ∷ ms) (pick ((b && false) && fits k.milestone x) (record { milestone = k.milestone; taker = Some x } ∷ ls) (record { milestone = k.milestone; taker = Some e } ∷ taking_by fits x ls))
     go true q = took k e u l q
     go false q = took k e u l q
 
@@ -127,17 +127,17 @@ taking-split fits m x ms [] ls h hi r = record { added = []; later = taking_by f
 taking-split fits m x ms (k ∷ hs) ls h hi r = go (untaken k && fits k.milestone x) refl (taking-split fits m x ms hs ls h hi.1 r)
   where
     go : (v : Bool) → (untaken k && fits k.milestone x) ≡ v → Taken fits m x ms hs ls → Taken fits m x ms (k ∷ hs) ls
-    go true e q = record { added = record { milestone = k.milestone; taker = some x } ∷ hs; later = ls; is = rw e; high = hi; rel = r }
+    go true e q = record { added = record { milestone = k.milestone; taker = Some x } ∷ hs; later = ls; is = rw e; high = hi; rel = r }
     go false e q = record { added = k ∷ q.added; later = q.later; is = rw e (ap (k ∷◌) q.is); high = (hi.0, q.high); rel = q.rel }
 
 split-met : (fits : Fits) (m : ℕ) (x : Milestone) (ms ks : List Mark) → m ≤ (node_of x).number → Split m ms ks → Split m ms (with_visit_by fits x ks)
 split-met fits m x ms ks h s = go (is_start (node_of x))
   where
-    go : (v : Bool) → Split m ms (record { milestone = x; taker = none } ∷ pick v ks (taking_by fits x ks))
-    go true = record { added = record { milestone = x; taker = none } ∷ s.added; later = s.later; is = ap (record { milestone = x; taker = none } ∷◌) s.is; high = (h, s.high); rel = s.rel }
+    go : (v : Bool) → Split m ms (record { milestone = x; taker = None } ∷ pick v ks (taking_by fits x ks))
+    go true = record { added = record { milestone = x; taker = None } ∷ s.added; later = s.later; is = ap (record { milestone = x; taker = None } ∷◌) s.is; high = (h, s.high); rel = s.rel }
     go false =
         let q = taking-split fits m x ms s.added s.later h s.high s.rel in
-        record { added = record { milestone = x; taker = none } ∷ q.added; later = q.later; is = ap (record { milestone = x; taker = none } ∷◌) (ap (taking_by fits x) s.is ∙ q.is); high = (h, q.high); rel = q.rel }
+        record { added = record { milestone = x; taker = None } ∷ q.added; later = q.later; is = ap (record { milestone = x; taker = None } ∷◌) (ap (taking_by fits x) s.is ∙ q.is); high = (h, q.high); rel = q.rel }
 
 split-marks : (fits : Fits) (m a b : ℕ) (ms ks : List Mark) (xs : List Milestone) → m ≤ a → Rising a b xs → Split m ms ks → Split m ms (marks_from_by fits ks xs)
 unfolding marks_from_by
@@ -222,9 +222,9 @@ spared-past m k b ms ls h =
     those-free (spared m ls) (spared m (k ∷ ls)) (node_of k.milestone).number ms h (λ x l. sym (rw (ne_eqb (node_of k.milestone).number (node_of x).number (λ e. omega arith))))
 
 free-taker : (m : ℕ) (b : Bool) (t : Option Milestone) → (b && free t) ≡ true → taker_from m t ≡ false
-free-taker m b none e = refl
-free-taker m true (some x) e = absurd (false≢true e)
-free-taker m false (some x) e = absurd (false≢true e)
+free-taker m b None e = refl
+free-taker m true (Some x) e = absurd (false≢true e)
+free-taker m false (Some x) e = absurd (false≢true e)
 
 spares-free : (m : ℕ) (k : Mark) (ls : List Mark) → untaken k ≡ true → Falling (node_of k.milestone).number ls → spared m (k ∷ ls) k.milestone ≡ true
 unfolding taken_from
@@ -232,7 +232,7 @@ spares-free m k ls u h =
     let n = (node_of k.milestone).number in
     rw (eq-eqb n n refl, free-taker m (is_start (node_of k.milestone)) k.taker u, falling-free m n n ls (le_refl n) h)
 
-spares-no : (m : ℕ) (x e : Milestone) (ls : List Mark) → m ≤ (node_of e).number → spared m (record { milestone = x; taker = some e } ∷ ls) x ≡ false
+spares-no : (m : ℕ) (x e : Milestone) (ls : List Mark) → m ≤ (node_of e).number → spared m (record { milestone = x; taker = Some e } ∷ ls) x ≡ false
 unfolding taken_from
 spares-no m x e ls l = rw (eq-eqb (node_of x).number (node_of x).number refl, le-leb m (node_of e).number l)
 
@@ -262,11 +262,11 @@ later-free m b (same k {ms} {ls} r) h =
         ∙ sym (those-one (spared m (k ∷ ls)) k.milestone true (free_starts ms) (spares-free m k ls e (falling-later m (node_of k.milestone).number r h.1)))
     go false e rest = rest
 later-free m b (took k e {ms} {ls} u l r) h =
-    rw u (go (is_start (node_of k.milestone)) (later-free m (node_of k.milestone).number r h.1 ∙ spared-past m (record { milestone = k.milestone; taker = some e }) b ms ls h.1))
+    rw u (go (is_start (node_of k.milestone)) (later-free m (node_of k.milestone).number r h.1 ∙ spared-past m (record { milestone = k.milestone; taker = Some e }) b ms ls h.1))
   where
-    go : (v : Bool) → free_starts ls ≡ those (spared m (record { milestone = k.milestone; taker = some e } ∷ ls)) (free_starts ms) → pick (v && false) (k.milestone ∷ free_starts ls) (free_starts ls) ≡ those (spared m (record { milestone = k.milestone; taker = some e } ∷ ls)) (k.milestone ∷ free_starts ms)
-    go true rest = rest ∙ sym (those-one (spared m (record { milestone = k.milestone; taker = some e } ∷ ls)) k.milestone false (free_starts ms) (spares-no m k.milestone e ls l))
-    go false rest = rest ∙ sym (those-one (spared m (record { milestone = k.milestone; taker = some e } ∷ ls)) k.milestone false (free_starts ms) (spares-no m k.milestone e ls l))
+    go : (v : Bool) → free_starts ls ≡ those (spared m (record { milestone = k.milestone; taker = Some e } ∷ ls)) (free_starts ms) → pick (v && false) (k.milestone ∷ free_starts ls) (free_starts ls) ≡ those (spared m (record { milestone = k.milestone; taker = Some e } ∷ ls)) (k.milestone ∷ free_starts ms)
+    go true rest = rest ∙ sym (those-one (spared m (record { milestone = k.milestone; taker = Some e } ∷ ls)) k.milestone false (free_starts ms) (spares-no m k.milestone e ls l))
+    go false rest = rest ∙ sym (those-one (spared m (record { milestone = k.milestone; taker = Some e } ∷ ls)) k.milestone false (free_starts ms) (spares-no m k.milestone e ls l))
 
 -- the starts of the first visits that are free after all visits
 free-longer : (fits : Fits) (m b : ℕ) (xs ys : List Milestone) → Rising 0 m xs → Rising m b ys → those (below m) (free_starts (marks_by fits (xs ++ ys))) ≡ those (spared m (marks_by fits (xs ++ ys))) (free_starts (marks_by fits xs))

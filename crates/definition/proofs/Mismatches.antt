@@ -3,7 +3,7 @@
 use mathlib.Core.Path.{◌≡◌, refl, ap, ap₂, ◌∙◌}
 use mathlib.Core.Bool.{Bool, true, false}
 use mathlib.Core.List.{List, [], ◌∷◌, ◌++◌, append-nil}
-use mathlib.Core.Option.{none}
+use Rattle.std.specs.Prelude.{None}
 use Prim.Native.Nat.{ℕ}
 use lib.Dec.{eqb}
 use Rattle.tape.specs.Forest.{Forest}
@@ -37,5 +37,5 @@ mismatches-are fits table f =
     those-append is_mismatch (running_by fits table f) (closing w.state)
     ∙ ap₂ ◌++◌
     (those-append is_mismatch (text_before f) w.findings
-    ∙ ap₂ ◌++◌ (those-none is_mismatch (text_before f) (each-text (λ severity code form. eqb code milestone_mismatch ≡ false) given-other f)) (walk-matches fits table outside none f initial [] refl).mismatches)
+    ∙ ap₂ ◌++◌ (those-none is_mismatch (text_before f) (each-text (λ severity code form. eqb code milestone_mismatch ≡ false) given-other f)) (walk-matches fits table outside None f initial [] refl).mismatches)
     (closing-mismatches w.state ∙ ap unclosed (untaken-by fits table f))

@@ -7,7 +7,7 @@ use native.Mathlib.Omega.{arith}
 use mathlib.Core.Path.{◌≡◌, refl, sym, ap, ap₂, subst, ◌∙◌}
 use mathlib.Core.Bool.{Bool, true, false, not, ◌&&◌}
 use mathlib.Core.List.{List, ◌++◌}
-use mathlib.Core.Option.{Option, none}
+use Rattle.std.specs.Prelude.{Option, None}
 use lib.Dec.{eqb, ltb}
 use lib.ListN.{length, get_or}
 use borrow.Author.Tests.{eqb-true, eq-eqb, ne_eqb, ltb-true, ltb-false, le-ltb, not-false}
@@ -235,7 +235,7 @@ module _ (table s t : List ℕ) where
       rw (place, chapter, verse, seen-fits, open-fits, anchor-good table s t own.known, starts-good opens r.open_len fit.starts own.bases)
 
 -- Of what is lent and not turned back by 1 to 10, with a record that the calls made.
-module _ (l : Lent) (accepted : refusal l ≡ none) (r : CarriedRecord) (calls : FromCalls l.table l.source l.tape r l.seen l.open_starts) where
+module _ (l : Lent) (accepted : refusal l ≡ None) (r : CarriedRecord) (calls : FromCalls l.table l.source l.tape r l.seen l.open_starts) where
   pub document-calls : r.place ≡ link_at l.tape 0 → found_by l.table l.source l.tape calls ++ close_findings (carried_in l r) ≡ list_of l
   document-calls h = calls-joined l.table l.source l.tape (checked-accepted l accepted) calls h
 
@@ -244,8 +244,8 @@ module _ (l : Lent) (accepted : refusal l ≡ none) (r : CarriedRecord) (calls :
     own : is_foreign l.table l.source l.tape l.open_starts r ≡ false
     own = own-not-foreign l.table l.source l.tape r l.seen l.open_starts (links-low l.tape bytes) (own-record l.table l.source l.tape (checked-accepted l accepted) calls)
 
-    pub own-section-passes : (to : ℕ) → r.place ≤ to → is_border l.source l.tape to ≡ true → section_refusal l r r.place to ≡ none
+    pub own-section-passes : (to : ℕ) → r.place ≤ to → is_border l.source l.tape to ≡ true → section_refusal l r r.place to ≡ None
     own-section-passes to h k = rw (accepted, eq-eqb r.place r.place refl, le-ltb to r.place h, k, own)
 
-    pub own-close-passes : r.place ≡ link_at l.tape 0 → close_refusal l r ≡ none
+    pub own-close-passes : r.place ≡ link_at l.tape 0 → close_refusal l r ≡ None
     own-close-passes h = rw (accepted, eq-eqb r.place (link_at l.tape 0) h, own)

@@ -5,7 +5,7 @@ use native.Mathlib.Omega.{arith}
 use mathlib.Core.Path.{◌≡◌, refl, sym, ap, ◌∙◌}
 use mathlib.Core.Bool.{Bool, true, false, not, false≢true, ◌&&◌, ◌||◌}
 use mathlib.Core.List.{List, [], ◌∷◌, ◌++◌}
-use mathlib.Core.Option.{Option, some, none}
+use Rattle.std.specs.Prelude.{Option, Some, None}
 use lib.Dec.{eqb}
 use lib.ListN.{length, length-append}
 use Rattle.text.specs.Pick.{pick, AllOf}
@@ -33,8 +33,8 @@ use Rattle.definition.proofs.Mismatches.{mismatches-are}
 
 -- of the visit of one node, if it is a milestone, and of the visits inside and after it
 visit-all : (P : Milestone → Type 0) (q : Option Entry) (x : Milestone) (below after : List Milestone) → ((e : Entry) → is_milestone e (node_of x) ≡ true → P x) → AllOf P below → AllOf P after → AllOf P (visit_of q x below after)
-visit-all P none x below after own p q = q
-visit-all P (some e) x below after own p q = all_append P (pick (is_milestone e (node_of x)) (x ∷ []) [] ++ below) after (all_append P (pick (is_milestone e (node_of x)) (x ∷ []) []) below (itself (is_milestone e (node_of x)) refl) p) q
+visit-all P None x below after own p q = q
+visit-all P (Some e) x below after own p q = all_append P (pick (is_milestone e (node_of x)) (x ∷ []) [] ++ below) after (all_append P (pick (is_milestone e (node_of x)) (x ∷ []) []) below (itself (is_milestone e (node_of x)) refl) p) q
   where
     itself : (b : Bool) → is_milestone e (node_of x) ≡ b → AllOf P (pick b (x ∷ []) [])
     itself true h = (own e h, tt)
@@ -171,11 +171,11 @@ module _ (base : List ℕ) where
 
         go : (t : Option Milestone) (b : Bool) → is_start (node_of y) ≡ b → (v : Bool) → fits y x ≡ v → balance (taking_by fits x ms) ≡ balance ms + one (waits_by fits x (free_starts ms) && mine x)
             → balance (taking_by fits x (mark t ∷ ms)) ≡ balance (mark t ∷ ms) + one (waits_by fits x (free_starts (mark t ∷ ms)) && mine x)
-        go (some z) true p v w h = rw (p, p) (omega (arith, h, counted (mine y) (mark (some z)) (taken (taking_by fits x ms)), counted (mine y) (mark (some z)) (taken ms)))
-        go (some z) false p v w h = rw (p, p) (omega (arith, h, counted (mine y) (mark (some z)) (taken (taking_by fits x ms)), counted (mine y) (mark (some z)) (taken ms)))
-        go none false p v w h = rw (p, p) h
-        go none true p true w h = rw (p, w, p, ← by-base y x w) (omega (arith, counted (mine y) (mark (some x)) (taken ms), counted (mine y) y (those mine (free_starts ms))))
-        go none true p false w h = rw (p, w, p) (omega (arith, h, counted (mine y) y (those mine (free_starts ms)), counted (mine y) y (those mine (free_starts (taking_by fits x ms)))))
+        go (Some z) true p v w h = rw (p, p) (omega (arith, h, counted (mine y) (mark (Some z)) (taken (taking_by fits x ms)), counted (mine y) (mark (Some z)) (taken ms)))
+        go (Some z) false p v w h = rw (p, p) (omega (arith, h, counted (mine y) (mark (Some z)) (taken (taking_by fits x ms)), counted (mine y) (mark (Some z)) (taken ms)))
+        go None false p v w h = rw (p, p) h
+        go None true p true w h = rw (p, w, p, ← by-base y x w) (omega (arith, counted (mine y) (mark (Some x)) (taken ms), counted (mine y) y (those mine (free_starts ms))))
+        go None true p false w h = rw (p, w, p) (omega (arith, h, counted (mine y) y (those mine (free_starts ms)), counted (mine y) y (those mine (free_starts (taking_by fits x ms)))))
 
     -- a visit of the base adds one, but for an end that finds no start
     visit-balance : (x : Milestone) (ms : List Mark) → one (mine x) + balance ms ≡ balance (with_visit_by fits x ms) + one ((not (is_start (node_of x)) && not (waits_by fits x (free_starts ms))) && mine x)
@@ -219,5 +219,5 @@ pub account : (table s t base : List ℕ) → visited_starts base (visits table 
 account table s t base = account-by pairing pairing-base table (top s t) (node_at s t) (forest-found table s t 1 (link_at t 0)) base
 
 -- as document 02 asks for it
-pub quotation-account : (l : Lent) → refusal l ≡ none → (base : List ℕ) → visited_starts base (visits l.table (top l.source l.tape)) + visited_ends base (visits l.table (top l.source l.tape)) ≡ 2 * pairs_of base (marks (visits l.table (top l.source l.tape))) + mismatches_of base (node_at l.source l.tape) (list_of l)
+pub quotation-account : (l : Lent) → refusal l ≡ None → (base : List ℕ) → visited_starts base (visits l.table (top l.source l.tape)) + visited_ends base (visits l.table (top l.source l.tape)) ≡ 2 * pairs_of base (marks (visits l.table (top l.source l.tape))) + mismatches_of base (node_at l.source l.tape) (list_of l)
 quotation-account l none-given base = account l.table l.source l.tape base

@@ -6,7 +6,8 @@ use native.Mathlib.Omega.{arith}
 use mathlib.Core.Path.{◌≡◌, refl, sym, ap, subst, ◌∙◌}
 use mathlib.Core.Bool.{Bool, true, false, not, false≢true, ◌&&◌, ◌||◌}
 use mathlib.Core.List.{List}
-use mathlib.Core.Option.{Option, some, none, none-ne-some, some-injective}
+use Rattle.std.specs.Prelude.{Option, Some, None}
+use Rattle.std.proofs.lemmas.Option.{none-some, same_Some}
 use lib.Dec.{eqb, ltb}
 use borrow.Author.Tests.{eqb-true, ne_eqb, lt-ltb}
 use Rattle.text.specs.Pick.{pick}
@@ -41,10 +42,10 @@ module _ (table s t : List ℕ) where
   -- one sibling more is passed
   known_past : {d n a b : ℕ} → Known d n a → a ≤ b → Nested t d a b → (Known d n b) × (past (anchor_at s t n a) (forest s t a b) ≡ anchor_at s t n b)
   known_past nowhere l q = (nowhere, refl)
-  known_past {a} {b} (behind {n} k i h r) l q = let f : suc n < b = omega arith in (behind k i f (nested-join r q), ap (λ (f : Forest). some (record { kind = kind_at t (suc n); passed = f })) (sym (forest-join s t r q)))
+  known_past {a} {b} (behind {n} k i h r) l q = let f : suc n < b = omega arith in (behind k i f (nested-join r q), ap (λ (f : Forest). Some (record { kind = kind_at t (suc n); passed = f })) (sym (forest-join s t r q)))
 
   -- a Chapter or Verse is the new anchor
-  known-here : (d n a : ℕ) → a ≡ n → 1 ≤ n → numbered (kind_at t a) ≡ true → is_border s t a ≡ true → (Known d n (a + 1)) × (◌≡◌ {A = Option Anchor} (some (record { kind = kind_at t a; passed = end })) (anchor_at s t n (a + 1)))
+  known-here : (d n a : ℕ) → a ≡ n → 1 ≤ n → numbered (kind_at t a) ≡ true → is_border s t a ≡ true → (Known d n (a + 1)) × (◌≡◌ {A = Option Anchor} (Some (record { kind = kind_at t a; passed = end })) (anchor_at s t n (a + 1)))
   known-here d zero a e l k i = absurd (omega arith)
   known-here d (suc n) a e l k i =
       let p : past_node t (suc n) ≡ a + 1 = rw (← e, numbered-leaf (kind_at t a) k) in
@@ -88,7 +89,7 @@ module _ (table s t : List ℕ) where
       st₁ : WalkState
       st₁ = (leaf_checked table o st x).state
 
-      test : (v : Bool) → numbered (kind_at t a) ≡ v → ((m : ℕ) → Known d m (a + 1) → (st' : WalkState) → Anchored d m (a + 1) b o st') → (Known d (last_anchor (pick v a n) rest) b) × ((walk table o (pick v (some (record { kind = kind_at t a; passed = end })) (past (anchor_at s t n a) (leaf x end))) rest st₁).anchor ≡ anchor_at s t (last_anchor (pick v a n) rest) b)
+      test : (v : Bool) → numbered (kind_at t a) ≡ v → ((m : ℕ) → Known d m (a + 1) → (st' : WalkState) → Anchored d m (a + 1) b o st') → (Known d (last_anchor (pick v a n) rest) b) × ((walk table o (pick v (Some (record { kind = kind_at t a; passed = end })) (past (anchor_at s t n a) (leaf x end))) rest st₁).anchor ≡ anchor_at s t (last_anchor (pick v a n) rest) b)
       test true e later =
           let h = known-here d a a refl (nested-le p) e (meets-border s t p (nested-join (one i j r) q)) in
           let l = later a h.0 st₁ in
@@ -114,9 +115,9 @@ module _ (table s t : List ℕ) where
       rest : Forest
       rest = forest s t (link_at t a + 1) b
 
-      test : (z : Option Entry) → ((st' : WalkState) → (walk table o (past (anchor_at s t n a) (node x children end)) rest st').anchor ≡ anchor_at s t (last_anchor n rest) b) → (by_entry z (walk table o (past (anchor_at s t n a) (node x children end)) rest st) (λ y. after_node (open_checked table o (anchor_at s t n a) st y x children (node x children rest)) (λ st₁. then_walk (walk table (inside o y) none children st₁) (walk table o (past (anchor_at s t n a) (node x children end)) rest)))).anchor ≡ anchor_at s t (last_anchor n rest) b
-      test none later = later st
-      test (some y) later = later (walk table (inside o y) none children (open_checked table o (anchor_at s t n a) st y x children (node x children rest)).state).state
+      test : (z : Option Entry) → ((st' : WalkState) → (walk table o (past (anchor_at s t n a) (node x children end)) rest st').anchor ≡ anchor_at s t (last_anchor n rest) b) → (by_entry z (walk table o (past (anchor_at s t n a) (node x children end)) rest st) (λ y. after_node (open_checked table o (anchor_at s t n a) st y x children (node x children rest)) (λ st₁. then_walk (walk table (inside o y) None children st₁) (walk table o (past (anchor_at s t n a) (node x children end)) rest)))).anchor ≡ anchor_at s t (last_anchor n rest) b
+      test None later = later st
+      test (Some y) later = later (walk table (inside o y) None children (open_checked table o (anchor_at s t n a) st y x children (node x children rest)).state).state
 
   pub node_kept : {d n a : ℕ} → Known d n a → pick (is_border s t n && ltb n a) n 0 ≡ n
   node_kept {d} {n} {a} nowhere = test (is_border s t 0 && ltb 0 a)
@@ -144,10 +145,10 @@ module _ (table s t : List ℕ) where
 
   pub same-anchor : (d e n m a : ℕ) → (1 ≤ n → Nested t e (past_node t n) a) → Known d m a → anchor_at s t n a ≡ anchor_at s t m a → n ≡ m
   same-anchor d e zero m a rest nowhere h = refl
-  same-anchor d e (suc n) m a rest nowhere h = absurd (none-ne-some _ (sym h))
-  same-anchor d e zero m a rest (behind k i l r) h = absurd (none-ne-some _ h)
+  same-anchor d e (suc n) m a rest nowhere h = absurd (none-some _ (sym h))
+  same-anchor d e zero m a rest (behind k i l r) h = absurd (none-some _ h)
   same-anchor d e (suc x) m a rest (behind {n} k i l r) h =
-      let q = some-injective _ _ h in
+      let q = same_Some _ _ h in
       let kind : kind_at t (suc x) ≡ kind_at t (suc n) = ap (λ (z : Anchor). z.kind) q in
       let past-n : past_node t (suc n) ≡ suc n + 1 = rw (numbered-leaf (kind_at t (suc n)) k) in
       let past-x : past_node t (suc x) ≡ suc x + 1 = rw (kind, numbered-leaf (kind_at t (suc n)) k) in

@@ -6,7 +6,7 @@ use native.Mathlib.Omega.{arith}
 use mathlib.Core.Path.{◌≡◌, refl}
 use mathlib.Core.Bool.{Bool, true, false}
 use mathlib.Core.List.{List, [], ◌∷◌}
-use mathlib.Core.Option.{Option, some, none}
+use Rattle.std.specs.Prelude.{Option, Some, None}
 use lib.Dec.{eqb}
 use lib.ListN.{length}
 use Rattle.text.specs.Pick.{pick, AllOf}
@@ -40,8 +40,8 @@ links-low t h i =
 -- The expected verse after a label.
 
 next_low : (n : ℕ) (l : Option ℕ) → n ≤ 4294967295 → (next_position n l).number ≤ 4294967296
-next_low n none h = omega arith
-next_low n (some b) h = omega arith
+next_low n None h = omega arith
+next_low n (Some b) h = omega arith
 
 expected-low : (label : List ℕ) (p : Position) → p.number ≤ 4294967296 → (expected_after (verse_part label) label p).number ≤ 4294967296
 unfolding next
@@ -101,7 +101,7 @@ module _ (table s t : List ℕ) where
             record { chapter = h.chapter; verse = expected-low (label_of (entry_of table (node_at s t a)) (node_at s t a).text) st.expected_verse h.verse; few-seen = omega arith; few-open = omega arith; starts = h.starts }
         test false false = fit-later (a + 1) (omega arith) h
 
-    open-fit : (o : WalkContext) (n : Option Anchor) (a : ℕ) (st : WalkState) (e : Entry) (c f : Forest) → is_open (kind_at t a) ≡ true → entry_of table (node_at s t a) ≡ some e → Fit a st → Fit (a + 1) (open_checked table o n st e (node_at s t a) c f).state
+    open-fit : (o : WalkContext) (n : Option Anchor) (a : ℕ) (st : WalkState) (e : Entry) (c f : Forest) → is_open (kind_at t a) ≡ true → entry_of table (node_at s t a) ≡ Some e → Fit a st → Fit (a + 1) (open_checked table o n st e (node_at s t a) c f).state
     unfolding open_checked_by after_milestone_by after_id
     open-fit o n a st e c f opened entry h =
         let k = test (is_milestone e x) refl (is_start x) refl in
@@ -129,7 +129,7 @@ module _ (table s t : List ℕ) where
     walk-fit {d} {a} {b} (done e) o n st h = rw (forest-done s t a b (omega arith)) (fit-later b (omega arith) h)
     walk-fit {d} {a} {b} (one i j r) o n st h = rw (forest-leaf s t i j r) (walk-fit r o (leaf_anchor n (node_at s t a)) (leaf_checked table o st (node_at s t a)).state (leaf-fit o a st h))
     walk-fit {a} {b} (inner {d} i j c r) o n st h =
-        rw (forest-node s t i j c r) (go (entry_of table (node_at s t a)) refl (λ o' st' k. walk-fit c o' none st' k) (λ st' k. walk-fit r o (past n (node (node_at s t a) children end)) st' k))
+        rw (forest-node s t i j c r) (go (entry_of table (node_at s t a)) refl (λ o' st' k. walk-fit c o' None st' k) (λ st' k. walk-fit r o (past n (node (node_at s t a) children end)) st' k))
       where
         children : Forest
         children = forest s t (a + 1) (link_at t a)
@@ -141,16 +141,16 @@ module _ (table s t : List ℕ) where
         x = node_at s t a
 
         go : (q : Option Entry) → entry_of table x ≡ q
-            → ((o' : WalkContext) (st' : WalkState) → Fit (a + 1) st' → Fit (link_at t a) (walk table o' none children st').state)
+            → ((o' : WalkContext) (st' : WalkState) → Fit (a + 1) st' → Fit (link_at t a) (walk table o' None children st').state)
             → ((st' : WalkState) → Fit (link_at t a + 1) st' → Fit b (walk table o (past n (node x children end)) rest st').state)
-            → Fit b (by_entry q (walk table o (past n (node x children end)) rest st) (λ e. after_node (open_checked table o n st e x children (node x children rest)) (λ st₁. then_walk (walk table (inside o e) none children st₁) (walk table o (past n (node x children end)) rest)))).state
-        go none e below later = let l = nested-le c in later st (fit-later (link_at t a + 1) (omega arith) h)
-        go (some e) k below later =
+            → Fit b (by_entry q (walk table o (past n (node x children end)) rest st) (λ e. after_node (open_checked table o n st e x children (node x children rest)) (λ st₁. then_walk (walk table (inside o e) None children st₁) (walk table o (past n (node x children end)) rest)))).state
+        go None e below later = let l = nested-le c in later st (fit-later (link_at t a + 1) (omega arith) h)
+        go (Some e) k below later =
             let v = open_checked table o n st e x children (node x children rest) in
-            let w = walk table (inside o e) none children v.state in
+            let w = walk table (inside o e) None children v.state in
             later w.state (fit-later (link_at t a + 1) (omega arith) (below (inside o e) v.state (open-fit o n a st e children (node x children rest) i k h)))
 
     pub reached-fit : (p : ℕ) → Nested t 64 1 p → Fit p (reached table s t p).state
     reached-fit p n =
-        let h = walk-fit n outside none initial (record { chapter = omega arith; verse = omega arith; few-seen = omega arith; few-open = omega arith; starts = tt }) in
+        let h = walk-fit n outside None initial (record { chapter = omega arith; verse = omega arith; few-seen = omega arith; few-open = omega arith; starts = tt }) in
         record { chapter = h.chapter; verse = h.verse; few-seen = h.few-seen; few-open = h.few-open; starts = h.starts }

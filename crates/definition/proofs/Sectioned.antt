@@ -6,7 +6,7 @@ use native.Mathlib.Omega.{arith}
 use mathlib.Core.Path.{◌≡◌, refl, sym, ap, ap₂, ◌∙◌}
 use mathlib.Core.Bool.{Bool, true, false}
 use mathlib.Core.List.{List, [], ◌∷◌, ◌++◌, append_assoc}
-use mathlib.Core.Option.{Option, some, none}
+use Rattle.std.specs.Prelude.{Option, Some, None}
 use lib.Dec.{eqb}
 use lib.ListN.{length, length-append}
 use borrow.Author.Tests.{ne_eqb}
@@ -57,17 +57,17 @@ walk-plus table o a end k st = refl
 walk-plus table o a (leaf x r) k st =
     let t = leaf_checked table o st x in
     rw (leaf-plus table o k st x) (ap (with_findings t.findings) (walk-plus table o (leaf_anchor a x) r k t.state))
-walk-plus table o a (node x c r) k st = go (entry_of table x) (λ b q. walk-plus table b none c k q) (λ q. walk-plus table o (past a (node x c end)) r k q)
+walk-plus table o a (node x c r) k st = go (entry_of table x) (λ b q. walk-plus table b None c k q) (λ q. walk-plus table o (past a (node x c end)) r k q)
   where
     go : (q : Option Entry)
-        → ((b : WalkContext) (q : WalkState) → walk table b none c (plus k q) ≡ plus_walked k (walk table b none c q))
+        → ((b : WalkContext) (q : WalkState) → walk table b None c (plus k q) ≡ plus_walked k (walk table b None c q))
         → ((q : WalkState) → walk table o (past a (node x c end)) r (plus k q) ≡ plus_walked k (walk table o (past a (node x c end)) r q))
-        → by_entry q (walk table o (past a (node x c end)) r (plus k st)) (λ e. after_node (open_checked table o a (plus k st) e x c (node x c r)) (λ st₁. then_walk (walk table (inside o e) none c st₁) (walk table o (past a (node x c end)) r)))
-        ≡ plus_walked k (by_entry q (walk table o (past a (node x c end)) r st) (λ e. after_node (open_checked table o a st e x c (node x c r)) (λ st₁. then_walk (walk table (inside o e) none c st₁) (walk table o (past a (node x c end)) r))))
-    go none below later = later st
-    go (some e) below later =
+        → by_entry q (walk table o (past a (node x c end)) r (plus k st)) (λ e. after_node (open_checked table o a (plus k st) e x c (node x c r)) (λ st₁. then_walk (walk table (inside o e) None c st₁) (walk table o (past a (node x c end)) r)))
+        ≡ plus_walked k (by_entry q (walk table o (past a (node x c end)) r st) (λ e. after_node (open_checked table o a st e x c (node x c r)) (λ st₁. then_walk (walk table (inside o e) None c st₁) (walk table o (past a (node x c end)) r))))
+    go None below later = later st
+    go (Some e) below later =
         let t = open_checked table o a st e x c (node x c r) in
-        let w = walk table (inside o e) none c t.state in
+        let w = walk table (inside o e) None c t.state in
         rw (open-plus table o a k st e x c (node x c r), below (inside o e) t.state)
         (ap (λ (z : Walked). with_findings t.findings (with_findings w.findings z)) (later w.state))
 
@@ -237,7 +237,7 @@ module _ (table s t : List ℕ) where
       severities-add-up n = counts-sum (of_severity n) refl (severity-append n)
 
 -- of what is lent and not turned back by 1 to 10
-module _ (l : Lent) (accepted : refusal l ≡ none) (tos : List ℕ) (covering : Covering l.source l.tape tos) where
+module _ (l : Lent) (accepted : refusal l ≡ None) (tos : List ℕ) (covering : Covering l.source l.tape tos) where
   pub document-joined : joined_findings (sections l.table l.source l.tape begun tos) ++ close_findings (after_sections l.table l.source l.tape begun tos) ≡ list_of l
   document-joined = sections-joined l.table l.source l.tape (checked-accepted l accepted) tos covering
 

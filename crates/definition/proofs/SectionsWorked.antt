@@ -3,7 +3,7 @@
 use native.Mathlib.Omega.{arith}
 use mathlib.Core.Path.{◌≡◌, refl}
 use mathlib.Core.List.{[], ◌∷◌}
-use mathlib.Core.Option.{none}
+use Rattle.std.specs.Prelude.{None}
 use Rattle.text.specs.Literal.{ascii}
 use Rattle.text.specs.Pick.{in_any}
 use Rattle.text.specs.Blank.{blank_ranges, blank}
@@ -41,6 +41,6 @@ unfolding ascii example_table tape_of two_numbers utf8.table3_7 utf8.begins utf8
 sections-example = (refl, refl)
 
 -- the sections cover it, a section that ends at node 6, inside the first `\ca`, is turned back at the record's place, and one that ends at node 5 is not
-pub sections-example-borders : Covering two_numbers.source (tape_of two_numbers.nodes) section_ends × (section_refusal (lent_of two_numbers) begun_record 1 6 ≡ refuse 19 1) × (section_refusal (lent_of two_numbers) begun_record 1 5 ≡ none)
+pub sections-example-borders : Covering two_numbers.source (tape_of two_numbers.nodes) section_ends × (section_refusal (lent_of two_numbers) begun_record 1 6 ≡ refuse 19 1) × (section_refusal (lent_of two_numbers) begun_record 1 5 ≡ None)
 unfolding ascii example_table tape_of two_numbers utf8.table3_7 utf8.begins utf8.width_by utf8.width_of utf8.decoded utf8.decode in_any blank_ranges blank chars_past bytes_before word_from half word nodes runs equal all one_of lines.lines lines.categories lines.roles entries.position entries.entries_of entries.entries entries.nth name_part refusal repeated utf8.scan utf8.after_width utf8.first_ill_formed lines.bad_from lines.bad_table reading.step reading.read reading.tape_refusal first_bad label.splits label.label_refusal info_at numbers_of among bad_starts
 sections-example-borders = ((omega arith, refl, (omega arith, refl, (omega arith, refl, refl))), refl, refl)

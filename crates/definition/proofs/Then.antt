@@ -4,7 +4,7 @@ use Prim.Native.Nat.{ℕ}
 use mathlib.Core.Path.{◌≡◌, refl, sym, ap, ◌∙◌}
 use mathlib.Core.Bool.{Bool, true, false, ◌||◌}
 use mathlib.Core.List.{List, ◌∷◌, ◌++◌, append_assoc}
-use mathlib.Core.Option.{Option, some, none}
+use Rattle.std.specs.Prelude.{Option, Some, None}
 use lib.Dec.{eqb}
 use borrow.Author.Tests.{eq-eqb}
 use Rattle.tape.specs.Nodes.{Node}
@@ -39,8 +39,8 @@ settled-run kind at alt pubn (node y d p) x c r e =
     go false v xs ys h = refl
 
 settled : (a : Option Anchor) (x : Node) (c r : Forest) → attached_to a (node x c r) x.start ≡ attached_to a (node x c end) x.start
-settled none x c r = refl
-settled (some a) x c r = settled-run a.kind x.start false false a.passed x c r refl
+settled None x c r = refl
+settled (Some a) x c r = settled-run a.kind x.start false false a.passed x c r refl
 
 -- what is said of a marker does not depend on what stands after it
 pub open-settled : (table : List ℕ) (o : WalkContext) (a : Option Anchor) (st : WalkState) (e : Entry) (x : Node) (c r g : Forest) → open_checked table o a st e x c (node x c (followed r g)) ≡ open_checked table o a st e x c (node x c r)
@@ -66,12 +66,12 @@ walk-then table o a (node x c r) g st =
   where
     go : (q : Option Entry)
         → ((s : WalkState) → walk table o (past a (node x c end)) (followed r g) s ≡ then_run (walk table o (past a (node x c end)) r s) (λ b s'. walk table o b g s'))
-        → by_entry q (walk table o (past a (node x c end)) (followed r g) st) (λ e. after_node (open_checked table o a st e x c (node x c (followed r g))) (λ st₁. then_walk (walk table (inside o e) none c st₁) (walk table o (past a (node x c end)) (followed r g))))
-        ≡ then_run (by_entry q (walk table o (past a (node x c end)) r st) (λ e. after_node (open_checked table o a st e x c (node x c r)) (λ st₁. then_walk (walk table (inside o e) none c st₁) (walk table o (past a (node x c end)) r)))) (λ b s. walk table o b g s)
-    go none later = later st
-    go (some e) later =
+        → by_entry q (walk table o (past a (node x c end)) (followed r g) st) (λ e. after_node (open_checked table o a st e x c (node x c (followed r g))) (λ st₁. then_walk (walk table (inside o e) None c st₁) (walk table o (past a (node x c end)) (followed r g))))
+        ≡ then_run (by_entry q (walk table o (past a (node x c end)) r st) (λ e. after_node (open_checked table o a st e x c (node x c r)) (λ st₁. then_walk (walk table (inside o e) None c st₁) (walk table o (past a (node x c end)) r)))) (λ b s. walk table o b g s)
+    go None later = later st
+    go (Some e) later =
         let t = open_checked table o a st e x c (node x c r) in
-        let w = walk table (inside o e) none c t.state in
+        let w = walk table (inside o e) None c t.state in
         let v = walk table o (past a (node x c end)) r w.state in
         let last = walk table o v.anchor g v.state in
         rw (open-settled table o a st e x c r g)

@@ -4,7 +4,7 @@ use Prim.Native.Nat.{ℕ}
 use mathlib.Core.Path.{◌≡◌, refl, sym, ap, ap₂, ◌∙◌}
 use mathlib.Core.Bool.{Bool, true, false, not, ◌&&◌}
 use mathlib.Core.List.{List, [], ◌∷◌, ◌++◌}
-use mathlib.Core.Option.{none}
+use Rattle.std.specs.Prelude.{None}
 use lib.Dec.{eqb, ltb}
 use Rattle.tape.specs.Nodes.{link_at}
 use Rattle.tape.specs.Forest.{Forest, top}
@@ -45,7 +45,7 @@ unclosed-listed table f =
     ∙ ap₂ ◌++◌ (alone-other [] (visits table f)) (all-unclosed is_of_start (λ x. refl) _)
     ∙ ap unclosed (sym (open-starts-are-untaken table f))
 
-module _ (l l' : Lent) (same-table : l.table ≡ l'.table) (short : refusal l ≡ none) (long : refusal l' ≡ none) (alike : BeginAlike l.source l.tape l'.source l'.tape) where
+module _ (l l' : Lent) (same-table : l.table ≡ l'.table) (short : refusal l ≡ None) (long : refusal l' ≡ None) (alike : BeginAlike l.source l.tape l'.source l'.tape) where
   pub longer-unclosed : those (λ e. is_unclosed e && ltb e.node (link_at l.tape 0)) (list_of l') ≡ those (λ e. is_unclosed e && not (taken_from (link_at l.tape 0) e.node (marks (visits l'.table (top l'.source l'.tape))))) (list_of l)
   longer-unclosed =
       those-both is_unclosed (λ e. ltb e.node (link_at l.tape 0)) (list_of l')

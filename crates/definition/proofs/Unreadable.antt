@@ -4,7 +4,7 @@ use Prim.Native.Nat.{ℕ}
 use mathlib.Core.Path.{◌≡◌, refl, sym, ap, ap₂, ◌∙◌}
 use mathlib.Core.Bool.{Bool, true, false, not, ◌&&◌}
 use mathlib.Core.List.{List, [], ◌∷◌, ◌++◌}
-use mathlib.Core.Option.{Option, some, none}
+use Rattle.std.specs.Prelude.{Option, Some, None}
 use lib.Dec.{eqb}
 use Rattle.text.specs.Pick.{pick, AllOf}
 use Rattle.text.specs.Bytes.{all}
@@ -94,20 +94,20 @@ module _ (fits : Fits) where
         findings = those-append is_readable t.findings _ ∙ ap₂ ◌++◌ (leaf-without table o st x) later.findings;
         state = later.state;
       }
-  walk-without table o a (node x c r) st = go (entry_of table x) (λ p s. walk-without table p none c s) (λ s. walk-without table o (past a (node x c end)) r s)
+  walk-without table o a (node x c r) st = go (entry_of table x) (λ p s. walk-without table p None c s) (λ s. walk-without table o (past a (node x c end)) r s)
     where
       go : (q : Option Entry)
-          → ((p : WalkContext) (s : WalkState) → Without (walk_by fits table p none c s) (base_walk_by fits table p none c s))
+          → ((p : WalkContext) (s : WalkState) → Without (walk_by fits table p None c s) (base_walk_by fits table p None c s))
           → ((s : WalkState) → Without (walk_by fits table o (past a (node x c end)) r s) (base_walk_by fits table o (past a (node x c end)) r s))
-          → Without (by_entry q (walk_by fits table o (past a (node x c end)) r st) (λ e. after_node (open_checked_by fits table o a st e x c (node x c r)) (λ st₁. then_walk (walk_by fits table (inside o e) none c st₁) (walk_by fits table o (past a (node x c end)) r))))
-          (by_entry q (base_walk_by fits table o (past a (node x c end)) r st) (λ e. after_node (open_checked_by fits table o a st e x c (node x c r)) (λ st₁. then_walk (base_walk_by fits table (inside o e) none c st₁) (base_walk_by fits table o (past a (node x c end)) r))))
-      go none below later = later st
-      go (some e) below later =
+          → Without (by_entry q (walk_by fits table o (past a (node x c end)) r st) (λ e. after_node (open_checked_by fits table o a st e x c (node x c r)) (λ st₁. then_walk (walk_by fits table (inside o e) None c st₁) (walk_by fits table o (past a (node x c end)) r))))
+          (by_entry q (base_walk_by fits table o (past a (node x c end)) r st) (λ e. after_node (open_checked_by fits table o a st e x c (node x c r)) (λ st₁. then_walk (base_walk_by fits table (inside o e) None c st₁) (base_walk_by fits table o (past a (node x c end)) r))))
+      go None below later = later st
+      go (Some e) below later =
           let t = open_checked_by fits table o a st e x c (node x c r) in
-          let w = walk_by fits table (inside o e) none c t.state in
+          let w = walk_by fits table (inside o e) None c t.state in
           let own = those-all is_readable t.findings (each-open Other others refl fits table o a st e x c (node x c r)) in
           let b = below (inside o e) t.state in
-          let l : Without (walk_by fits table o (past a (node x c end)) r w.state) (base_walk_by fits table o (past a (node x c end)) r (base_walk_by fits table (inside o e) none c t.state).state) = rw (← b.state) (later w.state) in
+          let l : Without (walk_by fits table o (past a (node x c end)) r w.state) (base_walk_by fits table o (past a (node x c end)) r (base_walk_by fits table (inside o e) None c t.state).state) = rw (← b.state) (later w.state) in
           record {
             findings = those-append is_readable t.findings _ ∙ ap₂ ◌++◌ own (those-append is_readable w.findings _ ∙ ap₂ ◌++◌ b.findings l.findings);
             state = l.state;
@@ -115,7 +115,7 @@ module _ (fits : Fits) where
 
   pub without-unreadable-by : (table : List ℕ) (f : Forest) → those is_readable (findings_by fits table f) ≡ base_findings_by fits table f
   without-unreadable-by table f =
-      let w = walk-without table outside none f initial in
+      let w = walk-without table outside None f initial in
       those-append is_readable (running_by fits table f) (closing (walked_by fits table f).state)
       ∙ ap₂ ◌++◌
       (those-append is_readable (text_before f) (walked_by fits table f).findings ∙ ap₂ ◌++◌ (those-all is_readable (text_before f) (each-text Other others f)) w.findings)

@@ -4,7 +4,7 @@ use Prim.Native.Nat.{ℕ}
 use mathlib.Core.Path.{◌≡◌, refl, sym, ap, ap₂, ◌∙◌}
 use mathlib.Core.Bool.{Bool, true, false, not, ◌&&◌}
 use mathlib.Core.List.{List, [], ◌∷◌, ◌++◌, append_assoc}
-use mathlib.Core.Option.{Option, some, none}
+use Rattle.std.specs.Prelude.{Option, Some, None}
 use lib.Dec.{eqb}
 use Rattle.text.specs.Pick.{cut, pick, AllOf}
 use Rattle.text.specs.Bytes.{equal}
@@ -29,8 +29,8 @@ visits-then table (leaf x r) g = visits-then table r g
 visits-then table (node x c r) g = go (entry_of table x) (visits-then table r g)
   where
     go : (q : Option Entry) → visits table (followed r g) ≡ visits table r ++ visits table g → visit_of q (milestone_of x c) (visits table c) (visits table (followed r g)) ≡ visit_of q (milestone_of x c) (visits table c) (visits table r) ++ visits table g
-    go none h = h
-    go (some e) h = rw h (sym (append_assoc (pick (is_milestone e x) (milestone_of x c ∷ []) [] ++ visits table c) (visits table r) (visits table g)))
+    go None h = h
+    go (Some e) h = rw h (sym (append_assoc (pick (is_milestone e x) (milestone_of x c ∷ []) [] ++ visits table c) (visits table r) (visits table g)))
 
 leaf-open : (table : List ℕ) (o : WalkContext) (st : WalkState) (x : Node) → (leaf_checked table o st x).state.open_starts ≡ st.open_starts
 unfolding leaf_checked after_chapter after_verse
@@ -55,9 +55,9 @@ module _ (fits : Fits) where
     where
       go : (b : Bool) (t : Option Milestone) → is_start (node_of m.milestone) ≡ b → m.taker ≡ t → (v : Bool) → fits m.milestone x ≡ v → free_starts (taking_by fits x ms) ≡ without_by fits x (free_starts ms) → free_starts (taking_by fits x (m ∷ ms)) ≡ without_by fits x (free_starts (m ∷ ms))
       go false t p q v w h = rw (p, p) h
-      go true none p q true w h = rw (p, q, w, p)
-      go true none p q false w h = rw (p, q, w, p) (ap (m.milestone ∷◌) h)
-      go true (some e) p q v w h = rw (p, q, p) h
+      go true None p q true w h = rw (p, q, w, p)
+      go true None p q false w h = rw (p, q, w, p) (ap (m.milestone ∷◌) h)
+      go true (Some e) p q v w h = rw (p, q, p) h
 
   met-open : (x : Milestone) (ms : List Mark) → free_starts (with_visit_by fits x ms) ≡ starts_after_by fits (is_start (node_of x)) x (free_starts ms)
   unfolding free_starts
@@ -160,18 +160,18 @@ module _ (fits : Fits) where
       let first = leaf-matches table o st x ms h in
       matches-then first (walk-matches table o (leaf_anchor a x) r (leaf_checked table o st x).state ms first.open-starts)
   walk-matches table o a (node x c r) st ms h =
-      go (entry_of table x) (λ p s ks k. walk-matches table p none c s ks k) (λ s ks k. walk-matches table o (past a (node x c end)) r s ks k)
+      go (entry_of table x) (λ p s ks k. walk-matches table p None c s ks k) (λ s ks k. walk-matches table o (past a (node x c end)) r s ks k)
     where
       go : (q : Option Entry)
-          → ((p : WalkContext) (s : WalkState) (ks : List Mark) → s.open_starts ≡ free_starts ks → Matches ks (visits table c) (walk_by fits table p none c s).findings (walk_by fits table p none c s).state.open_starts)
+          → ((p : WalkContext) (s : WalkState) (ks : List Mark) → s.open_starts ≡ free_starts ks → Matches ks (visits table c) (walk_by fits table p None c s).findings (walk_by fits table p None c s).state.open_starts)
           → ((s : WalkState) (ks : List Mark) → s.open_starts ≡ free_starts ks → Matches ks (visits table r) (walk_by fits table o (past a (node x c end)) r s).findings (walk_by fits table o (past a (node x c end)) r s).state.open_starts)
           → Matches ms (visit_of q (milestone_of x c) (visits table c) (visits table r))
-          (by_entry q (walk_by fits table o (past a (node x c end)) r st) (λ e. after_node (open_checked_by fits table o a st e x c (node x c r)) (λ st₁. then_walk (walk_by fits table (inside o e) none c st₁) (walk_by fits table o (past a (node x c end)) r)))).findings
-          (by_entry q (walk_by fits table o (past a (node x c end)) r st) (λ e. after_node (open_checked_by fits table o a st e x c (node x c r)) (λ st₁. then_walk (walk_by fits table (inside o e) none c st₁) (walk_by fits table o (past a (node x c end)) r)))).state.open_starts
-      go none below later = later st ms h
-      go (some e) below later =
+          (by_entry q (walk_by fits table o (past a (node x c end)) r st) (λ e. after_node (open_checked_by fits table o a st e x c (node x c r)) (λ st₁. then_walk (walk_by fits table (inside o e) None c st₁) (walk_by fits table o (past a (node x c end)) r)))).findings
+          (by_entry q (walk_by fits table o (past a (node x c end)) r st) (λ e. after_node (open_checked_by fits table o a st e x c (node x c r)) (λ st₁. then_walk (walk_by fits table (inside o e) None c st₁) (walk_by fits table o (past a (node x c end)) r)))).state.open_starts
+      go None below later = later st ms h
+      go (Some e) below later =
           let t = open_checked_by fits table o a st e x c (node x c r) in
-          let w = walk_by fits table (inside o e) none c t.state in
+          let w = walk_by fits table (inside o e) None c t.state in
           let first = open-matches table o a st e x c (node x c r) ms h in
           let both = matches-then first (below (inside o e) t.state _ first.open-starts) in
           rw (← append_assoc t.findings w.findings _) (matches-then both (later w.state _ both.open-starts))
@@ -179,7 +179,7 @@ module _ (fits : Fits) where
   -- the walk's open starts are the visited starts that no visited end took, in order
   pub untaken-by : (table : List ℕ) (f : Forest) → (walked_by fits table f).state.open_starts ≡ free_starts (marks_by fits (visits table f))
   unfolding free_starts
-  untaken-by table f = (walk-matches table outside none f initial [] refl).open-starts
+  untaken-by table f = (walk-matches table outside None f initial [] refl).open-starts
 
 pub open-starts-are-untaken : (table : List ℕ) (f : Forest) → (walked table f).state.open_starts ≡ free_starts (marks (visits table f))
 open-starts-are-untaken table f = untaken-by pairing table f

@@ -5,7 +5,7 @@ use native.Mathlib.Omega.{arith}
 use mathlib.Core.Path.{◌≡◌, refl, sym, ap, ◌∙◌}
 use mathlib.Core.Bool.{Bool, true, false, not, ◌&&◌, ◌||◌}
 use mathlib.Core.List.{List}
-use mathlib.Core.Option.{Option, some, none}
+use Rattle.std.specs.Prelude.{Option, Some, None}
 use borrow.Author.Tests.{not-false}
 use lib.Dec.{ltb}
 use lib.ListN.{length}
@@ -25,23 +25,24 @@ use Rattle.cursor.proofs.WellFormed.{made-name}
 use Rattle.numbers.specs.Label.{label_of, splits, numbered, label_refusal}
 use Rattle.numbers.proofs.NumberNine.{number-9-none}
 use Rattle.numbers.proofs.WellFormed.{made-label}
-use Rattle.definition.specs.Outcome.{Lent, at_place, of1, of2, of3, of_tape, of9, of10, refusal}
+use Rattle.definition.specs.Outcome.{Lent, of1, of2, of3, of_tape, of9, of10, refusal}
+use Rattle.refusals.specs.Refusal.{at_place}
 use Rattle.definition.proofs.Demand3.{checked-accepted}
 
 -- number 6's test: the span leaves the source, or one of its ends lies inside a character
-pub span-is : (s t : List ℕ) (i : ℕ) → first_ill_formed s ≡ none → bad_span s t i ≡ (ltb (length s) (start_at t i + len_at t i) || (not (between (chars s) (start_at t i)) || not (between (chars s) (start_at t i + len_at t i))))
+pub span-is : (s t : List ℕ) (i : ℕ) → first_ill_formed s ≡ None → bad_span s t i ≡ (ltb (length s) (start_at t i + len_at t i) || (not (between (chars s) (start_at t i)) || not (between (chars s) (start_at t i + len_at t i))))
 span-is s t i e =
     let m = (utf8-exact s).0 e in
     ap (λ (v : Bool). (ltb (length s) (start_at t i + len_at t i) || (not v || not (is_boundary s (start_at t i + len_at t i))))) (boundary m (start_at t i))
     ∙ ap (λ (v : Bool). (ltb (length s) (start_at t i + len_at t i) || (not (between (chars s) (start_at t i)) || not v))) (boundary m (start_at t i + len_at t i))
 
-pub no_place : (number : ℕ) (x : Option ℕ) → at_place number x ≡ none → x ≡ none
-no_place number none e = refl
-no_place number (some place) e = refused _ e
+pub no_place : (number : ℕ) (x : Option ℕ) → at_place number x ≡ None → x ≡ None
+no_place number None e = refl
+no_place number (Some place) e = refused _ e
 
 -- a document that no number turns back
-module _ (l : Lent) (e : refusal l ≡ none) where
-  past-2 : or_else (of3 l) (or_else (of_tape l) (or_else (of9 l) (of10 l))) ≡ none
+module _ (l : Lent) (e : refusal l ≡ None) where
+  past-2 : or_else (of3 l) (or_else (of_tape l) (or_else (of9 l) (of10 l))) ≡ None
   unfolding refusal
   past-2 =
       let a = (neither (of1 l) (or_else (of2 l) (or_else (of3 l) (or_else (of_tape l) (or_else (of9 l) (of10 l))))) e).1 in
@@ -50,7 +51,7 @@ module _ (l : Lent) (e : refusal l ≡ none) where
   pub source-made : Made l.source
   source-made = (utf8-exact l.source).0 (no_place _ (first_ill_formed l.source) (neither (of3 l) (or_else (of_tape l) (or_else (of9 l) (of10 l))) past-2).0)
 
-  no_9 : label_refusal l.table l.source l.tape ≡ none
+  no_9 : label_refusal l.table l.source l.tape ≡ None
   no_9 =
       let a = (neither (of3 l) (or_else (of_tape l) (or_else (of9 l) (of10 l))) past-2).1 in
       let b = (neither (of_tape l) (or_else (of9 l) (of10 l)) a).1 in

@@ -2,7 +2,7 @@
 -- Assumes nothing.
 use mathlib.Core.Path.{◌≡◌, refl}
 use mathlib.Core.List.{[], ◌∷◌}
-use mathlib.Core.Option.{none}
+use Rattle.std.specs.Prelude.{None}
 use Rattle.text.specs.Literal.{ascii}
 use Rattle.text.specs.Pick.{in_any}
 use Rattle.text.specs.Blank.{blank_ranges, blank}
@@ -45,6 +45,6 @@ unfolding ascii worked.examples worked.example1 worked.example2 worked.example3 
 worked-accepted = refl
 
 -- the account of a document's two bases in numbers, and the document is accepted
-pub quotation-example : (worked.account_of (ascii "qt") worked.quotations ≡ 2 ∷ 3 ∷ 2 ∷ 1 ∷ []) × (worked.account_of (ascii "qt1") worked.quotations ≡ 3 ∷ 1 ∷ 1 ∷ 2 ∷ []) × (refusal (worked.lent_of worked.quotations) ≡ none)
+pub quotation-example : (worked.account_of (ascii "qt") worked.quotations ≡ 2 ∷ 3 ∷ 2 ∷ 1 ∷ []) × (worked.account_of (ascii "qt1") worked.quotations ≡ 3 ∷ 1 ∷ 1 ∷ 2 ∷ []) × (refusal (worked.lent_of worked.quotations) ≡ None)
 unfolding ascii worked.quotations worked.example_table worked.tape_of utf8.table3_7 utf8.begins utf8.width_by utf8.width_of utf8.decoded utf8.decode in_any blank_ranges blank chars_past bytes_before blank_text word_from half word equal all one_of lines.lines lines.categories lines.roles entries.position entries.entries_of entries.entries entries.nth name_part refusal repeated utf8.scan utf8.after_width utf8.first_ill_formed lines.bad_from lines.bad_table reading.step reading.read reading.tape_refusal first_bad label.splits label.label_refusal info_at nodes runs names.front_matter names.note_only books.book_codes books.code_from books.book_of attributes.attributes_findings label_of among checks.given checks.after_chapter checks.leaf_checked checks.book_code checks.after_id checks.number_markers waits_by without_by after_milestone_by open_checked_by walk_by text_before unclosed closing visits taking_by marks_from_by those
 quotation-example = (refl, refl, refl)

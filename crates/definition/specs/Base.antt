@@ -1,6 +1,6 @@
 -- The rules of document 01 without document 02's K6: the checks of a Verse without UnreadableVerseNumber, and the findings of a document by them. "Against the Rust, lists are compared without code 35".
 use Rattle.std.specs.Prelude.{ℕ, Bool, not, ◌&&◌, List, [], ◌∷◌, ◌++◌, eqb}
-use Rattle.std.proofs.Math.Option.{Option, none}
+use Rattle.std.specs.Prelude.{Option, None}
 use Rattle.text.specs.Pick.{pick}
 use Rattle.tape.specs.Nodes.{Node, chapter_kind, verse_kind}
 use Rattle.tape.specs.Forest.{Forest, end, leaf, node}
@@ -38,10 +38,10 @@ base_walk_by fits table o a end st = record { findings = []; anchor = a; state =
 base_walk_by fits table o a (leaf x r) st = after_node (base_leaf table o st x) (base_walk_by fits table o (leaf_anchor a x) r)
 base_walk_by fits table o a (node x c r) st =
     by_entry (entry_of table x) (base_walk_by fits table o (past a (node x c end)) r st)
-    (λ e. after_node (open_checked_by fits table o a st e x c (node x c r)) (λ st₁. then_walk (base_walk_by fits table (inside o e) none c st₁) (base_walk_by fits table o (past a (node x c end)) r)))
+    (λ e. after_node (open_checked_by fits table o a st e x c (node x c r)) (λ st₁. then_walk (base_walk_by fits table (inside o e) None c st₁) (base_walk_by fits table o (past a (node x c end)) r)))
 
 abbrev pub base_walked_by : Fits → List ℕ → Forest → Walked
-base_walked_by fits table f = base_walk_by fits table outside none f initial
+base_walked_by fits table f = base_walk_by fits table outside None f initial
 
 -- the whole list by document 01's rules
 abbrev pub base_findings_by : Fits → List ℕ → Forest → List Finding

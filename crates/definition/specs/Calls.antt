@@ -1,6 +1,6 @@
 -- Document 02, K7: what section and close answer: refusals, counts, the findings list; the record that begin and section leave, the working lists that close leaves, and what the counted entries are of those that a section leaves.
 use Rattle.std.specs.Prelude.{ℕ, ◌+◌, ◌<◌, ◌≡◌, Bool, false, not, ◌||◌, List, [], ◌++◌, eqb, ltb, length, get_or}
-use Rattle.std.proofs.Math.Option.{Option, some, none}
+use Rattle.std.specs.Prelude.{Option, Some, None}
 use Rattle.text.specs.Pick.{pick}
 use Rattle.tape.specs.Nodes.{node_at, link_at, count}
 use Rattle.tape.specs.Forest.{Forest, end, leaf, node, forest}
@@ -106,8 +106,8 @@ section_record table s t seen opens r to = carried_at to (last_anchor (anchor_no
 
 -- "a call turned back leaves record and lists unchanged"
 abbrev pub record_by : Option Refusal → CarriedRecord → CarriedRecord → CarriedRecord
-record_by (some x) before after = before
-record_by none before after = after
+record_by (Some x) before after = before
+record_by None before after = after
 
 abbrev pub section_record_after : Lent → CarriedRecord → ℕ → ℕ → CarriedRecord
 section_record_after l r from to = record_by (section_refusal l r from to) r (section_record l.table l.source l.tape l.seen l.open_starts r to)

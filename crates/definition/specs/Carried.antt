@@ -1,6 +1,6 @@
 -- Document 02, K7: the carried record in numbers, what it stands for with the two working lists, and when "the record can't be this tape's".
 use Rattle.std.specs.Prelude.{ℕ, zero, suc, ◌+◌, Bool, false, not, ◌&&◌, ◌||◌, List, [], ◌∷◌, eqb, ltb, length, get_or}
-use Rattle.std.proofs.Math.Option.{Option, some, none}
+use Rattle.std.specs.Prelude.{Option, Some, None}
 use Rattle.text.specs.Pick.{pick}
 use Rattle.tape.specs.Nodes.{Node, node_at, kind_at, link_at, is_open}
 use Rattle.tape.specs.Forest.{forest}
@@ -44,8 +44,8 @@ start_nodes s t opens (suc k) =
 
 -- the anchor that a node's number means to the siblings from a place on; 0 for none
 abbrev pub anchor_at : List ℕ → List ℕ → ℕ → ℕ → Option Anchor
-anchor_at s t zero at = none
-anchor_at s t (suc n) at = some (record { kind = kind_at t (suc n); passed = forest s t (past_node t (suc n)) at })
+anchor_at s t zero at = None
+anchor_at s t (suc n) at = Some (record { kind = kind_at t (suc n); passed = forest s t (past_node t (suc n)) at })
 
 -- a node that is no top-level node before the place is no anchor
 abbrev pub anchor_node : List ℕ → List ℕ → CarriedRecord → ℕ
@@ -90,8 +90,8 @@ bad_anchor t r = not (eqb r.anchor 0) && not (numbered (kind_at t r.anchor))
 
 -- "a counted open start no milestone start with its base length"
 abbrev pub is_milestone_entry : Option Entry → Bool
-is_milestone_entry none = false
-is_milestone_entry (some e) = eqb e.category milestone_category
+is_milestone_entry None = false
+is_milestone_entry (Some e) = eqb e.category milestone_category
 
 abbrev pub is_milestone_start : List ℕ → Node → Bool
 is_milestone_start table x = is_open x.kind && (is_milestone_entry (entry_of table x) && is_start x)

@@ -1,6 +1,6 @@
 -- The checks of one node, in the Rust's order: "Checks and findings stand in the Rust's order."
 use Rattle.std.specs.Prelude.{ℕ, ◌+◌, Bool, true, false, not, ◌&&◌, ◌||◌, List, [], ◌∷◌, ◌++◌, eqb, ltb, length, get_or}
-use Rattle.std.proofs.Math.Option.{Option, some, none}
+use Rattle.std.specs.Prelude.{Option, Some, None}
 use Rattle.text.specs.Pick.{cut, pick, known}
 use Rattle.text.specs.Words.{first_word, blank_text}
 use Rattle.tape.specs.Nodes.{Node, chapter_kind, verse_kind, text_kind, attribute_kind}
@@ -79,8 +79,8 @@ unfoldable pub after_chapter : WalkState → Node → WalkState
 after_chapter st x = set_has_chapter true (set_expected_chapter (x.link + 1) (set_expected_verse first_verse (set_seen (x.link ∷ st.seen) st)))
 
 abbrev pub letter_byte : Option ℕ → ℕ
-letter_byte none = 0
-letter_byte (some b) = b
+letter_byte None = 0
+letter_byte (Some b) = b
 
 -- a start that is read and breaks the sequence
 abbrev pub breaks : PartReading → Position → Bool
@@ -194,8 +194,8 @@ number_markers =
 
 -- of the siblings that follow the anchor, those passed since and those from here on
 abbrev pub attached_to : Option Anchor → Forest → ℕ → Bool
-attached_to none f at = false
-attached_to (some a) f at = is_attached a.kind (followed a.passed f) at
+attached_to None f at = false
+attached_to (Some a) f at = is_attached a.kind (followed a.passed f) at
 
 -- `id`, `b`, `fig`, `w`, `rb`, `tr`
 abbrev pub id_name : List ℕ

@@ -1,6 +1,6 @@
 -- A whole document: TextBeforeId, the walk of the root's children, the closing findings.
 use Rattle.std.specs.Prelude.{ℕ, Bool, not, ◌&&◌, ◌||◌, List, [], ◌∷◌, ◌++◌, eqb, ◌≡◌}
-use Rattle.std.proofs.Math.Option.{none}
+use Rattle.std.specs.Prelude.{None}
 use Rattle.text.specs.Pick.{pick}
 use Rattle.text.specs.Words.{blank_text}
 use Rattle.tape.specs.Nodes.{text_kind}
@@ -39,7 +39,7 @@ closing st =
 
 -- the walk of the root's children, by a taking rule and by module 9's
 abbrev pub walked_by : Fits → List ℕ → Forest → Walked
-walked_by fits table f = walk_by fits table outside none f initial
+walked_by fits table f = walk_by fits table outside None f initial
 
 abbrev pub walked : List ℕ → Forest → Walked
 walked = walked_by pairing

@@ -1,6 +1,6 @@
 -- Worked examples: documents, and the findings that document 01 gives them.
 use Rattle.std.specs.Prelude.{ℕ, ◌/◌, ◌%◌, List, [], ◌∷◌, ◌++◌, length}
-use Rattle.std.proofs.Math.Option.{Option, none}
+use Rattle.std.specs.Prelude.{Option, None}
 use Rattle.text.specs.Literal.{ascii}
 use Rattle.tape.specs.Forest.{top}
 use Rattle.tape.specs.Nodes.{node_at, root_kind, marker_open_kind, marker_close_kind, chapter_kind, verse_kind, text_kind, attribute_kind, block_end_kind}
@@ -449,7 +449,7 @@ refusals_of (e ∷ es) = refusal (lent_of e) ∷ refusals_of es
 -- of each: none
 unfoldable pub none_of : List Example → List (Option Refusal)
 none_of [] = []
-none_of (e ∷ es) = none ∷ none_of es
+none_of (e ∷ es) = None ∷ none_of es
 
 -- the account of a base in an example: its visited starts and ends, its pairs, its mismatches
 abbrev pub account_of : List ℕ → Example → List ℕ

@@ -1,6 +1,6 @@
 -- Document 01, module 9: milestones. "A milestone start or end and its base are read from its marker as in the Rust; it is visited unless module 8 passes it over."
 use Rattle.std.specs.Prelude.{ℕ, ◌-◌, Bool, true, false, not, ◌&&◌, ◌||◌, List, [], ◌∷◌, ◌++◌, eqb, leb, length, take, drop}
-use Rattle.std.proofs.Math.Option.{Option, some, none}
+use Rattle.std.specs.Prelude.{Option, Some, None}
 use Rattle.text.specs.Pick.{pick}
 use Rattle.tape.specs.Nodes.{Node}
 use Rattle.tape.specs.Forest.{Forest, end, leaf, node}
@@ -79,8 +79,8 @@ after_milestone = after_milestone_by pairing
 -- The order of visits: the milestones of a run that are visited, in order.
 
 abbrev pub visit_of : Option Entry → Milestone → List Milestone → List Milestone → List Milestone
-visit_of none x below after = after
-visit_of (some e) x below after = pick (is_milestone e (node_of x)) (x ∷ []) [] ++ below ++ after
+visit_of None x below after = after
+visit_of (Some e) x below after = pick (is_milestone e (node_of x)) (x ∷ []) [] ++ below ++ after
 
 unfoldable pub visits : List ℕ → Forest → List Milestone
 visits table end = []
@@ -93,8 +93,8 @@ pub record Mark : Type 0 where
   pub taker : Option Milestone
 
 abbrev pub free : Option Milestone → Bool
-free none = true
-free (some e) = false
+free None = true
+free (Some e) = false
 
 abbrev pub untaken : Mark → Bool
 untaken m = is_start (node_of m.milestone) && free m.taker
@@ -103,11 +103,11 @@ untaken m = is_start (node_of m.milestone) && free m.taker
 unfoldable pub taking_by : Fits → Milestone → List Mark → List Mark
 taking_by fits x [] = []
 taking_by fits x (m ∷ ms) =
-    pick (untaken m && fits m.milestone x) (record { milestone = m.milestone; taker = some x } ∷ ms) (m ∷ taking_by fits x ms)
+    pick (untaken m && fits m.milestone x) (record { milestone = m.milestone; taker = Some x } ∷ ms) (m ∷ taking_by fits x ms)
 
 -- one visit more
 abbrev pub with_visit_by : Fits → Milestone → List Mark → List Mark
-with_visit_by fits x ms = record { milestone = x; taker = none } ∷ pick (is_start (node_of x)) ms (taking_by fits x ms)
+with_visit_by fits x ms = record { milestone = x; taker = None } ∷ pick (is_start (node_of x)) ms (taking_by fits x ms)
 
 -- the marks after further visits, the latest first
 unfoldable pub marks_from_by : Fits → List Mark → List Milestone → List Mark
@@ -128,8 +128,8 @@ free_starts (m ∷ ms) = pick (untaken m) (m.milestone ∷ free_starts ms) (free
 
 -- the milestone with the number is taken by an end whose number is at least `from`
 abbrev pub taker_from : ℕ → Option Milestone → Bool
-taker_from from none = false
-taker_from from (some e) = leb from (node_of e).number
+taker_from from None = false
+taker_from from (Some e) = leb from (node_of e).number
 
 unfoldable pub taken_from : ℕ → ℕ → List Mark → Bool
 taken_from from number [] = false

@@ -1,11 +1,11 @@
 -- The entry's outcome: the first refusal in checking order, else the checked document's numbers and lists.
 use Rattle.std.specs.Prelude.{ℕ, zero, suc, Bool, true, false, ◌||◌, List, [], ◌∷◌, ◌++◌, eqb, ltb, length, drop}
-use Rattle.std.proofs.Math.Option.{Option, some, none}
+use Rattle.std.specs.Prelude.{Option, Some, None}
 use Rattle.text.specs.Pick.{pick}
 use Rattle.text.specs.Utf8.{first_ill_formed}
 use Rattle.tape.specs.Nodes.{count}
 use Rattle.tape.specs.Forest.{top}
-use Rattle.refusals.specs.Refusal.{Refusal, refuse, only_if, or_else, bad_table_layout, source_too_long, source_not_utf8, working_list_too_short}
+use Rattle.refusals.specs.Refusal.{Refusal, refuse, only_if, or_else, bad_table_layout, source_too_long, source_not_utf8, working_list_too_short, at_place}
 use Rattle.tape.specs.Reading.{tape_refusal}
 use Rattle.table.specs.Lines.{bad_table}
 use Rattle.findings.specs.Finding.{Finding, error_severity, warning_severity, info_severity}
@@ -22,10 +22,6 @@ pub record Lent : Type 0 where
   pub seen : List ℕ
   pub open_starts : List OpenStart
   pub list : List ℕ
-
-abbrev pub at_place : ℕ → Option ℕ → Option Refusal
-at_place number none = none
-at_place number (some place) = refuse number place
 
 -- 1: "The table text breaks its layout"
 abbrev pub of1 : Lent → Option Refusal
@@ -105,16 +101,16 @@ pub data Answer : Type 0 where
   checked : Checked → Answer
 
 abbrev pub answer_by : Option Refusal → Checked → Answer
-answer_by (some r) c = refused r
-answer_by none c = checked c
+answer_by (Some r) c = refused r
+answer_by None c = checked c
 
 abbrev pub answer : Lent → Answer
 answer l = answer_by (refusal l) (checked_of l)
 
 -- what the lent lists hold afterwards. A refusal: "Each gives number and place and writes nothing."
 abbrev pub words_by : {A : Type 0} → Option Refusal → List A → List A → List A
-words_by (some r) before after = before
-words_by none before after = after
+words_by (Some r) before after = before
+words_by None before after = after
 
 abbrev pub list_after : Lent → List ℕ
 list_after l = words_by (refusal l) l.list (overlay l.list 0 (list_of l))

@@ -1,6 +1,6 @@
 -- Document 02, K7: "Add three calls over one table, source and tape, lent alike each time, the working lists as left: begin, section (a range of whole top-level nodes) and close." What each call finds, and the lists of sections that cover a document.
 use Rattle.std.specs.Prelude.{ℕ, ◌+◌, ◌<◌, ◌≤◌, ◌≡◌, Bool, true, List, [], ◌∷◌, ◌++◌, eqb}
-use Rattle.std.proofs.Math.Option.{Option, none}
+use Rattle.std.specs.Prelude.{Option, None}
 use Rattle.text.specs.Pick.{pick}
 use Rattle.tape.specs.Nodes.{kind_at, start_at, link_at, is_open}
 use Rattle.tape.specs.Forest.{Forest, end, leaf, node, forest, top}
@@ -33,7 +33,7 @@ pub record Carried : Type 0 where
 
 -- what begin gives
 abbrev pub begun : Carried
-begun = record { place = 1; anchor = none; state = initial }
+begun = record { place = 1; anchor = None; state = initial }
 
 module _ (table s t : List ℕ) where
   -- "from it a section judges attachment over its own nodes": the anchor holds the siblings since it, those of earlier sections too, and the walk reads the run from the anchor up to the section's end

@@ -1,6 +1,6 @@
 -- The state of the walk: "The running record (flags, expected chapter and verse, list lengths)", the context of a run of siblings, and its anchor.
 use Rattle.std.specs.Prelude.{ℕ, Bool, false, List, []}
-use Rattle.std.proofs.Math.Option.{Option, some, none}
+use Rattle.std.specs.Prelude.{Option, Some, None}
 use Rattle.tape.specs.Nodes.{Node}
 use Rattle.tape.specs.Forest.{Forest, followed}
 use Rattle.findings.specs.Finding.{Finding}
@@ -30,7 +30,7 @@ pub record WalkState : Type 0 where
   pub verses : ℕ
 
 abbrev pub first_verse : Position
-first_verse = record { number = 1; letter = none }
+first_verse = record { number = 1; letter = None }
 
 abbrev pub initial : WalkState
 initial =
@@ -63,8 +63,8 @@ pub record Anchor : Type 0 where
 
 -- one sibling more is passed
 abbrev pub past : Option Anchor → Forest → Option Anchor
-past none f = none
-past (some a) f = some (record { kind = a.kind; passed = followed a.passed f })
+past None f = None
+past (Some a) f = Some (record { kind = a.kind; passed = followed a.passed f })
 
 -- findings, and the record after them
 pub record NodeChecked : Type 0 where

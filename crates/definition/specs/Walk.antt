@@ -1,6 +1,6 @@
 -- Document 01, module 8: the walk over a run of siblings, structural over the forest.
 use Rattle.std.specs.Prelude.{ℕ, ◌||◌, List, [], ◌++◌, eqb}
-use Rattle.std.proofs.Math.Option.{Option, some, none}
+use Rattle.std.specs.Prelude.{Option, Some, None}
 use Rattle.text.specs.Pick.{cut, pick}
 use Rattle.tape.specs.Nodes.{Node}
 use Rattle.tape.specs.Forest.{Forest, end, leaf, node}
@@ -23,7 +23,7 @@ pub record Walked : Type 0 where
 
 -- a Chapter or Verse is the new anchor; other leaves are passed
 abbrev pub leaf_anchor : Option Anchor → Node → Option Anchor
-leaf_anchor a x = pick (numbered x.kind) (some (record { kind = x.kind; passed = end })) (past a (leaf x end))
+leaf_anchor a x = pick (numbered x.kind) (Some (record { kind = x.kind; passed = end })) (past a (leaf x end))
 
 -- by its table name, and the record after `id`; the row of a `tr` and the attributes come before the milestone
 abbrev pub open_by : Fits → List ℕ → WalkState → WalkContext → Option Anchor → WalkState → Entry → Node → Forest → Forest → NodeChecked
@@ -64,8 +64,8 @@ then_walk w rest = with_findings w.findings (rest w.state)
 
 -- "A MarkerOpen whose marker number has no table entry is passed over with all below it."
 abbrev pub by_entry : Option Entry → Walked → (Entry → Walked) → Walked
-by_entry none passed_over visited = passed_over
-by_entry (some e) passed_over visited = visited e
+by_entry None passed_over visited = passed_over
+by_entry (Some e) passed_over visited = visited e
 
 -- the walk of a run of siblings, by any taking rule
 unfoldable pub walk_by : Fits → List ℕ → WalkContext → Option Anchor → Forest → WalkState → Walked
@@ -73,7 +73,7 @@ walk_by fits table o a end st = record { findings = []; anchor = a; state = st }
 walk_by fits table o a (leaf x r) st = after_node (leaf_checked table o st x) (walk_by fits table o (leaf_anchor a x) r)
 walk_by fits table o a (node x c r) st =
     by_entry (entry_of table x) (walk_by fits table o (past a (node x c end)) r st)
-    (λ e. after_node (open_checked_by fits table o a st e x c (node x c r)) (λ st₁. then_walk (walk_by fits table (inside o e) none c st₁) (walk_by fits table o (past a (node x c end)) r)))
+    (λ e. after_node (open_checked_by fits table o a st e x c (node x c r)) (λ st₁. then_walk (walk_by fits table (inside o e) None c st₁) (walk_by fits table o (past a (node x c end)) r)))
 
 -- the walk by module 9's rule
 abbrev pub walk : List ℕ → WalkContext → Option Anchor → Forest → WalkState → Walked

@@ -2,23 +2,24 @@
 // writing.
 #![tactic(auto)]
 
-ghost use Rattle.std.specs.Prelude.{◌≡◌, ◌*◌, ◌≤◌, length};
+ghost use Rattle.std.specs.Prelude.{◌≡◌, ◌*◌, ◌≤◌, length, false, IfOk, IfSome};
 ghost use Rattle.definition.specs.Outcome.{answer, list_after, repeated, no_start};
 ghost use Rattle.validate.specs.Entry.{answer_of, lent};
 ghost use Rattle.text.specs.Pick.{any_over};
-ghost use Rattle.listing.specs.Listing.{largest_file, most_held};
+ghost use Rattle.listing.specs.Listing.{is_too_large, largest_file, most_held};
 
 use definition::OpenStart;
+use refusals::Refusal;
 use std::fs::File;
 use std::io::Read;
 use std::rt::Files;
 use std::{io, str};
-use validate::Answer;
+use validate::Report;
 
 // The most bytes that a file may have.
 const LARGEST_FILE: usize = 65536;
 
-// One byte more than a file may have.
+// One byte more than a file may have. The programs' lists are made by functions, so that each length stands in one place.
 pub fn file_room() -> [u8; 65537]
     ensures { 65537 ≡ length result }
 {
@@ -39,45 +40,43 @@ pub fn chapters_seen() -> [u32; 4096]
     [0; 4096]
 }
 
-// How many bytes an open file has, up to the list's length; none where a read fails.
-fn read_open(open: &mut impl Read, file: &mut [u8]) -> usize
-    ensures { result ≤ length file.new }
+// How many bytes an open file has, up to the list's length.
+fn read_open(open: &mut impl Read, file: &mut [u8]) -> io::Result<usize>
+    ensures { IfOk result (λ n. n ≤ length file.new) }
 {
-    let mut done: usize = 0;
+    let mut done = 0;
+    // A while: the step is as many bytes as a read gives.
     while done < file.len() {
-        match open.read(&mut file[done..]) {
-            Ok(0) => return done,
-            Ok(more) => done += more,
-            Err(_) => return 0,
+        match open.read(&mut file[done..])? {
+            0 => break,
+            more => done += more,
         }
     }
-    done
+    Ok(done)
 }
 
-// How many bytes a file has, up to the list's length; none where it can't be read. A path that isn't UTF-8 can't be.
-pub fn read(rt: &impl Files, path: &[u8], file: &mut [u8]) -> usize
-    ensures { result ≤ length file.new }
+// How many bytes a file has, up to the list's length; `None` where it can't be read. A path that isn't UTF-8 can't be.
+fn read_named(rt: &impl Files, path: &[u8], file: &mut [u8]) -> Option<usize>
+    ensures { IfSome result (λ n. n ≤ length file.new) }
 {
-    let Ok(name) = str::from_utf8(path) else {
-        return 0;
-    };
-    match File::open(rt, name) {
-        Ok(mut open) => read_open(&mut open, file),
-        Err(_) => 0,
-    }
+    let name = str::from_utf8(path).ok()?;
+    let mut open = File::open(rt, name).ok()?;
+    read_open(&mut open, file).ok()
+}
+
+// The bytes of a file, up to the list's length, in the list; none where it can't be read.
+pub fn read<'a>(rt: &impl Files, path: &[u8], file: &'a mut [u8]) -> &'a [u8]
+    ensures { length result.now ≤ length file.old }
+{
+    let n = read_named(rt, path, file).unwrap_or(0);
+    &file[..n]
 }
 
 // Whether a file is too large, by how many bytes of each were read.
 pub fn is_too_large(table: usize, source: usize, nodes: usize) -> bool
     ensures { result ≡ any_over largest_file table source nodes }
 {
-    if LARGEST_FILE < table {
-        return true;
-    }
-    if LARGEST_FILE < source {
-        return true;
-    }
-    LARGEST_FILE < nodes
+    LARGEST_FILE < table || LARGEST_FILE < source || LARGEST_FILE < nodes
 }
 
 // Writes a list up to a place, where its text ends, to standard output. On an error part of it may be written; nothing lent changes.
@@ -93,6 +92,38 @@ pub fn write_too_large(rt: &impl Print) -> io::Result<()> {
     write(rt, &out, end)
 }
 
+// An exercise's files, none of them too large.
+#[derive(Clone, Copy)]
+pub struct Exercise<'a> {
+    pub table: &'a [u8],
+    pub source: &'a [u8],
+    pub tape: &'a [u8],
+    pub ghost small: { is_too_large table.now source.now tape.now ≡ false },
+}
+
+// Reads the files of the current folder, and runs over them, or writes that one is too large.
+pub fn over_files<F: FnOnce(Exercise<'_>) -> io::Result<()>>(
+    rt: &(impl Files + Print),
+    run: F,
+) -> io::Result<()>
+    requires { F.IsAlwaysCallable run }
+{
+    let mut table = file_room();
+    let mut source = file_room();
+    let mut tape = file_room();
+    let table = read(rt, b"table.txt", &mut table);
+    let source = read(rt, b"source.usfm", &mut source);
+    let tape = read(rt, b"nodes.bin", &mut tape);
+    if is_too_large(table.len(), source.len(), tape.len()) {
+        return write_too_large(rt);
+    }
+    run(Exercise {
+        table,
+        source,
+        tape,
+    })
+}
+
 // The check, with open starts for 4,096 nodes, and with lists that hold what the listing asks for.
 pub fn checked(
     table: &[u8],
@@ -100,7 +131,7 @@ pub fn checked(
     tape: &[u8],
     seen: &mut [u32],
     list: &mut [u64],
-) -> Answer
+) -> Result<Report, Refusal>
     requires { (4096 ≤ length seen.old) × (length list.old ≡ 8 * most_held) }
     ensures answer { answer_of result ≡ answer (lent table.now source.now tape.now seen.old (repeated no_start 4096) list.old) }
     ensures list { list.new ≡ list_after (lent table.now source.now tape.now seen.old (repeated no_start 4096) list.old) }

@@ -5,7 +5,7 @@ use native.Mathlib.Omega.{arith}
 use mathlib.Core.Path.{◌≡◌, refl, sym, ap, ◌∙◌}
 use mathlib.Core.Bool.{Bool, true, false}
 use mathlib.Core.List.{List, [], ◌∷◌}
-use mathlib.Core.Option.{Option, some, none}
+use Rattle.std.specs.Prelude.{Option, Some, None}
 use native.Mathlib.Decide.{dec_lt}
 use lib.Dec.{eqb, ltb}
 use lib.ListN.{length, take, drop}
@@ -17,14 +17,15 @@ use Rattle.text.specs.Utf8.{Made}
 use Rattle.text.specs.Characters.{find_byte}
 use Rattle.text.proofs.Exact.{utf8-exact}
 use Rattle.cursor.specs.Names.{name_of}
-use Rattle.refusals.specs.Refusal.{unknown_marker, unmatched_marker}
-use Rattle.reader_spec.specs.Pieces.{bar, fault, size_of, piece_at}
+use Rattle.refusals.specs.Refusal.{unmatched_marker}
+use Rattle.refusals.specs.Reasons.{number_of}
+use Rattle.refusals.specs.declared.Reason.{Reason}
+use Rattle.refusals.specs.declared.Reason.TheVariants.{UnmatchedMarker}
+use Rattle.reader_spec.specs.Pieces.{bar, size_of, piece_at}
 use Rattle.reader_spec.specs.Pieces as pieces
 use Rattle.reader_spec.specs.Pass.{ReadNode, closes, OpenMarker, ReadState, state_with, nothing_open, PieceStep, goes, stops, with_text, with_attribute, with_block_end, milestone_nodes, piece_step, pass_on, pass_end, outcome}
 use Rattle.reader_spec.specs.Promise.{Legible}
-use Rattle.reader_spec.specs.Conditions.{is_unknown, is_unmatched}
 use Rattle.reader_spec.specs.InnerSteps.{pass_at, nodes, fault_at, counted_on, PlacedOpens, places_after, open_from, window, Kept}
-use Rattle.reader_spec.proofs.Faults.{step-number}
 use Rattle.reader_spec.proofs.Steps.{here-cut, pass_step, pass-end, count-goes}
 use Rattle.reader_spec.proofs.Window.{placed-step, Reached, reached-start, reached-here, reached-next, kept-none, kept_top}
 use Rattle.pieces.specs.declared.Piece.{Piece}
@@ -32,13 +33,13 @@ use Rattle.pieces.specs.declared.Piece.TheVariants as found
 use Rattle.pieces.specs.Shown.{shown, bytes_of}
 use Rattle.pieces.specs.Depth.{depth_after}
 use Rattle.pieces.specs.Closes.{is_inline, OwnClose}
-use Rattle.pieces.proofs.Places.{rest-is, rest-length, found_here, here-size, goes_on, next-inside, next-made}
-use Rattle.first_pass.specs.Counted.{one, run_count, nodes_in, block_after, innermost_place, piece_number, place_kept, Windowed, ReadyFor, Nameable, InnermostClosed}
-use Rattle.first_pass.proofs.Windows.{depth-piece, depth-few, kept-long, kept_piece}
+use Rattle.pieces.proofs.Places.{rest_is, rest-length, found_here, here-size, goes_on, next-inside, next-made}
+use Rattle.first_pass.specs.Counted.{one, run_count, nodes_in, block_after, innermost_place, block_fault, piece_fault, place_kept, Windowed, ReadyFor, Nameable, InnermostClosed}
+use Rattle.first_pass.proofs.Windows.{Onward, onward, depth-piece, depth-few, kept-long, kept_piece}
 
 abbrev pub is_some : Option ℕ → Bool
-is_some none = false
-is_some (some m) = true
+is_some None = false
+is_some (Some m) = true
 
 -- a piece goes on with so many nodes, and with a block open or none
 pub record Goes (n : ℕ) (block : Bool) (x : PieceStep) : Type 0 where
@@ -48,10 +49,10 @@ pub record Goes (n : ℕ) (block : Bool) (x : PieceStep) : Type 0 where
   pub many : length ns ≡ n
   pub blocks : is_some st.block ≡ block
 
--- what a piece does, by the number that the code gives: 0 for none
-abbrev pub Says : ℕ → ℕ → Bool → PieceStep → Type 0
-Says zero n block x = Goes n block x
-Says (suc k) n block x = x ≡ stops (suc k)
+-- what a piece does, by the reason that the code gives
+abbrev pub Says : Option Reason → ℕ → Bool → PieceStep → Type 0
+Says None n block x = Goes n block x
+Says (Some r) n block x = x ≡ stops (number_of r)
 
 -- how many nodes
 text-one : (at k : ℕ) → 1 ≤ k → length (with_text at k []) ≡ 1
@@ -74,26 +75,12 @@ left_over x n = go (dec_lt x n)
     go (yes h) = lt-ltb 0 (n - x) (omega arith) ∙ sym (lt-ltb x n h)
     go (no h) = le-ltb 0 (n - x) (omega arith) ∙ sym (le-ltb x n (omega arith))
 
--- a fault has a number
-fault-some : (t l : List ℕ) (k n : ℕ) → piece_at t l ≡ fault k n → k ≡ 0 → ⊥
-unfolding piece_step
-fault-some t l k n e z = go (is_unknown t l) (is_unmatched t l []) (rw e at (step-number t l none [] 0))
-  where
-    go : (x y : Bool) → some k ≡ pick x (some unknown_marker) (pick y (some unmatched_marker) none) → ⊥
-    go true y h = let w : k ≡ 16 = cc in omega arith
-    go false true h = let w : k ≡ 17 = cc in omega arith
-    go false false h = let w : ◌≡◌ {A = ℕ} 0 1 = cc in omega arith
-
-fault-says : (k n : ℕ) (block : Bool) → (k ≡ 0 → ⊥) → Says k n block (stops k)
-fault-says zero n block h = absurd (h refl)
-fault-says (suc k) n block h = refl
-
 module _ (t s : List ℕ) (at : ℕ) (w : List ℕ) (b : Option ℕ) (low : ℕ) where
   abbrev text : Piece → List ℕ
   text p = take (bytes_of p (length s - at)) (drop at s)
 
   -- a run has its own text
-  run-nodes : (n : ℕ) → 1 ≤ n → n ≤ length s - at → (os : List OpenMarker) (ps : List ℕ) → PlacedOpens t s ps os → Says 0 (run_count (length ps) (take n (drop at s))) (is_some b) (piece_step b os at (shown t (drop at s) (found.Run n)))
+  run-nodes : (n : ℕ) → 1 ≤ n → n ≤ length s - at → (os : List OpenMarker) (ps : List ℕ) → PlacedOpens t s ps os → Says None (run_count (length ps) (take n (drop at s))) (is_some b) (piece_step b os at (shown t (drop at s) (found.Run n)))
   unfolding piece_step PlacedOpens
   run-nodes n more fits [] [] h =
       let x = find_byte (eqb bar) (take n (drop at s)) in
@@ -112,7 +99,7 @@ module _ (t s : List ℕ) (at : ℕ) (w : List ℕ) (b : Option ℕ) (low : ℕ)
       }
 
   -- a close: its window has the place of the innermost
-  close-says : (n : ℕ) (os : List OpenMarker) (ps : List ℕ) → PlacedOpens t s ps os → Kept w low ps → length ps ≤ low + window → (0 < length ps → low < length ps) → Says (piece_number s at w (length ps) (found.Close n)) 1 (is_some b) (piece_step b os at (shown t (drop at s) (found.Close n)))
+  close-says : (n : ℕ) (os : List OpenMarker) (ps : List ℕ) → PlacedOpens t s ps os → Kept w low ps → length ps ≤ low + window → (0 < length ps → low < length ps) → Says (piece_fault s at w (length ps) (found.Close n)) 1 (is_some b) (piece_step b os at (shown t (drop at s) (found.Close n)))
   unfolding piece_step PlacedOpens
   close-says n [] [] h k reach ready = refl
   close-says n [] (q ∷ ps) h k reach ready = absurd h
@@ -123,23 +110,23 @@ module _ (t s : List ℕ) (at : ℕ) (w : List ℕ) (b : Option ℕ) (low : ℕ)
       let top : innermost_place w (suc (length ps)) ≡ q = rw less (kept_top w low q ps (omega arith) (omega arith) k) in
       rw (ne_eqb (suc (length ps)) 0 (λ z. omega arith), top, ← h.1) (by_name (equal o.name (name_of (drop at s))))
     where
-      by_name : (x : Bool) → Says (pick x 0 unmatched_marker) 1 (is_some b) (pick x (goes (closes o.marker at n ∷ []) (state_with b os)) (stops unmatched_marker))
+      by_name : (x : Bool) → Says (pick x None (Some UnmatchedMarker)) 1 (is_some b) (pick x (goes (closes o.marker at n ∷ []) (state_with b os)) (stops unmatched_marker))
       by_name true = record { ns = closes o.marker at n ∷ []; st = state_with b os; is = refl; many = refl; blocks = refl }
       by_name false = refl
 
   end-many : (e : Option ℕ) (x : ReadNode) → length (with_block_end e at (x ∷ [])) ≡ one (is_some e) + 1
-  end-many none x = refl
-  end-many (some m) x = refl
+  end-many None x = refl
+  end-many (Some m) x = refl
 
   -- a block marker or a Chapter: no character or note may be open
-  block-says : (m n : ℕ) (os : List OpenMarker) (ps : List ℕ) → PlacedOpens t s ps os → Says (pick (eqb (length ps) 0) 0 unmatched_marker) (one (is_some b) + 1) true (piece_step b os at (shown t (drop at s) (found.Block m n)))
+  block-says : (m n : ℕ) (os : List OpenMarker) (ps : List ℕ) → PlacedOpens t s ps os → Says (block_fault (length ps)) (one (is_some b) + 1) true (piece_step b os at (shown t (drop at s) (found.Block m n)))
   unfolding piece_step PlacedOpens
   block-says m n [] [] h = record { ns = _; st = _; is = refl; many = end-many b _; blocks = refl }
   block-says m n [] (q ∷ ps) h = absurd h
   block-says m n (o ∷ os) [] h = absurd h
   block-says m n (o ∷ os) (q ∷ ps) h = rw (ne_eqb (suc (length ps)) 0 (λ z. omega arith))
 
-  chapter-says : (m n : ℕ) (os : List OpenMarker) (ps : List ℕ) → PlacedOpens t s ps os → Says (pick (eqb (length ps) 0) 0 unmatched_marker) (one (is_some b) + 1) false (piece_step b os at (shown t (drop at s) (found.Chapter m n)))
+  chapter-says : (m n : ℕ) (os : List OpenMarker) (ps : List ℕ) → PlacedOpens t s ps os → Says (block_fault (length ps)) (one (is_some b) + 1) false (piece_step b os at (shown t (drop at s) (found.Chapter m n)))
   unfolding piece_step PlacedOpens
   chapter-says m n [] [] h = record { ns = _; st = _; is = refl; many = end-many b _; blocks = refl }
   chapter-says m n [] (q ∷ ps) h = absurd h
@@ -153,7 +140,7 @@ module _ (t s : List ℕ) (at : ℕ) (w : List ℕ) (b : Option ℕ) (low : ℕ)
   milestone-many m n (suc x) (suc y) = rw (some_one x, some_one y)
 
   -- any piece that is found there
-  step-says : (p : Piece) (os : List OpenMarker) (ps : List ℕ) → shown t (drop at s) p ≡ piece_at t (drop at s) → 1 ≤ bytes_of p (length s - at) → bytes_of p (length s - at) ≤ length s - at → PlacedOpens t s ps os → Kept w low ps → length ps ≤ low + window → ReadyFor p (length ps) low → Says (piece_number s at w (length ps) p) (nodes_in (length ps) (is_some b) (text p) p) (block_after p (is_some b)) (piece_step b os at (shown t (drop at s) p))
+  step-says : (p : Piece) (os : List OpenMarker) (ps : List ℕ) → shown t (drop at s) p ≡ piece_at t (drop at s) → 1 ≤ bytes_of p (length s - at) → bytes_of p (length s - at) ≤ length s - at → PlacedOpens t s ps os → Kept w low ps → length ps ≤ low + window → ReadyFor p (length ps) low → Says (piece_fault s at w (length ps) p) (nodes_in (length ps) (is_some b) (text p) p) (block_after p (is_some b)) (piece_step b os at (shown t (drop at s) p))
   unfolding piece_step
   step-says (found.Run n) os ps is more fits h k reach ready = run-nodes n more fits os ps h
   step-says (found.Close n) os ps is more fits h k reach ready = close-says n os ps h k reach ready
@@ -162,7 +149,7 @@ module _ (t s : List ℕ) (at : ℕ) (w : List ℕ) (b : Option ℕ) (low : ℕ)
   step-says (found.Verse m n) os ps is more fits h k reach ready = record { ns = _; st = _; is = refl; many = refl; blocks = refl }
   step-says (found.Inline m n) os ps is more fits h k reach ready = record { ns = _; st = _; is = refl; many = refl; blocks = refl }
   step-says (found.Milestone m n x y) os ps is more fits h k reach ready = record { ns = _; st = _; is = refl; many = milestone-many m n x y; blocks = refl }
-  step-says (found.Fault f) os ps is more fits h k reach ready = fault-says f 0 (is_some b) (fault-some t (drop at s) f (length (drop at s)) (sym is))
+  step-says (found.Fault f) os ps is more fits h k reach ready = refl
 
   -- where the code reads the name of the innermost open
   nameable : (p : Piece) (os : List OpenMarker) (ps : List ℕ) → PlacedOpens t s ps os → Kept w low ps → length ps ≤ low + window → ReadyFor p (length ps) low → Nameable p s w (length ps)
@@ -207,11 +194,6 @@ innermost-inline t s w low [] h k reach held = absurd (omega arith)
 innermost-inline t s w low (q ∷ ps) h k reach held =
     let less : suc (length ps) - 1 ≡ length ps = omega arith in
     rw (less, kept_top w low q ps (omega arith) (omega arith) k) h.0
-
--- a number that isn't 0
-says-stops : (k n : ℕ) (block : Bool) (x : PieceStep) → (k ≡ 0 → ⊥) → Says k n block x → x ≡ stops k
-says-stops zero n block x h z = absurd (h refl)
-says-stops (suc k) n block x h z = z
 
 -- a piece has at most four nodes
 one-few : (b : Bool) → one b ≤ 1
@@ -261,8 +243,8 @@ none-ends : (t s : List ℕ) (n at : ℕ) (block : Bool) (os : List OpenMarker) 
 unfolding PlacedOpens
 none-ends t s n at block os (q ∷ ps) b h z e = absurd (omega arith)
 none-ends t s n at block (o ∷ os) [] b h z e = absurd h
-none-ends t s n at block [] [] none h z e = rw (← e)
-none-ends t s n at block [] [] (some m) h z e = rw (← e)
+none-ends t s n at block [] [] None h z e = rw (← e)
+none-ends t s n at block [] [] (Some m) h z e = rw (← e)
 
 -- the window reaches what is open behind a piece
 reaches-on : (p : Piece) (d low : ℕ) → low ≤ d → d ≤ low + window → ReadyFor p d low → (low ≤ depth_after p d) × (depth_after p d ≤ low + window)
@@ -276,17 +258,17 @@ reaches-on (found.Inline m n) d low a b r = (omega arith, omega arith)
 reaches-on (found.Milestone m n x y) d low a b r = (a, b)
 reaches-on (found.Fault k) d low a b r = (a, b)
 
-module _ (t s : List ℕ) (legible : Legible t s) where
+module _ {t s : List ℕ} (legible : Legible t s) where
   pub pass-start : Passing t s 0 1 0 false
   unfolding outcome PlacedOpens Inlines
   pass-start = record { st = nothing_open; ps = []; inside = omega arith; made = (utf8-exact s).0 legible.utf8; left = refl; placed = tt; reached = reached-start t s; inlines = tt; deep = refl; blocks = refl; few = omega arith; shallow = omega arith }
 
-  pub window-start : (w : List ℕ) → length w ≡ window → Windowed t s 0 0 0 w
-  window-start w long =
+  pub window-start : {w : List ℕ} → length w ≡ window → Windowed t s 0 0 0 w
+  window-start {w} long =
       let none_open = reached-here t s 0 [] (reached-start t s) in
       record { long = long; deep = rw none_open; from = omega arith; reach = omega arith; kept = rw none_open (kept-none w 0) }
 
-  module _ (at n d : ℕ) (block : Bool) (f : Passing t s at n d block) where
+  module _ {at n d : ℕ} {block : Bool} (f : Passing t s at n d block) where
     opened-here : open_from t s at 0 [] ≡ f.ps
     opened-here = reached-here t s at f.ps f.reached
 
@@ -298,20 +280,20 @@ module _ (t s : List ℕ) (legible : Legible t s) where
     end_none h none_open = none-ends t s n at block f.st.opened f.ps f.st.block f.placed (f.deep ∙ none_open) f.blocks ∙ sym (ap (counted_on n) (pass-end t s at f.st h)) ∙ f.left
 
     -- the place of the innermost open lies in the text
-    pub innermost-inside : (low : ℕ) (w : List ℕ) → Windowed t s at d low w → low < d → innermost_place w d ≤ length s
-    innermost-inside low w win held =
+    pub innermost-inside : {low : ℕ} {w : List ℕ} → Windowed t s at d low w → low < d → innermost_place w d ≤ length s
+    innermost-inside {low} {w} win held =
         let reach = win.reach in
         let deep = f.deep in
         rw (← deep) (nameable t s at w f.st.block low (found.Close 0) f.st.opened f.ps f.placed (rw opened-here at win.kept) (omega arith) (λ z. omega arith) (omega arith))
 
-    module _ (low : ℕ) (w : List ℕ) (win : Windowed t s at d low w) (p : Piece) (is : shown t (take (length s - at) (drop at s)) p ≡ piece_at t (take (length s - at) (drop at s))) (before-end : at < length s) (ready : ReadyFor p d low) where
+    module _ {low : ℕ} {w : List ℕ} (win : Windowed t s at d low w) (p : Piece) (is : shown t (take (length s - at) (drop at s)) p ≡ piece_at t (take (length s - at) (drop at s))) (before-end : at < length s) (ready : ReadyFor p d low) where
       here : shown t (drop at s) p ≡ piece_at t (drop at s)
       here = found_here t s at p is
 
       fits : bytes_of p (length s - at) ≤ length s - at
       fits = let h = next-inside t s at p is legible.table f.made before-end in omega arith
 
-      says : Says (piece_number s at w d p) (nodes_in d block (text t s at w f.st.block low p) p) (block_after p block) (piece_step f.st.block f.st.opened at (shown t (drop at s) p))
+      says : Says (piece_fault s at w d p) (nodes_in d block (text t s at w f.st.block low p) p) (block_after p block) (piece_step f.st.block f.st.opened at (shown t (drop at s) p))
       says =
           let reach = win.reach in
           rw (← f.deep, ← f.blocks)
@@ -325,8 +307,8 @@ module _ (t s : List ℕ) (legible : Legible t s) where
       stepped : counted_on n (pass_on (piece_step f.st.block f.st.opened at (shown t (drop at s) p)) at (pass_at t s (at + size_of (piece_at t (drop at s))))) ≡ counted_on 1 (outcome t s)
       stepped = rw here (sym (ap (counted_on n) (pass_step t s at legible.table f.made before-end f.st)) ∙ f.left)
 
-      pub pass-stops : (piece_number s at w d p ≡ 0 → ⊥) → fault_at (piece_number s at w d p) at ≡ counted_on 1 (outcome t s)
-      pass-stops h = rw (says-stops (piece_number s at w d p) _ _ _ h says) at stepped
+      pub pass-stops : (r : Reason) → piece_fault s at w d p ≡ Some r → fault_at (number_of r) at ≡ counted_on 1 (outcome t s)
+      pass-stops r e = rw (rw e at says) at stepped
 
       -- where it goes on: the place, the nodes and the window behind the piece
       abbrev next : ℕ
@@ -341,7 +323,7 @@ module _ (t s : List ℕ) (legible : Legible t s) where
       next-deep : length (places_after (piece_at t (drop at s)) at f.ps) ≡ depth_after p d
       next-deep = rw (← here, ← f.deep) (depth-piece t (drop at s) at p f.ps)
 
-      module _ (goes-on-here : piece_number s at w d p ≡ 0) where
+      module _ (goes-on-here : piece_fault s at w d p ≡ None) where
         step : Goes (nodes_in d block (text t s at w f.st.block low p) p) (block_after p block) (piece_step f.st.block f.st.opened at (shown t (drop at s) p))
         step = rw goes-on-here at says
 
@@ -384,14 +366,14 @@ module _ (t s : List ℕ) (legible : Legible t s) where
           }
 
       -- from what the functions answer
-      module _ (size more d' : ℕ) (block' : Bool) (w' : List ℕ) where
-        pub pass-next : size ≡ bytes_of p (length s - at) → more ≡ nodes_in d block (take (at + size - at) (drop at s)) p → w' ≡ place_kept w low d at p → block' ≡ block_after p block → d' ≡ depth_after p d → piece_number s at w d p ≡ 0 → Passing t s (at + size) (n + more) d' block' × Windowed t s (at + size) d' low w'
+      module _ {size more d' : ℕ} {block' : Bool} {w' : List ℕ} where
+        pub pass-next : size ≡ bytes_of p (length s - at) → more ≡ nodes_in d block (take (at + size - at) (drop at s)) p → w' ≡ place_kept w low d at p → block' ≡ block_after p block → d' ≡ depth_after p d → piece_fault s at w d p ≡ None → Passing t s (at + size) (n + more) d' block' × Windowed t s (at + size) d' low w'
         pass-next a b e f g z =
             let whole : at + bytes_of p (length s - at) - at ≡ bytes_of p (length s - at) = omega arith in
             rw (b, e, f, g, a, whole) (pass-goes z, window-goes)
 
     -- a close of the innermost open, without a look at the piece
-    module _ (low : ℕ) (w : List ℕ) (win : Windowed t s at d low w) (before-end : at < length s) (r : ℕ) (h : InnermostClosed s at w d low r) where
+    module _ {low : ℕ} {w : List ℕ} (win : Windowed t s at d low w) (before-end : at < length s) {r : ℕ} (h : InnermostClosed s at w d low r) where
       own : OwnClose t (drop (innermost_place w d) s) (drop at s) r
       own =
           let reach = win.reach in
@@ -399,15 +381,15 @@ module _ (t s : List ℕ) (legible : Legible t s) where
           h.close t (rw (← f.deep) (innermost-inline t s w low f.ps f.inlines (rw opened-here at win.kept) (rw f.deep reach) (rw f.deep held)))
 
       is-close : shown t (take (length s - at) (drop at s)) (found.Close r) ≡ piece_at t (take (length s - at) (drop at s))
-      is-close = rw (rest-is s at) own.is
+      is-close = rw (rest_is s at) own.is
 
-      pub close-inside : at + r ≤ length s
-      close-inside = next-inside t s at (found.Close r) is-close legible.table f.made before-end
+      pub close-onward : Onward s at r
+      close-onward = onward t s at (found.Close r) is-close legible f.made before-end
 
-      no_number : piece_number s at w d (found.Close r) ≡ 0
-      no_number =
+      no_fault : piece_fault s at w d (found.Close r) ≡ None
+      no_fault =
           let held = h.some in
           rw (ne_eqb d 0 (λ z. omega arith), own.same)
 
       pub close-next : Passing t s (at + r) (n + 1) (d - 1) block × Windowed t s (at + r) (d - 1) low w
-      close-next = pass-next low w win (found.Close r) is-close before-end (λ z. h.some) r 1 (d - 1) block w refl refl refl refl refl no_number
+      close-next = pass-next win (found.Close r) is-close before-end (λ z. h.some) refl refl refl refl refl no_fault

@@ -96,11 +96,11 @@ pub record Filling (t s : List ℕ) (to low : ℕ) (w : List ℕ) (at d : ℕ) :
   pub long : length w ≡ window
   pub kept : Kept w low ps
 
-module _ (t s : List ℕ) (legible : Legible t s) (to low : ℕ) where
-  pub fill_start : (w : List ℕ) → length w ≡ window → Filling t s to low w 0 0
-  fill_start w long = record { ps = []; inside = omega arith; made = (utf8-exact s).0 legible.utf8; same = refl; deep = refl; few = omega arith; long = long; kept = kept-none w low }
+module _ {t s : List ℕ} (legible : Legible t s) {to low : ℕ} where
+  pub fill_start : {w : List ℕ} → length w ≡ window → Filling t s to low w 0 0
+  fill_start {w} long = record { ps = []; inside = omega arith; made = (utf8-exact s).0 legible.utf8; same = refl; deep = refl; few = omega arith; long = long; kept = kept-none w low }
 
-  module _ (w : List ℕ) (at d : ℕ) (f : Filling t s to low w at d) where
+  module _ {w : List ℕ} {at d : ℕ} (f : Filling t s to low w at d) where
     pub fill_end : to ≤ at → Kept w low (open_from t s to 0 [])
     fill_end h = rw (f.same, open-here t s to at f.ps h) f.kept
 
@@ -122,10 +122,6 @@ module _ (t s : List ℕ) (legible : Legible t s) (to low : ℕ) where
           long = kept-long w low d at p ∙ f.long;
           kept = rw (← here, ← f.deep) (kept_piece t (drop at s) w low at p f.ps f.long f.kept);
         }
-
--- after it
-pub filled : (t s w v : List ℕ) (at d low r : ℕ) → Windowed t s at d low w → r ≡ d - window → length v ≡ window → Kept v r (open_from t s at 0 []) → Windowed t s at d r v × (0 < d → r < d)
-filled t s w v at d low r h e long k = (record { long = long; deep = h.deep; from = omega arith; reach = omega arith; kept = k }, λ z. omega arith)
 
 -- the outermost place given up, where the window is full
 pub raised : (t s w : List ℕ) (at d low : ℕ) → Windowed t s at d low w → low + window ≤ d → Windowed t s at d (low + 1) w

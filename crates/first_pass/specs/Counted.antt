@@ -1,22 +1,24 @@
 -- What the functions of the first pass need and promise.
 use Rattle.std.specs.Prelude.{ℕ, ◌+◌, ◌-◌, ◌%◌, ◌<◌, ◌≤◌, ◌≡◌, Bool, true, false, ◌&&◌, List, [], eqb, ltb, leb, length, get_or, set, drop}
+use Rattle.std.specs.Prelude.{Option, Some, None, Result, Ok, Err}
 use Rattle.text.specs.Pick.{pick}
 use Rattle.text.specs.Bytes.{equal}
 use Rattle.text.specs.Characters.{find_byte}
 use Rattle.cursor.specs.Names.{name_of}
-use Rattle.refusals.specs.Refusal.{unmatched_marker}
+use Rattle.refusals.specs.Reasons.{number_of}
+use Rattle.refusals.specs.declared.Reason.{Reason}
+use Rattle.refusals.specs.declared.Reason.TheVariants.{UnmatchedMarker}
+use Rattle.refusals.specs.declared.Refusal.{Refusal}
 use Rattle.reader_spec.specs.Pieces.{bar, piece_at}
 use Rattle.reader_spec.specs.InnerSteps.{Count, nodes, fault_at, open_from, window, Kept}
 use Rattle.pieces.specs.Closes.{is_inline, OwnClose}
 use Rattle.pieces.specs.declared.Piece.{Piece}
 use Rattle.pieces.specs.declared.Piece.TheVariants as found
-use Rattle.first_pass.specs.declared.Surveyed.{Surveyed}
-use Rattle.first_pass.specs.declared.Surveyed.TheVariants as surveyed
 
 -- what the answer of the first pass says: a fault with its place, or the number of nodes
-abbrev pub count_of : Surveyed → Count
-count_of (surveyed.Nodes n) = nodes n
-count_of (surveyed.Fault number place) = fault_at number place
+abbrev pub count_of : Result ℕ Refusal → Count
+count_of (Ok n) = nodes n
+count_of (Err r) = fault_at (number_of r.reason) r.place
 
 abbrev pub one : Bool → ℕ
 one true = 1
@@ -52,20 +54,24 @@ block_after (found.Fault k) b = b
 abbrev pub innermost_place : List ℕ → ℕ → ℕ
 innermost_place w d = get_or w ((d - 1) % window) 0
 
--- a close at a place of the text: 17 where nothing is open, or the innermost has another name; 0 for none
-abbrev pub close_number : List ℕ → ℕ → List ℕ → ℕ → ℕ
-close_number s at w d = pick (eqb d 0) unmatched_marker (pick (equal (name_of (drop (innermost_place w d) s)) (name_of (drop at s))) 0 unmatched_marker)
+-- a close at a place of the text: 17 where nothing is open, or the innermost has another name
+abbrev pub close_fault : List ℕ → ℕ → List ℕ → ℕ → Option Reason
+close_fault s at w d = pick (eqb d 0) (Some UnmatchedMarker) (pick (equal (name_of (drop (innermost_place w d) s)) (name_of (drop at s))) None (Some UnmatchedMarker))
 
--- the number that a piece is turned back with, 0 for none
-abbrev pub piece_number : List ℕ → ℕ → List ℕ → ℕ → Piece → ℕ
-piece_number s at w d (found.Run n) = 0
-piece_number s at w d (found.Close n) = close_number s at w d
-piece_number s at w d (found.Block m n) = pick (eqb d 0) 0 unmatched_marker
-piece_number s at w d (found.Chapter m n) = pick (eqb d 0) 0 unmatched_marker
-piece_number s at w d (found.Verse m n) = 0
-piece_number s at w d (found.Inline m n) = 0
-piece_number s at w d (found.Milestone m n x y) = 0
-piece_number s at w d (found.Fault k) = k
+-- a block marker or a Chapter: 17 where a character or note is open
+abbrev pub block_fault : ℕ → Option Reason
+block_fault d = pick (eqb d 0) None (Some UnmatchedMarker)
+
+-- the reason that a piece is turned back with
+abbrev pub piece_fault : List ℕ → ℕ → List ℕ → ℕ → Piece → Option Reason
+piece_fault s at w d (found.Run n) = None
+piece_fault s at w d (found.Close n) = close_fault s at w d
+piece_fault s at w d (found.Block m n) = block_fault d
+piece_fault s at w d (found.Chapter m n) = block_fault d
+piece_fault s at w d (found.Verse m n) = None
+piece_fault s at w d (found.Inline m n) = None
+piece_fault s at w d (found.Milestone m n x y) = None
+piece_fault s at w d (found.Fault r) = Some r
 
 -- the window behind a piece: it keeps the place of a character or note marker that it reaches
 abbrev pub place_kept : List ℕ → ℕ → ℕ → ℕ → Piece → List ℕ

@@ -4,34 +4,20 @@
 // the text, from which their names are read again. Where closes have emptied the window, it is filled again from the text's start.
 #![tactic(auto)]
 
-ghost use Rattle.std.specs.Prelude.{◌≡◌, [], ◌+◌, ◌-◌, ◌<◌, ◌≤◌, ◌&&◌, eqb, leb, ltb, length};
-ghost use Rattle.text.specs.Pick.{pick};
-ghost use Rattle.refusals.specs.Refusal.{unmatched_marker};
+ghost use Rattle.std.specs.Prelude.{◌≡◌, [], ◌<◌, ◌≤◌, IfSome, length};
 ghost use Rattle.table.specs.Inner.{Indexed, Chained};
 ghost use Rattle.reader_spec.specs.Pass.{outcome};
 ghost use Rattle.reader_spec.specs.Promise.{Legible};
 ghost use Rattle.reader_spec.specs.InnerSteps.{counted_on, open_from, Kept};
 ghost use Rattle.reader_spec.specs.InnerSteps;
-ghost use Rattle.first_pass.specs.Counted.{count_of, one, run_count, nodes_in, block_after, innermost_place, close_number, piece_number, place_kept, Windowed, ReadyFor, Nameable, InnermostClosed};
+ghost use Rattle.first_pass.specs.Counted.{count_of, run_count, nodes_in, block_after, innermost_place, close_fault, piece_fault, place_kept, Windowed, ReadyFor, Nameable, InnermostClosed};
 
 use pieces::Piece;
-
-// Number 16 or 17 with its place, or how many nodes there are, the root among them.
-#[derive(Clone, Copy)]
-pub enum Surveyed {
-    Nodes(usize),
-    Fault(u64, usize),
-}
+use refusals::{Reason, Refusal};
 
 // How many places the window keeps. A text of 1 MiB has at most 209,715 opens that are closed, so it is read again from its start
 // at most 25 times.
 const WINDOW: usize = 8192;
-
-fn one_if(b: bool) -> usize
-    ensures { (result ≡ one b) × (result ≤ 1) }
-{
-    if b { 1 } else { 0 }
-}
 
 // How many nodes a run gives: with nothing open one Text, else what stands before its first `|` and what stands from there on.
 fn nodes_of_run(l: &[u8], depth: usize) -> usize
@@ -41,7 +27,7 @@ fn nodes_of_run(l: &[u8], depth: usize) -> usize
         return 1;
     }
     let bar = pieces::run_bar(l);
-    one_if(0 < bar) + one_if(bar < l.len())
+    usize::from(0 < bar) + usize::from(bar < l.len())
 }
 
 // How many nodes a piece gives that is no fault; `l` is its text.
@@ -50,11 +36,10 @@ fn nodes_of(p: Piece, l: &[u8], depth: usize, block: bool) -> usize
 {
     match p {
         Piece::Run(_) => nodes_of_run(l, depth),
-        Piece::Block(_, _) => one_if(block) + 1,
-        Piece::Chapter(_, _) => one_if(block) + 1,
-        Piece::Milestone(_, _, x, y) => 2 + one_if(0 < x) + one_if(0 < y),
+        Piece::Block(_, _) | Piece::Chapter(_, _) => usize::from(block) + 1,
+        Piece::Milestone(_, _, x, y) => 2 + usize::from(0 < x) + usize::from(0 < y),
+        Piece::Close(_) | Piece::Verse(_, _) | Piece::Inline(_, _) => 1,
         Piece::Fault(_) => 0,
-        _ => 1,
     }
 }
 
@@ -69,25 +54,13 @@ fn block_after(p: Piece, block: bool) -> bool
     }
 }
 
-// Whether the window that keeps places from `low` on reaches a marker with `depth` others open around it.
-fn reaches(low: usize, depth: usize) -> bool
-    requires { low < 4294967296 }
-    ensures { result ≡ (leb low depth && ltb depth (low + InnerSteps.window)) }
-{
-    if low <= depth {
-        depth < low + WINDOW
-    } else {
-        false
-    }
-}
-
 // Keeps the place of a character or note marker that the window reaches; `depth` others are open around it.
 fn keep_place(p: Piece, at: usize, depth: usize, low: usize, window: &mut [u32])
     requires { (length window.old ≡ InnerSteps.window) × (at < 4294967296) × (low < 4294967296) }
     ensures { window.new ≡ place_kept window.old low depth at p }
 {
     if let Piece::Inline(_, _) = p {
-        if reaches(low, depth) {
+        if (low..low + WINDOW).contains(&depth) {
             window[depth % WINDOW] = at as u32;
         }
     }
@@ -117,13 +90,6 @@ fn fill_window(
     }
 }
 
-// From where on a window keeps the places of the innermost opens, of `depth` that are open.
-fn lowest(depth: usize) -> usize
-    ensures { result ≡ depth - InnerSteps.window }
-{
-    if depth < WINDOW { 0 } else { depth - WINDOW }
-}
-
 // The window for a close at a place: filled again where it has no place left. Gives from where on it keeps places.
 fn refill(
     table: &[u8],
@@ -142,12 +108,13 @@ fn refill(
     if low < depth {
         return low;
     }
-    let first = lowest(depth);
+    let first = depth.saturating_sub(WINDOW);
     fill_window(table, index, entries, chains, s, at, first, window);
     first
 }
 
 // The window for a piece at a place. Where it is full it gives up the outermost place for a character or note marker.
+#[tactic(auto, using(crate::proofs::Windows::raised))]
 fn prepare(
     table: &[u8],
     index: &[u64],
@@ -170,61 +137,42 @@ fn prepare(
     }
 }
 
-fn wide(n: u32) -> usize
-    ensures { result ≡ n }
-{
-    n as usize
-}
-
-// The number of a close at a place, 0 for none: it needs the name of the innermost open.
-fn close_number(s: &[u8], at: usize, depth: usize, window: &[u32]) -> u64
+// The reason that turns a close at a place back: it needs the name of the innermost open.
+fn close_fault(s: &[u8], at: usize, depth: usize, window: &[u32]) -> Option<Reason>
     requires { (at ≤ length s.now) × (length window.now ≡ InnerSteps.window) × (0 < depth → innermost_place window.now depth ≤ length s.now) }
-    ensures { result ≡ close_number s.now at window.now depth }
+    ensures { result ≡ close_fault s.now at window.now depth }
 {
-    if depth == 0 {
-        return refusals::UNMATCHED_MARKER;
+    if 0 < depth {
+        let open = window[(depth - 1) % WINDOW] as usize;
+        if text::equal(cursor::name_of(&s[open..]), cursor::name_of(&s[at..])) {
+            return None;
+        }
     }
-    let open = wide(window[(depth - 1) % WINDOW]);
-    if text::equal(cursor::name_of(&s[open..]), cursor::name_of(&s[at..])) {
-        return 0;
-    }
-    refusals::UNMATCHED_MARKER
+    Some(Reason::UnmatchedMarker)
 }
 
-// The number of a block marker or a Chapter, 0 for none: no character or note may be open.
-fn block_number(depth: usize) -> u64
-    ensures { result ≡ pick (eqb depth 0) 0 unmatched_marker }
-{
-    if depth == 0 {
-        0
-    } else {
-        refusals::UNMATCHED_MARKER
-    }
-}
-
-// The number that a piece at a place is turned back with, 0 for none.
-fn number_of(s: &[u8], at: usize, p: Piece, depth: usize, window: &[u32]) -> u64
+// The reason that turns a piece at a place back. No character or note may be open at a block marker or a Chapter.
+fn piece_fault(s: &[u8], at: usize, p: Piece, depth: usize, window: &[u32]) -> Option<Reason>
     requires { (at ≤ length s.now) × (length window.now ≡ InnerSteps.window) × Nameable p s.now window.now depth }
-    ensures { result ≡ piece_number s.now at window.now depth p }
+    ensures { result ≡ piece_fault s.now at window.now depth p }
 {
     match p {
-        Piece::Close(_) => close_number(s, at, depth, window),
-        Piece::Block(_, _) => block_number(depth),
-        Piece::Chapter(_, _) => block_number(depth),
-        Piece::Fault(k) => k,
-        _ => 0,
+        Piece::Close(_) => close_fault(s, at, depth, window),
+        Piece::Block(_, _) | Piece::Chapter(_, _) => (0 < depth).then_some(Reason::UnmatchedMarker),
+        Piece::Fault(reason) => Some(reason),
+        _ => None,
     }
 }
 
-// The bytes of a close of the innermost open marker at a place, if the window has that marker, else 0, which says nothing.
-fn innermost_close(s: &[u8], at: usize, depth: usize, low: usize, window: &[u32]) -> usize
+// The bytes of a close of the innermost open marker at a place, if the window has that marker, else None, which says nothing.
+fn innermost_close(s: &[u8], at: usize, depth: usize, low: usize, window: &[u32]) -> Option<usize>
     requires { (at ≤ length s.now) × (length window.now ≡ InnerSteps.window) × (low < depth → innermost_place window.now depth ≤ length s.now) }
-    ensures { 0 < result → InnermostClosed s.now at window.now depth low result }
+    ensures { IfSome result (λ r. InnermostClosed s.now at window.now depth low r) }
 {
     if depth <= low {
-        return 0;
+        return None;
     }
-    let open = wide(window[(depth - 1) % WINDOW]);
+    let open = window[(depth - 1) % WINDOW] as usize;
     pieces::own_close(&s[open..], &s[at..])
 }
 
@@ -236,7 +184,7 @@ fn survey_with(
     chains: &[u16],
     s: &[u8],
     window: &mut [u32],
-) -> Surveyed
+) -> Result<usize, Refusal>
     requires { Indexed table.now index.now entries × Chained table.now chains.now × Legible table.now s.now × (length window.old ≡ InnerSteps.window) }
     ensures { count_of result ≡ counted_on 1 (outcome table.now s.now) }
 {
@@ -246,8 +194,7 @@ fn survey_with(
     let mut low: usize = 0;
     let mut block = false;
     while at < s.len() {
-        let n = innermost_close(s, at, depth, low, window);
-        if n != 0 {
+        if let Some(n) = innermost_close(s, at, depth, low, window) {
             at += n;
             nodes += 1;
             depth -= 1;
@@ -255,9 +202,8 @@ fn survey_with(
         }
         let p = pieces::piece_at(table, index, entries, chains, &s[at..]);
         low = prepare(table, index, entries, chains, s, at, p, depth, low, window);
-        let number = number_of(s, at, p, depth, window);
-        if number != 0 {
-            return Surveyed::Fault(number, at);
+        if let Some(reason) = piece_fault(s, at, p, depth, window) {
+            return Err(reason.at(at));
         }
         let to = at + pieces::size_of(p, s.len() - at);
         nodes += nodes_of(p, &s[at..to], depth, block);
@@ -267,13 +213,19 @@ fn survey_with(
         at = to;
     }
     if 0 < depth {
-        return Surveyed::Fault(refusals::UNMATCHED_MARKER, at);
+        return Err(Reason::UnmatchedMarker.at(at));
     }
-    Surveyed::Nodes(nodes + one_if(block))
+    Ok(nodes + usize::from(block))
 }
 
-// The first fault of a text, or the number of its nodes.
-pub fn survey(table: &[u8], index: &[u64], entries: usize, chains: &[u16], s: &[u8]) -> Surveyed
+// The first fault of a text, number 16 or 17 with its place, or how many nodes there are, the root among them.
+pub fn survey(
+    table: &[u8],
+    index: &[u64],
+    entries: usize,
+    chains: &[u16],
+    s: &[u8],
+) -> Result<usize, Refusal>
     requires { Indexed table.now index.now entries × Chained table.now chains.now × Legible table.now s.now }
     ensures { count_of result ≡ counted_on 1 (outcome table.now s.now) }
 {

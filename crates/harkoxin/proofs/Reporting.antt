@@ -4,20 +4,18 @@ use Prim.Native.Nat.{ℕ, ◌+◌, ◌*◌, ◌/◌, ◌≤◌}
 use mathlib.Core.Path.{◌≡◌, refl, sym, ap, ◌∙◌}
 use mathlib.Core.Bool.{Bool, true, false}
 use mathlib.Core.List.{List, ◌++◌}
-use mathlib.Core.Option.{none}
+use Rattle.std.specs.Prelude.{Some, None}
 use native.Mathlib.Nat.{zero-add}
 use native.Mathlib.Omega.{arith}
 use lib.Dec.{ltb}
 use lib.ListN.{length}
 use borrow.Author.Tests.{ltb-true}
-use Rattle.refusals.specs.Refusal.{refuse}
+use Rattle.refusals.specs.Refusal.{Refusal}
 use Rattle.tape.specs.Forest.{Accepted}
 use Rattle.buffer.specs.Over.{over}
 use Rattle.buffer.proofs.Over.{over-over}
 use Rattle.definition.specs.Outcome.{Lent, Answer, refused, checked, refusal, answer, list_after, list_of, checked_of}
 use Rattle.definition.specs.declared.OpenStart.{OpenStart}
-use Rattle.validate.specs.declared.InputCheck.{InputCheck}
-use Rattle.validate.specs.declared.InputCheck.TheVariants as input
 use Rattle.validate.proofs.Whole.{refusal_is}
 use Rattle.messages.specs.Answer.{first_nine}
 use Rattle.messages.proofs.Nine.{nine-none, is-accepted, is-short}
@@ -27,7 +25,7 @@ use Rattle.harkoxin.specs.Words.{answer_words, messages_words}
 use Rattle.harkoxin.specs.Report.{held_of, held_in, held_answer, turned_words, report_answer, report_text, report_ends}
 use Rattle.text.specs.Pick.{pick}
 use Rattle.table.specs.Inner.{Indexed}
-use Rattle.validate.specs.Inner.{check_refusal, from_table}
+use Rattle.validate.specs.Inner.{from_table}
 use Rattle.validate.specs.Entry.{lent}
 
 pub nine_words : (a : Answer) → length (answer_words a) ≡ 9
@@ -44,11 +42,11 @@ module _ (table s t seen : List ℕ) (opens : List OpenStart) (l : List ℕ) whe
   it = lent table s t seen opens l
 
   -- turned back
-  module _ (g : InputCheck) (a b : ℕ) (a-is : a ≡ length seen) (b-is : b ≡ length opens) (says : check_refusal g ≡ from_table table s t a b) (x y : ℕ) (e : g ≡ input.Refused x y) where
-    turned : refusal it ≡ refuse x y
-    turned = sym (refusal_is table s t seen opens l) ∙ sym (says ∙ rw (a-is, b-is)) ∙ ap check_refusal e
+  module _ (a b : ℕ) (a-is : a ≡ length seen) (b-is : b ≡ length opens) (r : Refusal) (says : Some r ≡ from_table table s t a b) where
+    turned : refusal it ≡ Some r
+    turned = sym (refusal_is table s t seen opens l) ∙ sym (says ∙ rw (a-is, b-is))
 
-    pub turned-words : (out out₁ : List ℕ) (n : ℕ) → out₁ ≡ over out 0 (turned_words x y) → out₁ ≡ over out 0 (answer_words (answer it) ++ messages_words (report_answer it n))
+    pub turned-words : (out out₁ : List ℕ) (n : ℕ) → out₁ ≡ over out 0 (turned_words r.number r.place) → out₁ ≡ over out 0 (answer_words (answer it) ++ messages_words (report_answer it n))
     turned-words out out₁ n h = h ∙ rw turned
 
     pub turned-text : (text : List ℕ) → text ≡ report_text it text
@@ -58,11 +56,11 @@ module _ (table s t seen : List ℕ) (opens : List OpenStart) (l : List ℕ) whe
     turned-ends n ends = rw turned
 
   -- not turned back
-  module _ (unturned : none ≡ from_table table s t (length seen) (length opens)) where
-    nothing : refusal it ≡ none
+  module _ (unturned : None ≡ from_table table s t (length seen) (length opens)) where
+    nothing : refusal it ≡ None
     nothing = sym (refusal_is table s t seen opens l) ∙ sym unturned
 
-    nine : first_nine table s t ≡ none
+    nine : first_nine table s t ≡ None
     nine = nine-none it nothing
 
     module _ (a : Answer) (a-is : a ≡ answer it) (l₁ : List ℕ) (l-is : l₁ ≡ list_after it) where

@@ -1,6 +1,6 @@
 -- Answers as words: the verdict, a refusal's number and place, then counts.
 use Rattle.std.specs.Prelude.{ℕ, Bool, true, false, List, [], ◌∷◌}
-use Rattle.std.proofs.Math.Option.{Option, some, none}
+use Rattle.std.specs.Prelude.{Option, Some, None}
 use Rattle.refusals.specs.Refusal.{Refusal}
 use Rattle.definition.specs.Outcome.{Answer, refused, checked}
 use Rattle.messages.specs.Answer as message
@@ -39,8 +39,8 @@ messages_words (messages.stopped records bytes r) = 1 ∷ r.number ∷ r.place �
 
 -- the verdict (0 counted, 2 refused), a refusal's number and place
 abbrev pub tally_words : Option Refusal → List ℕ
-tally_words none = 0 ∷ 0 ∷ 0 ∷ []
-tally_words (some r) = 2 ∷ r.number ∷ r.place ∷ []
+tally_words None = 0 ∷ 0 ∷ 0 ∷ []
+tally_words (Some r) = 2 ∷ r.number ∷ r.place ∷ []
 
 -- the verdict (0 marked, 2 refused), a refusal's number and place, loss and mark
 abbrev pub mark_words : mark.MarkAnswer → List ℕ

@@ -2,8 +2,9 @@
 #![tactic(auto)]
 
 ghost use Rattle.std.specs.Prelude.{◌≡◌, ◌++◌, ◌*◌, ◌≤◌, length};
-ghost use Rattle.definition.specs.Outcome.{answer, list_after, seen_after, open_after};
-ghost use Rattle.validate.specs.Entry.{answer_of};
+ghost use Rattle.definition.specs.Outcome.{answer, checked, list_after, seen_after, open_after};
+ghost use Rattle.refusals.specs.Reasons.{number_of, refusal_in};
+ghost use Rattle.validate.specs.Entry.{answer_of, report_of};
 ghost use Rattle.tape.specs.Forest.{Accepted};
 ghost use Rattle.buffer.specs.Over.{over};
 ghost use Rattle.messages.specs.Answer.{message_answer, message_after};
@@ -12,7 +13,7 @@ ghost use Rattle.tally.specs.Tally as tally;
 ghost use Rattle.tally.specs.Tally.{tally_refusal, counts_after};
 ghost use Rattle.messages.specs.Messages.{texts_of, ends_from, messages_answer, messages_answer_of, messages_after, ends_after};
 ghost use Rattle.message_texts.specs.Filled.{joined};
-ghost use Rattle.harkoxin.specs.Words.{answer_words, report_words, refusal_words, message_words, messages_words, tally_words, mark_words, read_words};
+ghost use Rattle.harkoxin.specs.Words.{answer_words, refusal_words, message_words, messages_words, tally_words, mark_words, read_words};
 ghost use Rattle.harkoxin.specs.Report.{held_of, held_in, held_answer, turned_words, report_answer, report_text, report_ends};
 ghost use Rattle.table.specs.Inner.{Indexed};
 ghost use Rattle.mark.specs.Mark.{mark_answer, mark_answer_of};
@@ -21,47 +22,44 @@ ghost use Rattle.reader.specs.Read.{read_answer_of};
 ghost use Rattle.validate.specs.Entry.{lent};
 
 use definition::OpenStart;
-use mark::MarkAnswer;
-use messages::{MessageAnswer, MessageRequest, MessagesAnswer};
-use reader::ReadAnswer;
-use tally::Tallied;
-use validate::{Answer, InputCheck, Report};
+use mark::PaperMark;
+use messages::{MessageRequest, Texts};
+use refusals::Refusal;
+use validate::Report;
 
 // Writes words over a lent list from a place on, as far as there is room.
 fn write_words(words: &[u64], at: usize, out: &mut [u64])
     ensures { out.new ≡ over out.old at words.now }
 {
     let n = buffer::fitting(words.len(), out.len(), at);
-    let mut i: usize = 0;
-    while i < n {
-        out[at + i] = words[i];
-        i += 1;
+    if at < out.len() {
+        out[at..at + n].copy_from_slice(&words[..n]);
     }
 }
 
-fn write_report(verdict: u64, r: Report, out: &mut [u64])
-    ensures { out.new ≡ over out.old 0 (report_words verdict r.total r.written r.verses r.errors r.warnings r.infos) }
+fn write_report(r: Report, out: &mut [u64])
+    ensures { out.new ≡ over out.old 0 (answer_words (checked (report_of r))) }
 {
+    let verdict = u64::from(r.is_cut);
     let words = [
         verdict, 0, 0, r.total, r.written, r.verses, r.errors, r.warnings, r.infos,
     ];
     write_words(&words, 0, out);
 }
 
-fn write_refusal(number: u64, place: u64, out: &mut [u64])
-    ensures { out.new ≡ over out.old 0 (refusal_words number place) }
+fn write_refusal(r: Refusal, out: &mut [u64])
+    ensures { out.new ≡ over out.old 0 (refusal_words (number_of r.reason) r.place) }
 {
-    let words = [2, number, place, 0, 0, 0, 0, 0, 0];
+    let words = [2, r.reason.number(), r.place as u64, 0, 0, 0, 0, 0, 0];
     write_words(&words, 0, out);
 }
 
-fn write_answer(a: Answer, out: &mut [u64])
+fn write_answer(a: Result<Report, Refusal>, out: &mut [u64])
     ensures { out.new ≡ over out.old 0 (answer_words (answer_of a)) }
 {
     match a {
-        Answer::Checked(r) => write_report(0, r, out),
-        Answer::Cut(r) => write_report(1, r, out),
-        Answer::Refused(number, place) => write_refusal(number, place, out),
+        Ok(r) => write_report(r, out),
+        Err(r) => write_refusal(r, out),
     }
 }
 
@@ -85,12 +83,12 @@ pub extern "C" fn harkoxin_check(
     write_answer(validate::check(table, source, tape, seen, opens, list), out)
 }
 
-fn write_message_answer(a: MessageAnswer, out: &mut [u64])
+fn write_message_answer(a: Result<usize, Refusal>, out: &mut [u64])
     ensures { out.new ≡ over out.old 0 (message_words (message.message_answer_of a)) }
 {
     match a {
-        MessageAnswer::Written(n) => write_words(&[0, 0, 0, n as u64], 0, out),
-        MessageAnswer::Refused(number, place) => write_words(&[2, number, place, 0], 0, out),
+        Ok(n) => write_words(&[0, 0, 0, n as u64], 0, out),
+        Err(r) => write_words(&[2, r.reason.number(), r.place as u64, 0], 0, out),
     }
 }
 
@@ -122,21 +120,24 @@ pub extern "C" fn harkoxin_message<'a>(
     write_message_answer(messages::message(table, source, tape, q, text), out)
 }
 
-fn write_messages_answer(a: MessagesAnswer, at: usize, out: &mut [u64])
+fn write_messages_answer(a: Result<Texts, Refusal>, at: usize, out: &mut [u64])
     ensures { out.new ≡ over out.old at (messages_words (messages_answer_of a)) }
 {
     match a {
-        MessagesAnswer::All(records, bytes) => write_words(
-            &[0, 0, 0, records as u64, bytes as u64],
-            at,
-            out,
-        ),
-        MessagesAnswer::Stopped(records, bytes, number, place) => write_words(
-            &[1, number, place, records as u64, bytes as u64],
-            at,
-            out,
-        ),
-        MessagesAnswer::Refused(number, place) => write_words(&[2, number, place, 0, 0], at, out),
+        Err(r) => write_words(&[2, r.reason.number(), r.place as u64, 0, 0], at, out),
+        Ok(t) => match t.stop {
+            None => write_words(&[0, 0, 0, t.records as u64, t.bytes as u64], at, out),
+            Some(r) => {
+                let words = [
+                    1,
+                    r.reason.number(),
+                    r.place as u64,
+                    t.records as u64,
+                    t.bytes as u64,
+                ];
+                write_words(&words, at, out)
+            }
+        },
     }
 }
 
@@ -165,13 +166,12 @@ pub extern "C" fn harkoxin_messages<'a>(
 }
 
 // How many findings the list of a checked document holds.
-fn held(a: Answer) -> u64
+fn held(a: Result<Report, Refusal>) -> u64
     ensures { result ≡ held_of (answer_of a) }
 {
     match a {
-        Answer::Checked(r) => r.written,
-        Answer::Cut(r) => r.written,
-        Answer::Refused(number, place) => 0,
+        Ok(r) => r.written,
+        Err(_) => 0,
     }
 }
 
@@ -182,7 +182,7 @@ fn write_held<'a>(
     entries: usize,
     source: &'a [u8],
     tape: &[u8],
-    a: Answer,
+    a: Result<Report, Refusal>,
     list: &mut [u64],
     ends: &mut [u64],
     text: &mut [u8],
@@ -197,15 +197,15 @@ fn write_held<'a>(
     let k = 8 * held(a) as usize;
     let t = messages::messages_in(table, index, entries, source, tape, &list[..k], ends, text);
     write_answer(a, out);
-    write_messages_answer(t, 9, out);
+    write_messages_answer(Ok(t), 9, out);
 }
 
 // Writes both answers of a document that is turned back.
-fn write_turned_back(number: u64, place: u64, out: &mut [u64])
-    ensures { out.new ≡ over out.old 0 (turned_words number place) }
+fn write_turned_back(r: Refusal, out: &mut [u64])
+    ensures { out.new ≡ over out.old 0 (turned_words (number_of r.reason) r.place) }
 {
-    write_refusal(number, place, out);
-    write_messages_answer(MessagesAnswer::Refused(number, place), 9, out);
+    write_refusal(r, out);
+    write_messages_answer(Err(r), 9, out);
 }
 
 // The check, and the texts of the findings that it wrote, by one reading of the document. It writes its answer over the list `out`:
@@ -231,9 +231,9 @@ pub extern "C" fn harkoxin_report<'a>(
 {
     let mut index = [0u64; 512];
     match validate::check_input(table, &mut index, source, tape, seen.len(), opens.len()) {
-        InputCheck::Refused(number, place) => write_turned_back(number, place, out),
-        InputCheck::Accepted(entries) => {
-            let a = validate::passed(table, &index, entries, source, tape, seen, opens, list);
+        Err(r) => write_turned_back(r, out),
+        Ok(entries) => {
+            let a = Ok(validate::passed(table, &index, entries, source, tape, seen, opens, list));
             write_held(
                 table, &index, entries, source, tape, a, list, ends, text, out,
             )
@@ -241,12 +241,12 @@ pub extern "C" fn harkoxin_report<'a>(
     }
 }
 
-fn write_tallied(a: Tallied, out: &mut [u64])
-    ensures { out.new ≡ over out.old 0 (tally_words (tally.tally_answer_of a)) }
+fn write_tallied(a: Result<(), Refusal>, out: &mut [u64])
+    ensures { out.new ≡ over out.old 0 (tally_words (refusal_in a)) }
 {
     match a {
-        Tallied::Counted => write_words(&[0, 0, 0], 0, out),
-        Tallied::Refused(number, place) => write_words(&[2, number, place], 0, out),
+        Ok(()) => write_words(&[0, 0, 0], 0, out),
+        Err(r) => write_words(&[2, r.reason.number(), r.place as u64], 0, out),
     }
 }
 
@@ -260,12 +260,12 @@ pub extern "C" fn harkoxin_tally(list: &[u64], counts: &mut [u64], out: &mut [u6
     write_tallied(tally::tally(list, counts), out)
 }
 
-fn write_mark(a: MarkAnswer, out: &mut [u64])
+fn write_mark(a: Result<PaperMark, Refusal>, out: &mut [u64])
     ensures { out.new ≡ over out.old 0 (mark_words (mark_answer_of a)) }
 {
     match a {
-        MarkAnswer::Marked(loss, mark) => write_words(&[0, 0, 0, loss, mark], 0, out),
-        MarkAnswer::Refused(number, place) => write_words(&[2, number, place, 0, 0], 0, out),
+        Ok(m) => write_words(&[0, 0, 0, m.loss, m.mark], 0, out),
+        Err(r) => write_words(&[2, r.reason.number(), r.place as u64, 0, 0], 0, out),
     }
 }
 
@@ -278,12 +278,12 @@ pub extern "C" fn harkoxin_mark(errors: u64, warnings: u64, verses: u64, out: &m
     write_mark(mark::mark(errors, warnings, verses), out)
 }
 
-fn write_read(a: ReadAnswer, out: &mut [u64])
+fn write_read(a: Result<usize, Refusal>, out: &mut [u64])
     ensures { out.new ≡ over out.old 0 (read_words (read_answer_of a)) }
 {
     match a {
-        ReadAnswer::Read(nodes) => write_words(&[0, 0, 0, nodes], 0, out),
-        ReadAnswer::Refused(number, place) => write_words(&[2, number, place, 0], 0, out),
+        Ok(nodes) => write_words(&[0, 0, 0, nodes as u64], 0, out),
+        Err(r) => write_words(&[2, r.reason.number(), r.place as u64, 0], 0, out),
     }
 }
 

@@ -8,7 +8,7 @@ use native.Mathlib.Omega.{arith}
 use mathlib.Core.Path.{◌≡◌, refl, sym, ap, ◌∙◌}
 use mathlib.Core.Bool.{Bool, true, false, ◌&&◌, and-false}
 use mathlib.Core.List.{List, [], ◌∷◌, ◌++◌}
-use mathlib.Core.Option.{none}
+use Rattle.std.specs.Prelude.{None}
 use lib.Dec.{eqb, leb, ltb}
 use lib.ListN.{length, get_or, take, drop, length-drop, drop_of_length-le, get_or-eq_default}
 use lib.Seq.{take-suc, take_all, get_or-drop, length-take-le}
@@ -110,7 +110,7 @@ count-part at from to zero (suc n) (b ∷ s) e f = go (outside80_bf b) (count-fr
 -- ---- The column by bytes
 
 -- the column is one plus the bytes outside 80 to BF from the line's start to the place
-pub column-first-bytes : (s : List ℕ) → first_ill_formed s ≡ none → (at : ℕ) → column_at s at ≡ suc (how_many outside80_bf (line_before s at))
+pub column-first-bytes : (s : List ℕ) → first_ill_formed s ≡ None → (at : ℕ) → column_at s at ≡ suc (how_many outside80_bf (line_before s at))
 unfolding column_at
 column-first-bytes s e at =
     let h = start-le s at in
@@ -164,7 +164,7 @@ unfolding column_at
 column-break s i e = rw (add-one i, start-break s i e, count-nothing (suc i) (beginnings 0 (chars s)))
 
 -- behind another byte it is the same or one more
-module _ (s : List ℕ) (e : first_ill_formed s ≡ none) (i : ℕ) (h : i < length s) (n : get_or s i 0 ≡ 10 → ⊥) where
+module _ (s : List ℕ) (e : first_ill_formed s ≡ None) (i : ℕ) (h : i < length s) (n : get_or s i 0 ≡ 10 → ⊥) where
   column-on : column_at s (i + 1) ≡ pick (outside80_bf (get_or s i 0)) (suc (column_at s i)) (column_at s i)
   column-on =
       rw (add-one i, column-first-bytes s e (suc i), column-first-bytes s e i, before_on s i h n, many-snoc outside80_bf (line_before s i) (get_or s i 0))
@@ -270,7 +270,7 @@ unfolding how_many
 many-ascii [] h = refl
 many-ascii (b ∷ s) h = rw (lt-leb 0x80 b h.0) (ap suc (many-ascii s h.1))
 
-module _ (s : List ℕ) (e : first_ill_formed s ≡ none) (at : ℕ) (h : at ≤ length s) where
+module _ (s : List ℕ) (e : first_ill_formed s ≡ None) (at : ℕ) (h : at ≤ length s) where
   pub column-at-most-bytes : column_at s at ≤ (line_and_column s at).column
   column-at-most-bytes = rw (column-first-bytes s e at, byte-length s at h) (omega (arith, many-le outside80_bf (line_before s at)))
 

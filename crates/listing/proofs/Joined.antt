@@ -6,7 +6,7 @@ use native.Mathlib.Decide.{dec_lt}
 use mathlib.Core.Path.{◌≡◌, refl, sym, ap, ◌∙◌}
 use mathlib.Core.Bool.{Bool, true, false, ◌&&◌}
 use mathlib.Core.List.{List, [], ◌∷◌, ◌++◌, append_assoc, append-nil}
-use mathlib.Core.Option.{Option, some, none}
+use Rattle.std.specs.Prelude.{Option, Some, None}
 use lib.Dec.{eqb, leb, ltb}
 use lib.ListN.{length, take, drop, length-append, length-drop, drop_of_length-le}
 use lib.Seq.{take_at, take_all, drop-drop, length-take-le}
@@ -97,8 +97,8 @@ line-few p (b ∷ s) (suc n) = go (eqb b 10) (after_line b p) (line-few (after_b
     go false e h = omega arith
 
 shown-short : (room : ℕ) (o : Option (List ℕ)) → length (message_shown room o) ≤ room
-shown-short room none = omega arith
-shown-short room (some x) = go (ltb room (length x)) refl
+shown-short room None = omega arith
+shown-short room (Some x) = go (ltb room (length x)) refl
   where
     go : (d : Bool) → ltb room (length x) ≡ d → length (pick d [] x) ≤ room
     go true h = omega arith
@@ -162,8 +162,8 @@ unfolding checked_of
 held_fits l = go (refusal l)
   where
     go : (x : Option Refusal) → held_count (answer_by x (checked_of l)) ≤ room l.list
-    go (some r) = omega arith
-    go none = smaller-le (length (list_of l)) (room l.list)
+    go (Some r) = omega arith
+    go None = smaller-le (length (list_of l)) (room l.list)
 
 smaller-taken : (n : ℕ) (fs : List Finding) → smaller (length fs) n ≡ length (take n fs)
 smaller-taken n fs = go (ltb (length fs) n) refl
@@ -173,7 +173,7 @@ smaller-taken n fs = go (ltb (length fs) n) refl
     go false h = sym (length-take-le n fs (ltb-false (length fs) n h))
 
 -- the findings that the list holds after a check are the first that fit
-held-words : (l : Lent) → refusal l ≡ none → held_findings (checked_of l).written (list_after l) ≡ take (room l.list) (list_of l)
+held-words : (l : Lent) → refusal l ≡ None → held_findings (checked_of l).written (list_after l) ≡ take (room l.list) (list_of l)
 unfolding checked_of
 held-words l e =
     let fit = take (room l.list) (list_of l) in
@@ -189,7 +189,7 @@ module _ (l : Lent) (small : is_too_large l.table l.source l.tape ≡ false) (se
   few = omega (arith, (any-parts largest_file (length l.table) (length l.source) (length l.tape) small).1.1)
 
   -- number 10 turns back no document of files
-  pub no-ten : of10 l ≡ none
+  pub no-ten : of10 l ≡ None
   no-ten = rw (le-ltb (length l.seen) (count l.tape) (omega (arith, few)), le-ltb (length l.open_starts) (count l.tape) (omega (arith, few)))
 
 module _ (l : Lent) (small : is_too_large l.table l.source l.tape ≡ false) (seen : 4096 ≤ length l.seen) (opens : 4096 ≤ length l.open_starts) (holds : length l.list ≡ 8 * most_held) where
@@ -197,10 +197,10 @@ module _ (l : Lent) (small : is_too_large l.table l.source l.tape ≡ false) (se
   unfolding listing
   listing-is = rw (small, nine-whole l (no-ten l small seen opens))
 
-  answer_is : refusal l ≡ none → answer l ≡ checked (checked_of l)
+  answer_is : refusal l ≡ None → answer l ≡ checked (checked_of l)
   answer_is e = ap (λ (x : Option Refusal). answer_by x (checked_of l)) e
 
-  held-is : refusal l ≡ none → held_texts message_room l ≡ listed_each message_room l.table l.source l.tape (take most_held (list_of l))
+  held-is : refusal l ≡ None → held_texts message_room l ≡ listed_each message_room l.table l.source l.tape (take most_held (list_of l))
   held-is e =
       let each = listed_each message_room l.table l.source l.tape in
       let n : room l.list ≡ most_held = omega (arith, holds) in
@@ -208,8 +208,8 @@ module _ (l : Lent) (small : is_too_large l.table l.source l.tape ≡ false) (se
 
   whole-listing : (x : Option Refusal) → refusal l ≡ x → head_lines (answer l) ++ joined (held_texts message_room l) ≡ listing l.table l.source l.tape
   unfolding checked_listing checked_of joined listed_each findings_in
-  whole-listing (some r) e = rw (listing-is, e) (append-nil _)
-  whole-listing none e =
+  whole-listing (Some r) e = rw (listing-is, e) (append-nil _)
+  whole-listing None e =
       ap (λ (a : Answer). head_lines a ++ joined (held_texts message_room l)) (answer_is e)
       ∙ ap (λ (xs : List (List ℕ)). head_lines (checked (checked_of l)) ++ joined xs) (held-is e)
       ∙ sym (listing-is ∙ ap (λ (x : Option Refusal). listing_by x (checked_listing l.table l.source l.tape (list_of l))) e)

@@ -6,7 +6,7 @@ use native.Mathlib.Nat.{add-zero, zero-add}
 use native.Mathlib.Numerals.{add-one}
 use mathlib.Core.Path.{◌≡◌, refl, sym, ap, ◌∙◌}
 use mathlib.Core.List.{List, [], ◌∷◌}
-use mathlib.Core.Option.{Option, some, none}
+use Rattle.std.specs.Prelude.{Option, Some, None}
 use lib.Dec.{eqb}
 use lib.ListN.{length, set, get_or, length-set}
 use borrow.Author.Tests.{eq-eqb, ne_eqb}
@@ -16,7 +16,8 @@ use Rattle.refusals.specs.Refusal.{or_else, source_not_utf8}
 use Rattle.refusals.proofs.First.{refused, neither}
 use Rattle.buffer.specs.Over.{over}
 use Rattle.buffer.proofs.Over.{over_none, over-set, length_over}
-use Rattle.definition.specs.Outcome.{at_place, of1, of2, of3, of_tape, of9}
+use Rattle.definition.specs.Outcome.{of1, of2, of3, of_tape, of9}
+use Rattle.refusals.specs.Refusal.{at_place}
 use Rattle.messages.specs.Answer.{document, first_nine}
 use Rattle.listing.specs.Lines.{place_from, line_and_column}
 use Rattle.listing.specs.Columns.{line_start, column_at}
@@ -92,7 +93,7 @@ module _ (s l₀ m₀ l m : List ℕ) (line column i : ℕ) (y : PlacesSoFar s l
         let v = y.low in
         record { left = omega arith; line-is = line_after g ∙ rw (ne_eqb (get_or s i 0) 10 n); column-is = e; low = omega arith; near = omega arith; lines = writing-line; columns = writing-column }
 
-    module _ (f : first_ill_formed s ≡ none) where
+    module _ (f : first_ill_formed s ≡ None) where
       pub places-further : 0x80 ≤ get_or s i 0 → get_or s i 0 ≤ 0xBF → PlacesSoFar s l₀ m₀ (set l i line) (set m i column) line column (i + 1)
       places-further a b = let w = y.near in places-on column (column-further s f i g n a b ∙ y.column-is) (omega arith)
 
@@ -103,11 +104,14 @@ module _ (s l₀ m₀ l m : List ℕ) (line column i : ℕ) (y : PlacesSoFar s l
       places-high a = let w = y.near in places-on (column + 1) (column-high s f i g n a ∙ ap (◌+ 1) y.column-is) (omega arith)
 
   module _ (g : length s ≤ i) where
-    pub lines-written : set l i line ≡ over l₀ 0 (lines_from s 0 (length s + 1))
-    lines-written = writing-all _ _ _ _ (i + 1) writing-line (omega arith)
+    at-end : length s ≡ i
+    at-end = let v = y.left in omega arith
 
-    pub columns-written : set m i column ≡ over m₀ 0 (columns_from s 0 (length s + 1))
-    columns-written = writing-all _ _ _ _ (i + 1) writing-column (omega arith)
+    pub lines-written : set l (length s) line ≡ over l₀ 0 (lines_from s 0 (length s + 1))
+    lines-written = ap (λ (n : ℕ). set l n line) at-end ∙ writing-all _ _ _ _ (i + 1) writing-line (omega arith)
+
+    pub columns-written : set m (length s) column ≡ over m₀ 0 (columns_from s 0 (length s + 1))
+    columns-written = ap (λ (n : ℕ). set m n column) at-end ∙ writing-all _ _ _ _ (i + 1) writing-column (omega arith)
 
 -- an element of a list from its start on, and the i-th of the places from one on
 get_d_over : (l w : List ℕ) (i : ℕ) → i < length l → i < length w → get_or (over l 0 w) i 0 ≡ get_or w i 0
@@ -155,13 +159,13 @@ listable {s = s} l m lines columns i a short h k e f =
     record { indexed = i; accepted = a; short = short; places = rw (e, f) (places_of s l m h k) }
 
 -- a source that numbers 1 to 9 pass is well-formed, which `lines_and_columns` requires
-pub source-well-formed : (table s t : List ℕ) → first_nine table s t ≡ none → first_ill_formed s ≡ none
+pub source-well-formed : (table s t : List ℕ) → first_nine table s t ≡ None → first_ill_formed s ≡ None
 unfolding first_nine
 source-well-formed table s t e =
     let d = document table s t in
     let rest = or_else (of_tape d) (of9 d) in
     go (first_ill_formed s) (neither (of3 d) rest (neither (of2 d) (or_else (of3 d) rest) (neither (of1 d) (or_else (of2 d) (or_else (of3 d) rest)) e).1).1).0
   where
-    go : (x : Option ℕ) → at_place source_not_utf8 x ≡ none → x ≡ none
-    go none z = refl
-    go (some at) z = refused _ z
+    go : (x : Option ℕ) → at_place source_not_utf8 x ≡ None → x ≡ None
+    go None z = refl
+    go (Some at) z = refused _ z

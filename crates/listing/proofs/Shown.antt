@@ -5,7 +5,10 @@ use native.Mathlib.Omega.{arith}
 use mathlib.Core.Path.{◌≡◌, refl, sym, ap, ◌∙◌}
 use mathlib.Core.Bool.{Bool, true, false}
 use mathlib.Core.List.{List, [], ◌∷◌}
-use mathlib.Core.Option.{Option, some, none}
+use Rattle.std.specs.Prelude.{Option, Some, None}
+use Rattle.std.specs.Prelude.{Result, Ok, Err}
+use Rattle.refusals.specs.declared.Refusal as code
+use Rattle.refusals.specs.Reasons.{refusal_of}
 use lib.Dec.{ltb}
 use lib.ListN.{length, get_or, take, drop}
 use lib.Seq.{take_at, length-take-le}
@@ -17,8 +20,6 @@ use Rattle.refusals.specs.Refusal.{message_list_too_short}
 use Rattle.messages.specs.Answer.{refused, written, by_room, bytes_by, message_answer_of}
 use Rattle.messages.specs.Message.{Request, message_text}
 use Rattle.messages.specs.Messages.{request_at}
-use Rattle.messages.specs.declared.MessageAnswer.{MessageAnswer}
-use Rattle.messages.specs.declared.MessageAnswer.TheVariants as answer
 use Rattle.definition.specs.Outcome.{smaller}
 use Rattle.listing.specs.Lines.{Place, after_byte, place_from, line_and_column, finding_lines}
 use Rattle.listing.specs.Columns.{column_at}
@@ -29,24 +30,24 @@ use Rattle.listing.specs.declared.Listed.{Listed}
 use Rattle.listing.proofs.Columns.{column-past}
 
 -- what `message_in` answers and writes
-module _ (o : Option (List ℕ)) (l l' : List ℕ) (r : MessageAnswer) (e : message_answer_of r ≡ by_room o (length l)) (f : l' ≡ bytes_by none o l) where
-  pub shown-none : (a b : ℕ) → r ≡ answer.Refused a b → ShownIn (message_shown (length l) o) l' 0
-  shown-none a b q = record { inside = omega arith; is = go o (sym (ap message_answer_of q) ∙ e) }
+module _ (o : Option (List ℕ)) (l l' : List ℕ) (r : Result ℕ code.Refusal) (e : message_answer_of r ≡ by_room o (length l)) (f : l' ≡ bytes_by None o l) where
+  pub shown-none : (x : code.Refusal) → r ≡ Err x → ShownIn (message_shown (length l) o) l' 0
+  shown-none x q = record { inside = omega arith; is = go o (sym (ap message_answer_of q) ∙ e) }
     where
-      go : (o : Option (List ℕ)) → refused (record { number = a; place = b }) ≡ by_room o (length l) → [] ≡ message_shown (length l) o
-      go none z = refl
-      go (some x) z = test (ltb (length l) (length x)) z
+      go : (o : Option (List ℕ)) → refused (refusal_of x) ≡ by_room o (length l) → [] ≡ message_shown (length l) o
+      go None z = refl
+      go (Some y) z = test (ltb (length l) (length y)) z
         where
-          test : (d : Bool) → refused (record { number = a; place = b }) ≡ pick d (refused (record { number = message_list_too_short; place = length x })) (written (length x)) → [] ≡ pick d [] x
+          test : (d : Bool) → refused (refusal_of x) ≡ pick d (refused (record { number = message_list_too_short; place = length y })) (written (length y)) → [] ≡ pick d [] y
           test true w = refl
           test false w = let z : ◌≡◌ {A = ℕ} 0 1 = cc in absurd (omega arith)
 
-  pub shown-whole : (n : ℕ) → r ≡ answer.Written n → ShownIn (message_shown (length l) o) l' n
+  pub shown-whole : (n : ℕ) → r ≡ Ok n → ShownIn (message_shown (length l) o) l' n
   shown-whole n q = go o f (sym (ap message_answer_of q) ∙ e)
     where
-      go : (o : Option (List ℕ)) → l' ≡ bytes_by none o l → written n ≡ by_room o (length l) → ShownIn (message_shown (length l) o) l' n
-      go none f z = let z : ◌≡◌ {A = ℕ} 0 1 = cc in absurd (omega arith)
-      go (some x) f z = test (ltb (length l) (length x)) refl f z
+      go : (o : Option (List ℕ)) → l' ≡ bytes_by None o l → written n ≡ by_room o (length l) → ShownIn (message_shown (length l) o) l' n
+      go None f z = let z : ◌≡◌ {A = ℕ} 0 1 = cc in absurd (omega arith)
+      go (Some x) f z = test (ltb (length l) (length x)) refl f z
         where
           test : (d : Bool) → ltb (length l) (length x) ≡ d → l' ≡ pick d l (over l 0 x) → written n ≡ pick d (refused (record { number = message_list_too_short; place = length x })) (written (length x)) → ShownIn (pick d [] x) l' n
           test true h f w = let z : ◌≡◌ {A = ℕ} 0 1 = cc in absurd (omega arith)
@@ -83,12 +84,6 @@ smaller-le a b = go (ltb a b) refl
     go : (d : Bool) → ltb a b ≡ d → pick d a b ≤ b
     go true h = let z = ltb-true a b h in omega arith
     go false h = omega arith
-
-pub smaller-first : (a b : ℕ) → a < b → a ≡ smaller a b
-smaller-first a b h = rw (lt-ltb a b h)
-
-pub smaller-second : (a b : ℕ) → b ≤ a → b ≡ smaller a b
-smaller-second a b h = rw (le-ltb a b h)
 
 -- line and column of a place that is no later than the source's end
 module _ (s lines columns : List ℕ) (p : PlacesOf s lines columns) (start i : ℕ) (e : i ≡ smaller start (length s)) where

@@ -1,6 +1,6 @@
 -- Document 01, "Listing": what check-exercise prints for a table, a source and a tape.
 use Rattle.std.specs.Prelude.{ℕ, Bool, List, [], ◌∷◌, ◌++◌, ltb, length, take}
-use Rattle.std.proofs.Math.Option.{Option, some, none}
+use Rattle.std.specs.Prelude.{Option, Some, None}
 use Rattle.text.specs.Pick.{pick, any_over}
 use Rattle.refusals.specs.Refusal.{Refusal}
 use Rattle.tape.specs.Forest.{top}
@@ -29,8 +29,8 @@ message_room = 65536
 
 -- "a message that doesn't fit prints empty"
 abbrev pub message_shown : ℕ → Option (List ℕ) → List ℕ
-message_shown room none = []
-message_shown room (some text) = pick (ltb room (length text)) [] text
+message_shown room None = []
+message_shown room (Some text) = pick (ltb room (length text)) [] text
 
 -- the lines of a finding, whose message has so much room; line and column are those of its start, the column in code points (document 02, K3)
 unfoldable pub listed_finding : ℕ → List ℕ → List ℕ → List ℕ → Finding → List ℕ
@@ -49,8 +49,8 @@ checked_listing table s t fs =
     ++ joined (listed_each message_room table s t (take most_held fs))
 
 abbrev pub listing_by : Option Refusal → List ℕ → List ℕ
-listing_by (some r) checked = refused_lines r.number r.place
-listing_by none checked = checked
+listing_by (Some r) checked = refused_lines r.number r.place
+listing_by None checked = checked
 
 -- the whole output; number 10 never turns back a file's document, since the program lends working lists for 4,096 nodes, and a file has no more
 unfoldable pub listing : List ℕ → List ℕ → List ℕ → List ℕ

@@ -2,12 +2,12 @@
 // source are found in one pass.
 #![tactic(auto)]
 
-ghost use Rattle.std.specs.Prelude.{◌+◌, ◌*◌, ◌≤◌, ◌<◌, ◌≡◌, length, drop};
-ghost use Rattle.std.proofs.Math.Option.{none};
+ghost use Rattle.std.specs.Prelude.{◌+◌, ◌*◌, ◌≤◌, ◌<◌, ◌≡◌, IsTrue, nat_lt, length, map};
+ghost use Rattle.std.specs.List.{list_all};
+ghost use Rattle.std.specs.Prelude.{None};
 ghost use Rattle.text.specs.Utf8.{first_ill_formed};
-ghost use Rattle.buffer.specs.Over.{Put, over};
+ghost use Rattle.buffer.specs.Over.{Put, over, place_limit};
 ghost use Rattle.buffer.specs.Decimal.{decimal};
-ghost use Rattle.table.specs.Inner.{lines_of};
 ghost use Rattle.listing.specs.Lines.{too_large_lines, refused_lines, checked_lines, finding_lines, name_at, farthest};
 ghost use Rattle.listing.specs.LinesAndColumns.{lines_from, columns_from, PlacesOf};
 ghost use Rattle.listing.specs.Listing.{message_shown, listed_finding, listed_each};
@@ -21,33 +21,108 @@ ghost use Rattle.validate.specs.Entry.{answer_of};
 ghost use Rattle.messages.specs.Message.{message_text};
 ghost use Rattle.messages.specs.Answer.{request_by};
 
-use buffer::{put, put_decimal};
-use messages::{MessageAnswer, MessageRequest};
-use validate::Answer;
+use messages::MessageRequest;
+use refusals::Refusal;
+use validate::Report;
 
-// The names by number, each ended by byte 10.
-const SEVERITY_NAMES: [u8; 19] = *b"error\nwarning\ninfo\n";
+// The names by number.
+static SEVERITY_NAMES: [&[u8]; 3] = [b"error", b"warning", b"info"];
 
-const CODE_NAMES: [u8; 689] =
-    *b"UnknownMarker\nUnclosedMarker\nStrayCloseMarker\nStrayBackslash\nMissingIdMarker\n\
-    InvalidBookCode\nDuplicateId\nTextBeforeId\nMissingChapterMarker\nInvalidChapterSequence\n\
-    DuplicateChapter\nInvalidVerseSequence\nVerseOutsideParagraph\nNoteSubmarkerOutsideNote\n\
-    NonEmptyBlankLine\nLeadingZeros\nMilestoneMismatch\nInvalidAttributes\n\
-    MissingChapterNumber\nMissingVerseNumber\nCharCrossesVerseBoundary\nEmptyFigure\n\
-    UnquotedAttributeValue\nMissingRequiredAttribute\nBodyParagraphBeforeChapter\n\
-    EmptyWordMarker\nMissingMilestoneSelfClose\nInvalidTableColumnSequence\nDeprecatedMarker\n\
-    ImplicitClose\nUnclosedNote\nUnclosedAtEof\nDefaultAttributeNotDefined\n\
-    MisplacedNumberMarker\nMissingSpaceBeforeNumber\nUnreadableVerseNumber\n";
+static CODE_NAMES: [&[u8]; 36] = [
+    b"UnknownMarker",
+    b"UnclosedMarker",
+    b"StrayCloseMarker",
+    b"StrayBackslash",
+    b"MissingIdMarker",
+    b"InvalidBookCode",
+    b"DuplicateId",
+    b"TextBeforeId",
+    b"MissingChapterMarker",
+    b"InvalidChapterSequence",
+    b"DuplicateChapter",
+    b"InvalidVerseSequence",
+    b"VerseOutsideParagraph",
+    b"NoteSubmarkerOutsideNote",
+    b"NonEmptyBlankLine",
+    b"LeadingZeros",
+    b"MilestoneMismatch",
+    b"InvalidAttributes",
+    b"MissingChapterNumber",
+    b"MissingVerseNumber",
+    b"CharCrossesVerseBoundary",
+    b"EmptyFigure",
+    b"UnquotedAttributeValue",
+    b"MissingRequiredAttribute",
+    b"BodyParagraphBeforeChapter",
+    b"EmptyWordMarker",
+    b"MissingMilestoneSelfClose",
+    b"InvalidTableColumnSequence",
+    b"DeprecatedMarker",
+    b"ImplicitClose",
+    b"UnclosedNote",
+    b"UnclosedAtEof",
+    b"DefaultAttributeNotDefined",
+    b"MisplacedNumberMarker",
+    b"MissingSpaceBeforeNumber",
+    b"UnreadableVerseNumber",
+];
 
-// Writes a key, `=`, a value and byte 10.
-fn put_line(out: &mut [u8], at: usize, key: &[u8], value: &[u8]) -> usize
-    requires { (at ≤ 2 * farthest) × (length key.now ≤ 8) × (length value.now ≤ farthest) }
-    ensures { Put (line_of key.now value.now) out.old at out.new result }
-{
-    let sign = put(out, at, key);
-    let from = put(out, sign, b"=");
-    let to = put(out, from, value);
-    put(out, to, b"\n")
+// A lent list, and the place in it behind what is written.
+#[derive(Drop)]
+struct Writer<'a> {
+    out: &'a mut [u8],
+    at: usize,
+}
+
+impl<'a> Writer<'a> {
+    fn put(&mut self, bytes: &[u8])
+        requires { (self.old.at ≤ place_limit) × (length bytes.now ≤ place_limit) }
+        ensures same { self.new.out.ghost_name ≡ self.old.out.ghost_name }
+        ensures written { Put bytes.now self.old.out.now self.old.at self.new.out.now self.new.at }
+    {
+        self.at = buffer::put(self.out, self.at, bytes);
+    }
+
+    fn put_decimal(&mut self, n: u64)
+        requires { self.old.at ≤ place_limit }
+        ensures same { self.new.out.ghost_name ≡ self.old.out.ghost_name }
+        ensures written { Put (decimal n) self.old.out.now self.old.at self.new.out.now self.new.at }
+    {
+        self.at = buffer::put_decimal(self.out, self.at, n);
+    }
+
+    // Writes a key, `=`, a value and byte 10.
+    fn put_line(&mut self, key: &[u8], value: &[u8])
+        requires { (self.old.at ≤ 2 * farthest) × (length key.now ≤ 8) × (length value.now ≤ farthest) }
+        ensures same { self.new.out.ghost_name ≡ self.old.out.ghost_name }
+        ensures written { Put (line_of key.now value.now) self.old.out.now self.old.at self.new.out.now self.new.at }
+    {
+        self.put(key);
+        self.put(b"=");
+        self.put(value);
+        self.put(b"\n");
+    }
+
+    // Writes a line whose value is a number in decimal digits.
+    fn put_count(&mut self, key: &[u8], n: u64)
+        requires { (self.old.at ≤ 2 * farthest) × (length key.now ≤ 8) }
+        ensures same { self.new.out.ghost_name ≡ self.old.out.ghost_name }
+        ensures near { Near 32 (line_of key.now (decimal n)) self.old.out.now self.old.at self.new.out.now self.new.at }
+    {
+        self.put(key);
+        self.put(b"=");
+        self.put_decimal(n);
+        self.put(b"\n");
+    }
+
+    // Writes a line whose value is the k-th of some names; its value is empty past the last.
+    fn put_named(&mut self, key: &[u8], names: &[&[u8]], k: u64)
+        requires { (self.old.at ≤ 2 * farthest) × (length key.now ≤ 8) × IsTrue (list_all (λ n. nat_lt (length n.now) 1000) names.now) }
+        ensures same { self.new.out.ghost_name ≡ self.old.out.ghost_name }
+        ensures near { Near 1024 (line_of key.now (name_at (map (λ n. n.now) names.now) k)) self.old.out.now self.old.at self.new.out.now self.new.at }
+    {
+        self.put_line(key, name(names, k));
+    }
 }
 
 // Writes a line whose value is a number in decimal digits.
@@ -55,43 +130,20 @@ pub fn put_count(out: &mut [u8], at: usize, key: &[u8], n: u64) -> usize
     requires { (at ≤ 2 * farthest) × (length key.now ≤ 8) }
     ensures { Near 32 (line_of key.now (decimal n)) out.old at out.new result }
 {
-    let sign = put(out, at, key);
-    let from = put(out, sign, b"=");
-    let to = put_decimal(out, from, n);
-    put(out, to, b"\n")
+    let mut writer = Writer { out, at };
+    writer.put_count(key, n);
+    writer.at
 }
 
-// The place behind k bytes 10, or the end where there are fewer.
-fn word_start(words: &[u8], k: u64) -> usize
-    ensures { (result ≤ length words.now) × (name_at (lines_of (drop result words.now)) 0 ≡ name_at (lines_of words.now) k) }
+// The k-th name, empty past the last.
+fn name<'a>(names: &[&'a [u8]], k: u64) -> &'a [u8]
+    requires { IsTrue (list_all (λ n. nat_lt (length n.now) 1000) names.now) }
+    ensures { (result.now ≡ name_at (map (λ n. n.now) names.now) k) × (length result.now ≤ 1000) }
 {
-    let mut at: usize = 0;
-    let mut left = k;
-    while at < words.len() && 0 < left {
-        if words[at] == 10 {
-            left -= 1;
-        }
-        at += 1;
+    match names.get(k as usize) {
+        Some(name) => name,
+        None => b"",
     }
-    at
-}
-
-// The k-th of the words that byte 10 ends; empty past the last.
-fn word<'a>(words: &'a [u8], k: u64) -> &'a [u8]
-    ensures { (result.now ≡ name_at (lines_of words.now) k) × (length result.now ≤ length words.now) }
-{
-    let from = word_start(words, k);
-    let rest = &words[from..];
-    let n = text::find_byte(rest, 10);
-    &rest[..n]
-}
-
-// Writes a line whose value is the k-th of some names; its value is empty past the last.
-fn put_named(out: &mut [u8], at: usize, key: &[u8], names: &[u8], k: u64) -> usize
-    requires { (at ≤ 2 * farthest) × (length key.now ≤ 8) × (length names.now ≤ 1000) }
-    ensures { Near 1024 (line_of key.now (name_at (lines_of names.now) k)) out.old at out.new result }
-{
-    put_line(out, at, key, word(names, k))
 }
 
 pub fn put_too_large(out: &mut [u8], at: usize) -> usize
@@ -99,7 +151,9 @@ pub fn put_too_large(out: &mut [u8], at: usize) -> usize
     ensures lines { Put too_large_lines out.old at out.new result }
     ensures short { result ≤ at + 256 }
 {
-    put_line(out, at, b"verdict", b"toolarge")
+    let mut writer = Writer { out, at };
+    writer.put_line(b"verdict", b"toolarge");
+    writer.at
 }
 
 pub fn put_refused(out: &mut [u8], at: usize, number: u64, place: u64) -> usize
@@ -107,9 +161,11 @@ pub fn put_refused(out: &mut [u8], at: usize, number: u64, place: u64) -> usize
     ensures lines { Put (refused_lines number place) out.old at out.new result }
     ensures short { result ≤ at + 256 }
 {
-    let second = put_line(out, at, b"verdict", b"refused");
-    let third = put_count(out, second, b"refusal", number);
-    put_count(out, third, b"place", place)
+    let mut writer = Writer { out, at };
+    writer.put_line(b"verdict", b"refused");
+    writer.put_count(b"refusal", number);
+    writer.put_count(b"place", place);
+    writer.at
 }
 
 pub fn put_checked(
@@ -124,11 +180,13 @@ pub fn put_checked(
     ensures lines { Put (checked_lines errors warnings infos total) out.old at out.new result }
     ensures short { result ≤ at + 256 }
 {
-    let second = put_line(out, at, b"verdict", b"checked");
-    let third = put_count(out, second, b"errors", errors);
-    let fourth = put_count(out, third, b"warnings", warnings);
-    let fifth = put_count(out, fourth, b"infos", infos);
-    put_count(out, fifth, b"findings", total)
+    let mut writer = Writer { out, at };
+    writer.put_line(b"verdict", b"checked");
+    writer.put_count(b"errors", errors);
+    writer.put_count(b"warnings", warnings);
+    writer.put_count(b"infos", infos);
+    writer.put_count(b"findings", total);
+    writer.at
 }
 
 // A severity or a code past the last name has an empty value.
@@ -144,27 +202,28 @@ pub fn put_finding(
     requires { (at ≤ farthest) × (length message.now ≤ farthest) }
     ensures { Put (finding_lines severity code line column message.now) out.old at out.new result }
 {
-    let second = put_named(out, at, b"severity", &SEVERITY_NAMES, severity);
-    let third = put_named(out, second, b"code", &CODE_NAMES, code);
-    let fourth = put_count(out, third, b"line", line);
-    let fifth = put_count(out, fourth, b"column", column);
-    put_line(out, fifth, b"message", message)
+    let mut writer = Writer { out, at };
+    writer.put_named(b"severity", &SEVERITY_NAMES, severity);
+    writer.put_named(b"code", &CODE_NAMES, code);
+    writer.put_count(b"line", line);
+    writer.put_count(b"column", column);
+    writer.put_line(b"message", message);
+    writer.at
 }
 
 // Line and column of every place of a source, its end among them, one pass for all of them. In a well-formed source a character
 // begins at each byte outside 80 to BF, and at no other.
 pub fn lines_and_columns(source: &[u8], lines: &mut [u32], columns: &mut [u32])
-    requires { (length source.now ≤ 1048576) × (length source.now < length lines.old) × (length source.now < length columns.old) × (first_ill_formed source.now ≡ none) }
+    requires { (length source.now ≤ 1048576) × (length source.now < length lines.old) × (length source.now < length columns.old) × (first_ill_formed source.now ≡ None) }
     ensures lines { lines.new ≡ over lines.old 0 (lines_from source.now 0 (length source.now + 1)) }
     ensures columns { columns.new ≡ over columns.old 0 (columns_from source.now 0 (length source.now + 1)) }
 {
     let mut line: u32 = 1;
     let mut column: u32 = 1;
-    let mut i: usize = 0;
-    while i < source.len() {
+    for (i, b) in source.iter().enumerate() {
         lines[i] = line;
         columns[i] = column;
-        match source[i] {
+        match *b {
             10 => {
                 line += 1;
                 column = 1;
@@ -172,32 +231,29 @@ pub fn lines_and_columns(source: &[u8], lines: &mut [u32], columns: &mut [u32])
             0x80..=0xBF => {}
             _ => column += 1,
         }
-        i += 1;
     }
-    lines[i] = line;
-    columns[i] = column;
+    lines[source.len()] = line;
+    columns[source.len()] = column;
 }
 
 // The lines before the findings, by what the check answers.
-pub fn put_head(out: &mut [u8], answer: Answer) -> usize
+pub fn put_head(out: &mut [u8], answer: Result<Report, Refusal>) -> usize
     ensures lines { Put (head_lines (answer_of answer)) out.old 0 out.new result }
     ensures short { result ≤ 256 }
 {
     match answer {
-        Answer::Refused(number, place) => put_refused(out, 0, number, place),
-        Answer::Checked(r) => put_checked(out, 0, r.errors, r.warnings, r.infos, r.total),
-        Answer::Cut(r) => put_checked(out, 0, r.errors, r.warnings, r.infos, r.total),
+        Err(r) => put_refused(out, 0, r.reason.number(), r.place as u64),
+        Ok(r) => put_checked(out, 0, r.errors, r.warnings, r.infos, r.total),
     }
 }
 
 // How many findings the check has written.
-pub fn held(answer: Answer) -> u64
+pub fn held(answer: Result<Report, Refusal>) -> u64
     ensures { result ≡ held_count (answer_of answer) }
 {
     match answer {
-        Answer::Refused(_, _) => 0,
-        Answer::Checked(r) => r.written,
-        Answer::Cut(r) => r.written,
+        Err(_) => 0,
+        Ok(r) => r.written,
     }
 }
 
@@ -215,8 +271,8 @@ fn write_shown<'a>(
     ensures { ShownIn (message_shown (length text.old) (message_text table.now source.now tape.now (request_by q))) text.new result }
 {
     match messages::message_in(table, index, entries, source, tape, q, text) {
-        MessageAnswer::Written(n) => n,
-        MessageAnswer::Refused(_, _) => 0,
+        Ok(n) => n,
+        Err(_) => 0,
     }
 }
 
@@ -224,11 +280,7 @@ fn write_shown<'a>(
 fn place(start: u64, len: usize) -> usize
     ensures { result ≡ smaller start len }
 {
-    if start < len as u64 {
-        start as usize
-    } else {
-        len
-    }
+    start.min(len as u64) as usize
 }
 
 // What a finding's lines show beside its message.
@@ -327,8 +379,7 @@ pub fn put_findings<'a>(
     ensures next { result.next ≡ next_of (listed_each (length text.old) table.now source.now tape.now (held_findings held list.now)) from (length out.old) }
 {
     let mut at: usize = 0;
-    let mut k = from;
-    while k < held {
+    for k in from..held {
         let end = put_whole(
             table, index, entries, source, tape, list, k, lines, columns, text, out, at,
         );
@@ -336,7 +387,9 @@ pub fn put_findings<'a>(
             return Piece { end: at, next: k };
         }
         at = end;
-        k += 1;
     }
-    Piece { end: at, next: k }
+    Piece {
+        end: at,
+        next: held,
+    }
 }

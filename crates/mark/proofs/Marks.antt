@@ -5,7 +5,7 @@ use native.Mathlib.Omega.{arith}
 use native.Mathlib.Nat.{div-mul-le_self, le-div_iff_mul-le}
 use mathlib.Core.Path.{◌≡◌, refl, sym, ap, ◌∙◌}
 use mathlib.Core.Bool.{Bool, true, false}
-use mathlib.Core.Option.{Option, some, none}
+use Rattle.std.specs.Prelude.{Option, Some, None}
 use lib.Dec.{eqb}
 use lib.ListN.{length}
 use borrow.Author.Tests.{eq-eqb, ne_eqb, eqb-true, eqb-false}
@@ -73,11 +73,11 @@ module _ (errors warnings verses : ℕ) where
 
 -- ---- The entry: never higher with one error more, wherever both have a mark
 
-marked-is : (x : Option Refusal) (n m : LossAndMark) → mark_by x n ≡ marked m → (x ≡ none) × (n ≡ m)
-marked-is none n m e = (refl, cc)
-marked-is (some r) n m e = let z : ◌≡◌ {A = ℕ} 0 1 = cc in absurd (omega arith)
+marked-is : (x : Option Refusal) (n m : LossAndMark) → mark_by x n ≡ marked m → (x ≡ None) × (n ≡ m)
+marked-is None n m e = (refl, cc)
+marked-is (Some r) n m e = let z : ◌≡◌ {A = ℕ} 0 1 = cc in absurd (omega arith)
 
-some-verses : (errors warnings verses : ℕ) (x : Option Refusal) → GivenMark errors warnings verses x → x ≡ none → 1 ≤ verses
+some-verses : (errors warnings verses : ℕ) (x : Option Refusal) → GivenMark errors warnings verses x → x ≡ None → 1 ≤ verses
 some-verses errors warnings verses x (by14 o) e = let z : ◌≡◌ {A = ℕ} 0 1 = cc in absurd (omega arith)
 some-verses errors warnings verses x (by15 f z) e = let z : ◌≡◌ {A = ℕ} 0 1 = cc in absurd (omega arith)
 some-verses errors warnings verses x (by_none f h) e = h
@@ -98,5 +98,5 @@ unfolding mark_output checked_of
 mark-printed l small seen opens = rw (small, sym (nine-whole l (no-ten l small seen opens))) (go (refusal l))
   where
     go : (x : Option Refusal) → mark_lines (mark_of_answer (answer_by x (checked_of l))) ≡ mark_lines (mark_unless x (mark_answer (of_severity error_severity (list_of l)) (of_severity warning_severity (list_of l)) (verses_visited l.table (top l.source l.tape))))
-    go none = refl
-    go (some r) = refl
+    go None = refl
+    go (Some r) = refl

@@ -1,6 +1,6 @@
 -- Document 02, K1: the condition of each of numbers 14 and 15.
 use Rattle.std.specs.Prelude.{ℕ, ◌<◌, ◌≤◌, ◌≡◌, ◌⊎◌}
-use Rattle.std.proofs.Math.Option.{Option, none}
+use Rattle.std.specs.Prelude.{Option, None}
 use Rattle.refusals.specs.Refusal.{Refusal, refuse, count_too_large, no_verses}
 use Rattle.mark.specs.Mark.{most_counted}
 
@@ -16,4 +16,4 @@ Few errors warnings verses = (errors ≤ most_counted) × ((warnings ≤ most_co
 pub data GivenMark (errors warnings verses : ℕ) : Option Refusal → Type 0 where
   by14 : Over errors warnings verses → GivenMark errors warnings verses (refuse count_too_large 0)
   by15 : Few errors warnings verses → verses ≡ 0 → GivenMark errors warnings verses (refuse no_verses 0)
-  by_none : Few errors warnings verses → 1 ≤ verses → GivenMark errors warnings verses none
+  by_none : Few errors warnings verses → 1 ≤ verses → GivenMark errors warnings verses None

@@ -1,10 +1,11 @@
 -- Document 02, K1: loss and mark of a paper, from its checked counts, and numbers 14 and 15.
 use Rattle.std.specs.Prelude.{ℕ, ◌+◌, ◌*◌, ◌-◌, ◌/◌, Bool, eqb}
-use Rattle.std.proofs.Math.Option.{Option, some, none}
+use Rattle.std.specs.Prelude.{Option, Some, None, Result, Ok, Err}
+use Rattle.refusals.specs.declared.Refusal as code
+use Rattle.refusals.specs.Reasons.{refusal_of}
+use Rattle.mark.specs.declared.PaperMark.{PaperMark}
 use Rattle.text.specs.Pick.{any_over}
 use Rattle.refusals.specs.Refusal.{Refusal, refuse, only_if, or_else, count_too_large, no_verses}
-use Rattle.mark.specs.declared.MarkAnswer as declared
-use Rattle.mark.specs.declared.MarkAnswer.TheVariants as answer
 
 -- "loss = (250 × errors + 75 × warnings) × 10 / verses, in hundredths of a mark, rounded down"
 abbrev pub penalty : ℕ → ℕ → ℕ
@@ -43,13 +44,13 @@ pub data MarkAnswer : Type 0 where
   marked : LossAndMark → MarkAnswer
 
 abbrev pub mark_by : Option Refusal → LossAndMark → MarkAnswer
-mark_by (some r) m = refused r
-mark_by none m = marked m
+mark_by (Some r) m = refused r
+mark_by None m = marked m
 
 abbrev pub mark_answer : ℕ → ℕ → ℕ → MarkAnswer
 mark_answer errors warnings verses = mark_by (mark_refusal errors warnings verses) (record { loss = loss_of errors warnings verses; mark = mark_of errors warnings verses })
 
 -- what the code's answer says
-abbrev pub mark_answer_of : declared.MarkAnswer → MarkAnswer
-mark_answer_of (answer.Marked loss mark) = marked (record { loss = loss; mark = mark })
-mark_answer_of (answer.Refused number place) = refused (record { number = number; place = place })
+abbrev pub mark_answer_of : Result PaperMark code.Refusal → MarkAnswer
+mark_answer_of (Ok m) = marked (record { loss = m.loss; mark = m.mark })
+mark_answer_of (Err r) = refused (refusal_of r)

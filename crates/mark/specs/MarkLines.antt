@@ -1,6 +1,6 @@
 -- Document 02, K1: "A small program over check-exercise's files prints it as `loss=` and `mark=`, or a refusal as there."
 use Rattle.std.specs.Prelude.{ℕ, List, ◌++◌}
-use Rattle.std.proofs.Math.Option.{Option, some, none}
+use Rattle.std.specs.Prelude.{Option, Some, None}
 use Rattle.text.specs.Pick.{pick}
 use Rattle.refusals.specs.Refusal.{Refusal}
 use Rattle.tape.specs.Forest.{top}
@@ -24,8 +24,8 @@ mark_of_answer (outcome.refused r) = refused r
 mark_of_answer (outcome.checked c) = mark_answer c.errors c.warnings c.verses
 
 abbrev pub mark_unless : Option Refusal → MarkAnswer → MarkAnswer
-mark_unless (some r) m = refused r
-mark_unless none m = m
+mark_unless (Some r) m = refused r
+mark_unless None m = m
 
 -- the mark of a document: the counts are those of its whole list
 abbrev pub mark_of_document : List ℕ → List ℕ → List ℕ → MarkAnswer

@@ -7,70 +7,62 @@ ghost use Rattle.validate.specs.Entry.{answer_of};
 ghost use Rattle.mark.specs.Mark.{is_over, mark_answer, mark_answer_of};
 ghost use Rattle.mark.specs.MarkLines.{mark_lines, mark_of_answer};
 
-use validate::Answer;
+use refusals::{Reason, Refusal};
+use validate::Report;
 
 // "over 1,000,000"
 const MOST_COUNTED: u64 = 1000000;
 
 const FULL_MARK: u64 = 10000;
 
-// Loss and mark, in hundredths; or number 14 or 15 with its place.
+// Loss and mark of a paper, in hundredths.
 #[derive(Clone, Copy)]
-pub enum MarkAnswer {
-    Marked(u64, u64),
-    Refused(u64, u64),
+pub struct PaperMark {
+    pub loss: u64,
+    pub mark: u64,
 }
 
 fn is_over(errors: u64, warnings: u64, verses: u64) -> bool
     ensures { result ≡ is_over errors warnings verses }
 {
-    if MOST_COUNTED < errors {
-        return true;
-    }
-    if MOST_COUNTED < warnings {
-        return true;
-    }
-    MOST_COUNTED < verses
+    MOST_COUNTED < errors || MOST_COUNTED < warnings || MOST_COUNTED < verses
 }
 
-// The mark: whatever the counts are, the answer is the definition's.
-pub fn mark(errors: u64, warnings: u64, verses: u64) -> MarkAnswer
+// The mark, or number 14 or 15: whatever the counts are, the answer is the definition's.
+pub fn mark(errors: u64, warnings: u64, verses: u64) -> Result<PaperMark, Refusal>
     ensures { mark_answer_of result ≡ mark_answer errors warnings verses }
 {
     if is_over(errors, warnings, verses) {
-        return MarkAnswer::Refused(refusals::COUNT_TOO_LARGE, 0);
+        return Err(Reason::CountTooLarge.at(0));
     }
     if verses == 0 {
-        return MarkAnswer::Refused(refusals::NO_VERSES, 0);
+        return Err(Reason::NoVerses.at(0));
     }
     let loss = (250 * errors + 75 * warnings) * 10 / verses;
-    if FULL_MARK < loss {
-        return MarkAnswer::Marked(loss, 0);
-    }
-    MarkAnswer::Marked(loss, FULL_MARK - loss)
+    Ok(PaperMark {
+        loss,
+        mark: FULL_MARK.saturating_sub(loss),
+    })
 }
 
 // The mark by what the check answers.
-pub fn mark_of(answer: Answer) -> MarkAnswer
+pub fn mark_of(answer: Result<Report, Refusal>) -> Result<PaperMark, Refusal>
     ensures { mark_answer_of result ≡ mark_of_answer (answer_of answer) }
 {
-    match answer {
-        Answer::Refused(number, place) => MarkAnswer::Refused(number, place),
-        Answer::Checked(r) => mark(r.errors, r.warnings, r.verses),
-        Answer::Cut(r) => mark(r.errors, r.warnings, r.verses),
-    }
+    let r = answer?;
+    mark(r.errors, r.warnings, r.verses)
 }
 
 // Writes the lines of mark-exercise over a lent list, by the mark.
-pub fn put_mark(out: &mut [u8], m: MarkAnswer) -> usize
-    ensures lines { Put (mark_lines (mark_answer_of m)) out.old 0 out.new result }
+pub fn put_mark(out: &mut [u8], answer: Result<PaperMark, Refusal>) -> usize
+    ensures lines { Put (mark_lines (mark_answer_of answer)) out.old 0 out.new result }
     ensures short { result ≤ 256 }
 {
-    match m {
-        MarkAnswer::Refused(number, place) => listing::put_refused(out, 0, number, place),
-        MarkAnswer::Marked(loss, mark) => {
-            let second = listing::put_count(out, 0, b"loss", loss);
-            listing::put_count(out, second, b"mark", mark)
+    match answer {
+        Err(r) => listing::put_refused(out, 0, r.reason.number(), r.place as u64),
+        Ok(m) => {
+            let second = listing::put_count(out, 0, b"loss", m.loss);
+            listing::put_count(out, second, b"mark", m.mark)
         }
     }
 }

@@ -1,20 +1,17 @@
 -- A can_skip_marker marker: nothing is said of it.
 -- Assumes nothing.
-use Prim.Native.Nat.{ℕ, ◌<◌}
+use Prim.Native.Nat.{ℕ}
 use native.Mathlib.Omega.{arith}
-use mathlib.Core.Path.{◌≡◌, refl, sym, ap, ◌∙◌}
+use mathlib.Core.Path.{◌≡◌, refl}
 use mathlib.Core.Bool.{Bool, true, false, not, false≢true, ◌&&◌, ◌||◌, and-false}
 use mathlib.Core.List.{List, []}
-use mathlib.Core.Option.{Option}
+use Rattle.std.specs.Prelude.{Option}
 use lib.Dec.{eqb}
-use borrow.Author.Tests.{eq-eqb, ne_eqb, eqb-true, not-true}
+use borrow.Author.Tests.{ne_eqb, eqb-true, not-true}
 use Rattle.text.specs.Pick.{cut, pick}
-use Rattle.tape.specs.Nodes.{Node, node_at, kind_at, is_open, marker_open_kind, text_kind, attribute_kind}
+use Rattle.tape.specs.Nodes.{Node, node_at, text_kind, attribute_kind}
 use Rattle.tape.specs.Forest.{Forest, end, leaf, node, forest}
 use Rattle.table.specs.Entries.{Entry, paragraph_category, character_category, milestone_category}
-use Rattle.cursor.specs.Inner.{Run}
-use Rattle.cursor.specs.Steps.{past_node}
-use Rattle.cursor.proofs.Runs.{forest-at-leaf, forest-at-open}
 use Rattle.findings.proofs.Overlay.{wrote_none}
 use Rattle.attributes.specs.Attributes.{attributes_findings}
 use Rattle.definition.specs.State.{WalkState, Anchor}
@@ -28,24 +25,6 @@ use Rattle.marker_checks.specs.InnerVisit.{own_findings, own_at, is_id, children
 use Rattle.marker_checks.specs.InnerSkip.{only_texts, has_own_check, placed, can_skip_marker, can_skip_marker_at}
 use Rattle.text.proofs.Bool.{and_left, and_right, or_parts}
 use Rattle.text.specs.Bytes.{equal, one_of}
-
--- a run of Texts, a node at a time
-module _ (s t : List ℕ) (i to : ℕ) (run : Run s t i to) (more : i < to) where
-  pub texts-other : (kind_at t i ≡ text_kind → ⊥) → false ≡ only_texts (forest s t i to)
-  unfolding only_texts
-  texts-other n = go (is_open (kind_at t i)) refl
-    where
-      go : (v : Bool) → is_open (kind_at t i) ≡ v → false ≡ only_texts (forest s t i to)
-      go true h = sym (ap only_texts (forest-at-open s t i to run more h))
-      go false h = sym (ap only_texts (forest-at-leaf s t i to run more h) ∙ rw (ne_eqb (kind_at t i) text_kind n))
-
-  pub texts-past : kind_at t i ≡ text_kind → only_texts (forest s t i to) ≡ only_texts (forest s t (past_node t i) to)
-  unfolding only_texts
-  texts-past e = ap only_texts (forest-at-leaf s t i to run more (ne_eqb (kind_at t i) marker_open_kind (λ z. omega arith))) ∙ rw (eq-eqb (kind_at t i) text_kind e)
-
-pub texts-none : true ≡ only_texts end
-unfolding only_texts
-texts-none = refl
 
 -- Texts have no attributes among them
 texts-attributes : (owner : ℕ) (marker : List ℕ) (f : Forest) → only_texts f ≡ true → attributes_findings owner marker f ≡ []

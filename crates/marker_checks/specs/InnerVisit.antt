@@ -1,6 +1,6 @@
 -- What the checks of a marker promise, all but the milestone's.
 use Rattle.std.specs.Prelude.{ℕ, ◌+◌, ◌≡◌, Bool, List, [], ◌++◌}
-use Rattle.std.proofs.Math.Option.{Option}
+use Rattle.std.specs.Prelude.{Option}
 use Rattle.text.specs.Pick.{cut, pick}
 use Rattle.tape.specs.Nodes.{Node, node_at, link_at}
 use Rattle.tape.specs.Forest.{Forest, forest}

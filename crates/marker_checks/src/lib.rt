@@ -18,19 +18,20 @@ ghost use Rattle.definition.specs.Checks.{given, id_checks, place_checks, conten
 ghost use Rattle.state.specs.Inner.{context_of, anchor_of, starts_for, state_of, counts_of};
 ghost use Rattle.marker_checks.specs.InnerSkip.{only_texts, has_own_check, placed, can_skip_marker_at};
 ghost use Rattle.marker_checks.specs.InnerVisit.{own_at, MarkerVisited, children_at};
-ghost use Rattle.marker_checks.specs.Inner.{has_content, with_id};
+ghost use Rattle.marker_checks.specs.Inner.{has_content, settles, with_id};
 ghost use Rattle.findings.specs.Codes.{should_be_uppercase, not_valid};
 ghost use Rattle.text.specs.Bytes.{equal, one_of, upper};
 ghost use Rattle.findings.specs.Inner.{Room, Wrote};
 
 use attachment::Attached;
+use cursor::Siblings;
 use findings::{
     BODY_PARAGRAPH_BEFORE_CHAPTER, Counts, DUPLICATE_ID, EMPTY_FIGURE, EMPTY_WORD_MARKER,
     INVALID_BOOK_CODE, MISPLACED_NUMBER_MARKER, MISSING_REQUIRED_ATTRIBUTE, NON_EMPTY_BLANK_LINE,
     NOTE_SUBMARKER_OUTSIDE_NOTE, Severity,
 };
 use state::{Context, State};
-use table::{Book, BookId, MarkerInfo};
+use table::{BookId, MarkerInfo};
 
 // A finding with the span of a node, if it is there.
 fn push_for_node(
@@ -57,14 +58,21 @@ pub fn book_code<'a, 'b>(source: &'a [u8], tape: &'b [u8], from: usize, to: usiz
     requires { Run source.now tape.now from to }
     ensures { result.now ≡ book_code (forest source.now tape.now from to) }
 {
-    let mut i = from;
-    while i < to {
-        if cursor::is_kind(source, tape, i, tape::TEXT, true) {
-            return text::first_word(cursor::text(source, tape, i));
-        }
-        i = cursor::past_node(tape, i);
+    match Siblings::new(tape, from, to).find(|i| tape::kind_at(tape, *i) == tape::TEXT) {
+        Some(i) => text::first_word(cursor::text(source, tape, i)),
+        None => &source[..0],
     }
-    &source[..0]
+}
+
+// Whether a node settles if a line has content: a marker, a chapter, a verse, or a text that isn't blank.
+fn settles(source: &[u8], tape: &[u8], i: usize) -> bool
+    requires { Spanned source.now tape.now i }
+    ensures { result ≡ settles (node_at source.now tape.now i) }
+{
+    let kind = tape::kind_at(tape, i);
+    kind == tape::MARKER_OPEN
+        || numbers::is_numbered(kind)
+        || cursor::is_kind(source, tape, i, tape::TEXT, false)
 }
 
 // Whether a line has a text that isn't blank or a marker, before any verse or chapter.
@@ -72,24 +80,10 @@ fn blank_line_has_inline_content(source: &[u8], tape: &[u8], from: usize, to: us
     requires { Run source.now tape.now from to }
     ensures { result ≡ inline_content (forest source.now tape.now from to) }
 {
-    let mut i = from;
-    while i < to {
-        let kind = tape::kind_at(tape, i);
-        if kind == tape::MARKER_OPEN {
-            return true;
-        }
-        if kind == tape::CHAPTER {
-            return false;
-        }
-        if kind == tape::VERSE {
-            return false;
-        }
-        if cursor::is_kind(source, tape, i, tape::TEXT, false) {
-            return true;
-        }
-        i = cursor::past_node(tape, i);
+    match Siblings::new(tape, from, to).find(|i| settles(source, tape, *i)) {
+        Some(i) => !numbers::is_numbered(tape::kind_at(tape, i)),
+        None => false,
     }
-    false
 }
 
 // Whether a run has a leaf of a kind; one whose text is blank counts if `blank` says so.
@@ -97,55 +91,32 @@ fn has_leaf(source: &[u8], tape: &[u8], from: usize, to: usize, kind: u8, blank:
     requires { (Run source.now tape.now from to) × (is_open kind ≡ false) }
     ensures { result ≡ has_leaf kind blank (forest source.now tape.now from to) }
 {
-    let mut i = from;
-    while i < to {
-        if cursor::is_kind(source, tape, i, kind, blank) {
-            return true;
-        }
-        i = cursor::past_node(tape, i);
-    }
-    false
-}
-
-// Whether a run has a marker.
-fn has_markers(source: &[u8], tape: &[u8], from: usize, to: usize) -> bool
-    requires { Run source.now tape.now from to }
-    ensures { result ≡ has_markers (forest source.now tape.now from to) }
-{
-    !attachment::is_plain_text(source, tape, from, to)
+    Siblings::new(tape, from, to).any(|i| cursor::is_kind(source, tape, i, kind, blank))
 }
 
 fn is_book(code: &[u8]) -> bool
     ensures { result ≡ is_book code.now }
 {
-    match BookId::from_code(code) {
-        Book::Known(id) => true,
-        Book::Unknown => false,
-    }
+    BookId::from_code(code).is_some()
 }
 
 // Whether the code in upper case is a book. All codes have three bytes.
 fn is_book_upper(code: &[u8]) -> bool
     ensures { result ≡ is_book (upper code.now) }
 {
-    if code.len() != 3 {
-        return false;
-    }
-    let mut bytes = [0u8; 3];
-    bytes[0] = text::upper(code[0]);
-    bytes[1] = text::upper(code[1]);
-    bytes[2] = text::upper(code[2]);
-    is_book(&bytes)
+    code.len() == 3
+        && is_book(&[
+            text::upper(code[0]),
+            text::upper(code[1]),
+            text::upper(code[2]),
+        ])
 }
 
 // Whether a book code is there and not in the list.
 fn is_bad_code(code: &[u8]) -> bool
     ensures { result ≡ (not (eqb (length code.now) 0) && not (is_book code.now)) }
 {
-    if code.len() == 0 {
-        return false;
-    }
-    !is_book(code)
+    !code.is_empty() && !is_book(code)
 }
 
 // The form of a bad code's finding.
@@ -189,10 +160,11 @@ fn id_findings(
 fn front_after(code: &[u8], before: bool) -> bool
     ensures { result ≡ front_by code.now before }
 {
-    if code.len() == 0 {
-        return before;
+    if code.is_empty() {
+        before
+    } else {
+        table::is_front_matter_code(code)
     }
-    table::is_front_matter_code(code)
 }
 
 // The record after a marker with the children from one node up to another.
@@ -204,61 +176,42 @@ fn after_id(named: bool, source: &[u8], tape: &[u8], from: usize, to: usize, rec
         return rec;
     }
     let front = front_after(book_code(source, tape, from, to), rec.front_matter);
-    let mut after = rec;
-    after.has_id = true;
-    after.front_matter = front;
-    after
+    State {
+        has_id: true,
+        front_matter: front,
+        ..rec
+    }
 }
 
+#[tactic(auto, unfolding(text::specs::Literal::ascii, text::specs::Bytes::one_of, definition::specs::Checks::number_markers))]
 pub fn is_number_marker(name: &[u8]) -> bool
     ensures { result ≡ one_of number_markers name.now }
 {
-    if text::equal(b"ca", name) {
-        return true;
-    }
-    if text::equal(b"cp", name) {
-        return true;
-    }
-    if text::equal(b"va", name) {
-        return true;
-    }
-    text::equal(b"vp", name)
+    text::equal(b"ca", name)
+        || text::equal(b"cp", name)
+        || text::equal(b"va", name)
+        || text::equal(b"vp", name)
 }
 
 // A marker of notes that stands outside one.
 fn outside_note(m: MarkerInfo, note: bool, name: &[u8]) -> bool
     ensures { result ≡ (eqb (entry_of_info m).category character_category && (not note && one_of note_only name.now)) }
 {
-    if note {
-        return false;
-    }
-    if state::is_of(m, table::CHARACTER) {
-        table::is_note_only_marker(name)
-    } else {
-        false
-    }
+    !note && state::is_of(m, table::CHARACTER) && table::is_note_only_marker(name)
 }
 
+#[tactic(auto, unfolding(text::specs::Literal::ascii))]
 fn filled_blank_line(name: &[u8], source: &[u8], tape: &[u8], from: usize, to: usize) -> bool
     requires { Run source.now tape.now from to }
     ensures { result ≡ (equal name.now b_name && inline_content (forest source.now tape.now from to)) }
 {
-    if text::equal(name, b"b") {
-        return blank_line_has_inline_content(source, tape, from, to);
-    }
-    false
+    text::equal(name, b"b") && blank_line_has_inline_content(source, tape, from, to)
 }
 
 fn before_chapter(m: MarkerInfo, rec: State) -> bool
     ensures { result ≡ (is_body (entry_of_info m) && (not rec.has_chapter && not rec.front_matter)) }
 {
-    if rec.has_chapter {
-        return false;
-    }
-    if rec.front_matter {
-        return false;
-    }
-    state::is_body(m)
+    !rec.has_chapter && !rec.front_matter && state::is_body(m)
 }
 
 // A number that isn't attached, by the table's name and the name as written.
@@ -266,13 +219,9 @@ fn is_misplaced(name: &[u8], source: &[u8], tape: &[u8], i: usize, numbers: Atta
     requires { Spanned source.now tape.now i }
     ensures { result ≡ (one_of number_markers name.now && (one_of number_markers (name_of (node_at source.now tape.now i).text) && not (among (start_at tape.now i) (starts_of numbers)))) }
 {
-    if !is_number_marker(name) {
-        return false;
-    }
-    if !is_number_marker(cursor::marker_name(source, tape, i)) {
-        return false;
-    }
-    !attachment::is_attached(numbers, tape::start_at(tape, i))
+    is_number_marker(name)
+        && is_number_marker(cursor::marker_name(source, tape, i))
+        && !attachment::is_attached(numbers, tape::start_at(tape, i))
 }
 
 // The findings about the place of node i, by its name in the table and the record after `id`. Its run ends at `to`.
@@ -306,47 +255,27 @@ fn place_findings(
 }
 
 // A figure without text, or with blank text alone; attributes don't count.
-fn figure_is_empty(source: &[u8], tape: &[u8], from: usize, to: usize) -> bool
-    requires { Run source.now tape.now from to }
-    ensures { result ≡ not (has_text (forest source.now tape.now from to)) }
-{
-    !has_leaf(source, tape, from, to, tape::TEXT, false)
-}
-
+#[tactic(auto, unfolding(text::specs::Literal::ascii))]
 fn is_empty_figure(name: &[u8], source: &[u8], tape: &[u8], from: usize, to: usize) -> bool
     requires { Run source.now tape.now from to }
     ensures { result ≡ (equal name.now fig_name && not (has_text (forest source.now tape.now from to))) }
 {
-    if text::equal(name, b"fig") {
-        return figure_is_empty(source, tape, from, to);
-    }
-    false
+    text::equal(name, b"fig") && !has_leaf(source, tape, from, to, tape::TEXT, false)
 }
 
 // A `\\w` without text, but for blank text, without an attribute and without a marker.
-fn word_marker_is_empty(source: &[u8], tape: &[u8], from: usize, to: usize) -> bool
-    requires { Run source.now tape.now from to }
-    ensures { result ≡ not (has_content (forest source.now tape.now from to)) }
-{
-    if has_leaf(source, tape, from, to, tape::TEXT, false) {
-        return false;
-    }
-    if has_leaf(source, tape, from, to, tape::ATTRIBUTE, true) {
-        return false;
-    }
-    !has_markers(source, tape, from, to)
-}
-
+#[tactic(auto, using(crate::proofs::Children::markers_plain), unfolding(text::specs::Literal::ascii))]
 fn is_empty_word(name: &[u8], source: &[u8], tape: &[u8], from: usize, to: usize) -> bool
     requires { Run source.now tape.now from to }
     ensures { result ≡ (equal name.now w_name && not (has_content (forest source.now tape.now from to))) }
 {
-    if text::equal(name, b"w") {
-        return word_marker_is_empty(source, tape, from, to);
-    }
-    false
+    text::equal(name, b"w")
+        && !has_leaf(source, tape, from, to, tape::TEXT, false)
+        && !has_leaf(source, tape, from, to, tape::ATTRIBUTE, true)
+        && attachment::is_plain_text(source, tape, from, to)
 }
 
+#[tactic(auto, unfolding(text::specs::Literal::ascii))]
 fn lacks_required_attributes(
     name: &[u8],
     source: &[u8],
@@ -357,10 +286,7 @@ fn lacks_required_attributes(
     requires { Run source.now tape.now from to }
     ensures { result ≡ (equal name.now rb_name && not (has_attribute (forest source.now tape.now from to))) }
 {
-    if text::equal(name, b"rb") {
-        return !has_leaf(source, tape, from, to, tape::ATTRIBUTE, true);
-    }
-    false
+    text::equal(name, b"rb") && !has_leaf(source, tape, from, to, tape::ATTRIBUTE, true)
 }
 
 // The findings about the children of node i, which end at `link`.
@@ -395,6 +321,7 @@ fn content_findings(
 }
 
 // The order of the cells, if the marker is a row.
+#[tactic(auto, unfolding(text::specs::Literal::ascii))]
 fn row_findings(
     name: &[u8],
     source: &[u8],
@@ -450,51 +377,31 @@ fn has_only_texts(source: &[u8], tape: &[u8], from: usize, to: usize) -> bool
     requires { Run source.now tape.now from to }
     ensures { result ≡ only_texts (forest source.now tape.now from to) }
 {
-    let mut i = from;
-    while i < to {
-        if tape::kind_at(tape, i) != tape::TEXT {
-            return false;
-        }
-        i = cursor::past_node(tape, i);
-    }
-    true
-}
-
-fn is_either(name: &[u8], a: &[u8], b: &[u8]) -> bool
-    ensures { result ≡ (equal name.now a.now || equal name.now b.now) }
-{
-    if text::equal(name, a) {
-        return true;
-    }
-    text::equal(name, b)
+    Siblings::new(tape, from, to).all(|i| tape::kind_at(tape, i) == tape::TEXT)
 }
 
 // Whether there is a check for markers of this name.
+#[tactic(auto, unfolding(text::specs::Literal::ascii))]
 fn has_own_check(name: &[u8]) -> bool
     ensures { result ≡ has_own_check name.now }
 {
-    if is_either(name, b"b", b"w") {
-        return true;
-    }
-    if is_either(name, b"id", b"rb") {
-        return true;
-    }
-    if is_either(name, b"tr", b"fig") {
-        return true;
-    }
-    is_number_marker(name)
+    text::equal(name, b"b")
+        || text::equal(name, b"w")
+        || text::equal(name, b"id")
+        || text::equal(name, b"rb")
+        || text::equal(name, b"tr")
+        || text::equal(name, b"fig")
+        || is_number_marker(name)
 }
 
 fn is_placed(m: MarkerInfo, context: Context, chapter: bool) -> bool
     ensures { result ≡ placed (entry_of_info m) (context_of context) chapter }
 {
     if state::is_of(m, table::PARAGRAPH) {
-        return chapter;
+        chapter
+    } else {
+        state::is_of(m, table::CHARACTER) && context.in_note
     }
-    if state::is_of(m, table::CHARACTER) {
-        return context.in_note;
-    }
-    false
 }
 
 // Whether a marker has no finding and its children change nothing, so that its visit can be skipped. `chapter` says
@@ -511,12 +418,7 @@ pub fn can_skip_marker(
     requires { (m.name_start + m.name_len ≤ length table.now) × (i < count tape.now) × (Run source.now tape.now (i + 1) (link_at tape.now i)) }
     ensures { result ≡ can_skip_marker_at table.now source.now tape.now (context_of context) (entry_of_info m) i chapter }
 {
-    if !is_placed(m, context, chapter) {
-        return false;
-    }
-    let link = tape::link_at(tape, i) as usize;
-    if !has_only_texts(source, tape, i + 1, link) {
-        return false;
-    }
-    !has_own_check(table::name(table, m))
+    is_placed(m, context, chapter)
+        && has_only_texts(source, tape, i + 1, tape::link_at(tape, i) as usize)
+        && !has_own_check(table::name(table, m))
 }

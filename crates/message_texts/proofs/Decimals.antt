@@ -5,7 +5,7 @@ use native.Mathlib.Omega.{arith}
 use mathlib.Core.Path.{◌≡◌, refl, ◌∙◌}
 use mathlib.Core.Bool.{Bool, true, false}
 use mathlib.Core.List.{List, [], ◌∷◌, ◌++◌}
-use mathlib.Core.Option.{some}
+use Rattle.std.specs.Prelude.{Some}
 use lib.Dec.{ltb}
 use borrow.Author.Tests.{ltb-true, ltb-false, le-leb, ne_eqb}
 use Rattle.text.specs.Number.{digit, all_digits, value_from, digits_from, digits, parsed}
@@ -58,7 +58,7 @@ fuel-digits (suc k) n h = test (ltb n 10) refl (λ less. fuel-digits k (n / 10) 
         let large : 10 ≤ n = ltb-false n 10 e in
         rw (one_more k n large) (all_append (48 + n % 10) (decimal_fuel k (n / 10)) (later (omega arith)) (digit-of (n % 10) (omega arith)))
 
-read_back : (s : List ℕ) (n : ℕ) → 1 ≤ length s → all_digits s ≡ true → value_from 0 s ≡ n → n ≤ 4294967295 → parsed s ≡ some n
+read_back : (s : List ℕ) (n : ℕ) → 1 ≤ length s → all_digits s ≡ true → value_from 0 s ≡ n → n ≤ 4294967295 → parsed s ≡ Some n
 unfolding parsed digits digits_from all_digits
 read_back [] n h d v l = absurd (omega arith)
 read_back (b ∷ s) n h d v l =
@@ -70,5 +70,5 @@ unfolding decimal
 all-decimal n = fuel-digits (suc n) n (omega arith)
 
 -- `parse` reads a number's digits back
-pub decimal-parsed : (n : ℕ) → n ≤ 4294967295 → parsed (decimal n) ≡ some n
+pub decimal-parsed : (n : ℕ) → n ≤ 4294967295 → parsed (decimal n) ≡ Some n
 decimal-parsed n h = read_back (decimal n) n (decimal-some n) (all-decimal n) (decimal-back n) h

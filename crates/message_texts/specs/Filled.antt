@@ -1,6 +1,6 @@
 -- A text with its values in their places, and which text a code and a form have.
 use Rattle.std.specs.Prelude.{ℕ, zero, suc, List, [], ◌∷◌, ◌++◌, eqb}
-use Rattle.std.proofs.Math.Option.{Option, some, none}
+use Rattle.std.specs.Prelude.{Option, Some, None}
 use Rattle.message_texts.specs.Texts.{Code, document_texts, number_texts, marker_texts, attribute_texts}
 use Rattle.text.specs.Pick.{pick}
 use Rattle.text.specs.Bytes.{upper}
@@ -28,24 +28,24 @@ unfoldable pub all_texts : List Code
 all_texts = document_texts ++ number_texts ++ marker_texts ++ attribute_texts
 
 unfoldable pub code_of : List Code → ℕ → Option Code
-code_of [] n = none
-code_of (c ∷ cs) n = pick (eqb c.code n) (some c) (code_of cs n)
+code_of [] n = None
+code_of (c ∷ cs) n = pick (eqb c.code n) (Some c) (code_of cs n)
 
 -- "Form is the message's position among that code's messages"
 unfoldable pub form_of : List (List (List ℕ)) → ℕ → Option (List ℕ)
-form_of [] k = none
-form_of (f ∷ fs) zero = some (joined f)
+form_of [] k = None
+form_of (f ∷ fs) zero = Some (joined f)
 form_of (f ∷ fs) (suc k) = form_of fs k
 
 abbrev pub filled_by : Option (List ℕ) → Option Values → Option (List ℕ)
-filled_by none v = none
-filled_by (some f) none = none
-filled_by (some f) (some v) = some (filled f v)
+filled_by None v = None
+filled_by (Some f) None = None
+filled_by (Some f) (Some v) = Some (filled f v)
 
 -- the text of a code and a form among these
 abbrev pub form_in : Option Code → ℕ → Option (List ℕ)
-form_in none form = none
-form_in (some c) form = form_of c.forms form
+form_in None form = None
+form_in (Some c) form = form_of c.forms form
 
 abbrev pub text_in : List Code → ℕ → ℕ → Option (List ℕ)
 text_in cs code form = form_in (code_of cs code) form

@@ -5,7 +5,7 @@ use native.Mathlib.Omega.{arith}
 use mathlib.Core.Path.{◌≡◌, refl, sym, subst, ◌∙◌}
 use mathlib.Core.Bool.{Bool, true, false, not, false≢true, ◌&&◌, ◌||◌}
 use mathlib.Core.List.{List, [], ◌∷◌, ◌++◌}
-use mathlib.Core.Option.{Option, some, none}
+use Rattle.std.specs.Prelude.{Option, Some, None}
 use lib.Dec.{eqb, ltb}
 use lib.ListN.{length}
 use borrow.Author.Tests.{lt-ltb, le-leb, ne_eqb, ltb-true}
@@ -46,15 +46,15 @@ use Rattle.text.specs.Bytes.{equal, one_of, upper}
 
 -- the text of the finding is there, so that number 12 does not turn it back
 abbrev pub HasMessage : List ℕ → List ℕ → List ℕ → Finding → Type 0
-HasMessage table s t f = (text : List ℕ) × (message_text table s t (request_of f) ≡ some text)
+HasMessage table s t f = (text : List ℕ) × (message_text table s t (request_of f) ≡ Some text)
 
 abbrev is_some : Option (List ℕ) → Bool
-is_some none = false
-is_some (some text) = true
+is_some None = false
+is_some (Some text) = true
 
-is-some : (o : Option (List ℕ)) → is_some o ≡ true → (text : List ℕ) × (o ≡ some text)
-is-some none e = absurd (false≢true e)
-is-some (some text) e = (text, refl)
+is-some : (o : Option (List ℕ)) → is_some o ≡ true → (text : List ℕ) × (o ≡ Some text)
+is-some None e = absurd (false≢true e)
+is-some (Some text) e = (text, refl)
 
 middle : (a b c : Bool) → (a && (b && c)) ≡ true → b ≡ true
 middle a b c h = and_left b c (and_right a (b && c) h)
@@ -149,8 +149,8 @@ module _ (table s t : List ℕ) where
 
   -- the cells among the children of a node
   cell-all : (i : ℕ) → i < count t → (q : Option ColumnRange) (n : ℕ) (later : ℕ → List Finding) → ((m : ℕ) → AllOf Has (later m)) → AllOf Has (by_columns q (node_at s t i) n later)
-  cell-all i l none n later h = h n
-  cell-all i l (some c) n later h =
+  cell-all i l None n later h = h n
+  cell-all i l (Some c) n later h =
       let differs = not (eqb c.start n) in
       let f = out_of_order (node_at s t i) n c.start in
       all_append Has (only differs f) (later (c.end + 1)) (all-only Has differs f (λ k. cell-said i l (info_at table t i) refl n c.start)) (h (c.end + 1))
@@ -207,14 +207,14 @@ module _ (table s t : List ℕ) where
       go false false = fit
 
   -- an open node with its entry
-  module _ (i : ℕ) (from : 1 ≤ i) (low : i < count t) (opens : is_open (kind_at t i) ≡ true) (e : Entry) (entry : entry_of table (node_at s t i) ≡ some e) where
+  module _ (i : ℕ) (from : 1 ≤ i) (low : i < count t) (opens : is_open (kind_at t i) ≡ true) (e : Entry) (entry : entry_of table (node_at s t i) ≡ Some e) where
     abbrev y : Node
     y = node_at s t i
 
     abbrev below : Forest
     below = forest s t (i + 1) (link_at t i)
 
-    known : info_at table t i ≡ some e
+    known : info_at table t i ≡ Some e
     known = entry-is i ∙ entry
 
     open-checks : (name : List ℕ) (o : WalkContext) (a : Option Anchor) (st st₁ : WalkState) (f : Forest) → AllOf (WhenHeld Has) (id_checks (equal name id_name) st (book_code below) y ++ place_checks name e o a st₁ y below f ++ content_checks name y below)
@@ -228,8 +228,8 @@ module _ (table s t : List ℕ) where
         written : List ℕ
         written = name_of y.text
 
-        said_here : (n form : ℕ) → is_some (text_by (shown_of table s t (request_of (about y 0 n form 0 0)) (some e) y) (code_of all_texts n) form) ≡ true → Has (about y 0 n form 0 0)
-        said_here n form h = said i low (some e) known n form 0 0 h
+        said_here : (n form : ℕ) → is_some (text_by (shown_of table s t (request_of (about y 0 n form 0 0)) (Some e) y) (code_of all_texts n) form) ≡ true → Has (about y 0 n form 0 0)
+        said_here n form h = said i low (Some e) known n form 0 0 h
 
         -- both forms show the code
         book : (b : Bool) → (equal name id_name && (not (eqb (length code) 0) && not (is_book code))) ≡ true → Has (warning y invalid_book_code (pick b 0 1))
@@ -241,7 +241,7 @@ module _ (table s t : List ℕ) where
 
     milestone-checks : (st : WalkState) → AllOf (WhenHeld Has) (milestone_checks e st y)
     milestone-checks st =
-        (λ h. (milestone-said i low (some e) known from (and_right (eqb e.category milestone_category) (is_start y || is_end y) (and_left (is_milestone e y) (not (is_start y) && not (waits y st.open_starts)) h))).1, tt)
+        (λ h. (milestone-said i low (Some e) known from (and_right (eqb e.category milestone_category) (is_start y || is_end y) (and_left (is_milestone e y) (not (is_start y) && not (waits y st.open_starts)) h))).1, tt)
 
     open-all : {d : ℕ} → Nested t d (i + 1) (link_at t i) → link_at t i ≤ count t → (o : WalkContext) (a : Option Anchor) (st : WalkState) (f : Forest) → AllOf Has (open_checked table o a st e y below f).findings
     unfolding open_checked_by
@@ -263,7 +263,7 @@ module _ (table s t : List ℕ) where
         Unclosed z = Has (error z milestone_mismatch unclosed_start)
 
         go : (m b : Bool) → is_start y ≡ b → AllOf Unclosed (pick m (starts_after b y st.open_starts) st.open_starts)
-        go true true p = ((milestone-said i low (some e) known from (rw p)).0, fit.starts)
+        go true true p = ((milestone-said i low (Some e) known from (rw p)).0, fit.starts)
         go true false p = all_without pairing Unclosed y st.open_starts fit.starts
         go false b p = fit.starts
 
@@ -283,7 +283,7 @@ module _ (table s t : List ℕ) where
       let k = nested-le r in
       let j = nested-le c in
       rw (forest-node s t h z c r)
-      (go (entry_of table (node_at s t a)) refl (omega arith) (omega arith) (λ q st₁ f. walk-all c (omega arith) (omega arith) q none st₁ f) (λ st₁ f. walk-all r (omega arith) l o _ st₁ f))
+      (go (entry_of table (node_at s t a)) refl (omega arith) (omega arith) (λ q st₁ f. walk-all c (omega arith) (omega arith) q None st₁ f) (λ st₁ f. walk-all r (omega arith) l o _ st₁ f))
     where
       x : Node
       x = node_at s t a
@@ -298,13 +298,13 @@ module _ (table s t : List ℕ) where
       passed = past p (node x children end)
 
       go : (q : Option Entry) → entry_of table x ≡ q → a < count t → link_at t a ≤ count t
-          → ((q : WalkContext) (st₁ : WalkState) → Fit table s t st₁ → Good table s t (walk table q none children st₁))
+          → ((q : WalkContext) (st₁ : WalkState) → Fit table s t st₁ → Good table s t (walk table q None children st₁))
           → ((st₁ : WalkState) → Fit table s t st₁ → Good table s t (walk table o passed rest st₁))
-          → Good table s t (by_entry q (walk table o passed rest st) (λ e. after_node (open_checked table o p st e x children (node x children rest)) (λ st₁. then_walk (walk table (inside o e) none children st₁) (walk table o passed rest))))
-      go none e low m below later = later st fit
-      go (some e) entry low m below later =
+          → Good table s t (by_entry q (walk table o passed rest st) (λ e. after_node (open_checked table o p st e x children (node x children rest)) (λ st₁. then_walk (walk table (inside o e) None children st₁) (walk table o passed rest))))
+      go None e low m below later = later st fit
+      go (Some e) entry low m below later =
           let visited = open_checked table o p st e x children (node x children rest) in
-          let w = walk table (inside o e) none children visited.state in
+          let w = walk table (inside o e) None children visited.state in
           let v = walk table o passed rest w.state in
           let g = below (inside o e) visited.state (open-fit a from low h e entry o p st children (node x children rest) fit) in
           good-before visited.findings (with_findings w.findings v) (open-all a from low h e entry c m o p st (node x children rest)) (good-before w.findings v g.findings (later w.state g.state))
@@ -332,14 +332,14 @@ module _ (table s t : List ℕ) where
       (all-given Has _ (λ h. said 0 l (info_at table t 0) refl 4 0 0 0 refl, (λ h. said 0 l (info_at table t 0) refl 8 0 0 0 refl, tt)))
 
 -- each finding of a checked document has its text
-pub finding-has-message : (l : Lent) → refusal l ≡ none → AllOf (HasMessage l.table l.source l.tape) (list_of l)
+pub finding-has-message : (l : Lent) → refusal l ≡ None → AllOf (HasMessage l.table l.source l.tape) (list_of l)
 finding-has-message l e =
     let table = l.table in
     let s = l.source in
     let t = l.tape in
     let run = run-top s t (checked-accepted l e) in
     let f = top s t in
-    let g = walk-all table s t run.nested (omega arith) run.inside outside none initial (record { letter = omega arith; starts = tt }) in
+    let g = walk-all table s t run.nested (omega arith) run.inside outside None initial (record { letter = omega arith; starts = tt }) in
     all_append (HasMessage table s t) (running table f) (closing (walked table f).state)
     (all_append (HasMessage table s t) (text_before f) (walked table f).findings (text-all table s t run.nested run.inside) g.findings)
     (closing-all table s t (omega (arith, nested-le run.nested, run.inside)) (walked table f).state g.state)

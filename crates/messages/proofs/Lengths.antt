@@ -4,7 +4,7 @@ use Prim.Native.Nat.{ℕ, ◌≤◌}
 use mathlib.Core.Path.{◌≡◌, refl, ap, ◌∙◌}
 use mathlib.Core.Bool.{Bool, true, false, false≢true}
 use mathlib.Core.List.{List, [], ◌∷◌}
-use mathlib.Core.Option.{Option, some, none}
+use Rattle.std.specs.Prelude.{Option, Some, None}
 use native.Mathlib.Omega.{arith}
 use lib.ListN.{length, take, drop, length-take, length-drop}
 use Rattle.text.specs.Pick.{Part, cut, pick}
@@ -87,8 +87,8 @@ pub entry-fits : (table index : List ℕ) (n : ℕ) → Indexed table index n �
 entry-fits table index n ix t i name is = go (info_at table t i) refl
   where
     go : (o : Option Entry) → info_at table t i ≡ o → length name ≤ 1048576
-    go none z = let l : length name ≡ 0 = ap length (is ∙ ap (name_or table) z) in omega arith
-    go (some k) z =
+    go None z = let l : length name ≡ 0 = ap length (is ∙ ap (name_or table) z) in omega arith
+    go (Some k) z =
         let l = ap length (is ∙ ap (name_or table) z) in
         let m = length-take k.name.len (drop k.name.start table) in
         omega (arith, (entry-sound table index n ix t i k z).short)

@@ -5,7 +5,7 @@ use native.Mathlib.Omega.{arith}
 use mathlib.Core.Path.{◌≡◌, refl}
 use mathlib.Core.Bool.{Bool, true, false, not, false≢true}
 use mathlib.Core.List.{List, [], ◌∷◌}
-use mathlib.Core.Option.{Option, some, none}
+use Rattle.std.specs.Prelude.{Option, Some, None}
 use lib.Dec.{eqb}
 use borrow.Author.Tests.{ne_eqb}
 use lib.ListN.{length, take, drop}
@@ -28,7 +28,7 @@ letter_low : (s : List ℕ) → letter_byte (letter_of s) ≤ 0x7A
 letter_low [] = omega arith
 letter_low (b ∷ s) = go (within 0x61 0x7A b) refl
   where
-    go : (v : Bool) → within 0x61 0x7A b ≡ v → letter_byte (pick v (some b) none) ≤ 0x7A
+    go : (v : Bool) → within 0x61 0x7A b ≡ v → letter_byte (pick v (Some b) None) ≤ 0x7A
     go true h = within-hi 0x61 0x7A b h
     go false h = omega arith
 
@@ -40,8 +40,8 @@ start_low s =
   where
     go : (b : Bool) (o l : Option ℕ) → letter_byte l ≤ 0x7A → UpToZ (pick b no_digits (with_letter o l))
     go true o l h = tt
-    go false none l h = tt
-    go false (some n) l h = h
+    go false None l h = tt
+    go false (Some n) l h = h
 
 end_low : (s : List ℕ) → UpToZ (verse_end s)
 unfolding verse_end
@@ -58,8 +58,8 @@ unfolding next
 after-low p h = go p.letter h
   where
     go : (l : Option ℕ) → letter_byte l ≤ 0x7A → letter_byte (verse.next_position p.number l).letter ≤ 127
-    go none h = omega arith
-    go (some b) h = omega arith
+    go None h = omega arith
+    go (Some b) h = omega arith
 
 -- the expected verse after a label
 pub next_low : (label : List ℕ) (expected : Position) → letter_byte expected.letter ≤ 127 → letter_byte (expected_after (verse_part label) label expected).letter ≤ 127

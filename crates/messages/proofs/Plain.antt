@@ -5,7 +5,7 @@ use mathlib.Core.Path.{◌≡◌, refl}
 use mathlib.Core.Bool.{Bool, true, false}
 use mathlib.Core.List.{List, [], ◌∷◌}
 use mathlib.Core.Logic.{◌⊎◌, inl, inr}
-use mathlib.Core.Option.{Option, some}
+use Rattle.std.specs.Prelude.{Option, Some}
 use lib.Dec.{eqb}
 use borrow.Author.Tests.{eqb-true}
 use types.Run.{OneOf}
@@ -36,13 +36,13 @@ unfolding all_texts document_texts number_texts marker_texts attribute_texts
 all_plain =
     (inr (refl, (refl, refl)), (inl (inl refl), (inr (refl, (refl, refl)), (inr (refl, (refl, refl)), (inr (refl, (refl, refl)), (inl (inr (inl refl)), (inl (inr (inr (inl refl))), (inl (inr (inr (inr (inl refl)))), (inr (refl, (refl, refl)), (inl (inr (inr (inr (inr (inr (inl refl)))))), (inr (refl, (refl, refl)), (inr (refl, (refl, refl)), (inr (refl, (refl, refl)), (inl (inr (inr (inr (inr (inr (inr (inr (inr (inr (inr (inr (inr (inl refl))))))))))))), (inl (inr (inr (inr (inr (inr (inr (inr (inr (inr (inr (inr (inr (inr refl))))))))))))), (inl (inr (inr (inr (inr (inl refl))))), (inr (refl, (refl, refl)), (inl (inr (inr (inr (inr (inr (inr (inl refl))))))), (inr (refl, (refl, refl)), (inl (inr (inr (inr (inr (inr (inr (inr (inl refl)))))))), (inl (inr (inr (inr (inr (inr (inr (inr (inr (inl refl))))))))), (inr (refl, (refl, refl)), (inl (inr (inr (inr (inr (inr (inr (inr (inr (inr (inl refl)))))))))), (inl (inr (inr (inr (inr (inr (inr (inr (inr (inr (inr (inr (inl refl)))))))))))), (inr (refl, (refl, refl)), (inr (refl, (refl, refl)), (inl (inr (inr (inr (inr (inr (inr (inr (inr (inr (inr (inl refl))))))))))), tt)))))))))))))))))))))))))))
 
-module _ (sh : Hole → Option (List ℕ)) (nothing : sh texts.empty ≡ some []) (n form : ℕ) (other : OneOf special n → ⊥) where
-  found : (cs : List Code) → AllPlain cs → text_by sh (code_of cs n) form ≡ filled_by (form_in (code_of cs n) form) (some (values [] [] []))
+module _ (sh : Hole → Option (List ℕ)) (nothing : sh texts.empty ≡ Some []) (n form : ℕ) (other : OneOf special n → ⊥) where
+  found : (cs : List Code) → AllPlain cs → text_by sh (code_of cs n) form ≡ filled_by (form_in (code_of cs n) form) (Some (values [] [] []))
   unfolding code_of
   found [] h = refl
   found (c ∷ cs) h = go (eqb c.code n) refl h.0 (found cs h.1)
     where
-      go : (b : Bool) → eqb c.code n ≡ b → Plain c → text_by sh (code_of cs n) form ≡ filled_by (form_in (code_of cs n) form) (some (values [] [] [])) → text_by sh (pick b (some c) (code_of cs n)) form ≡ filled_by (form_in (pick b (some c) (code_of cs n)) form) (some (values [] [] []))
+      go : (b : Bool) → eqb c.code n ≡ b → Plain c → text_by sh (code_of cs n) form ≡ filled_by (form_in (code_of cs n) form) (Some (values [] [] [])) → text_by sh (pick b (Some c) (code_of cs n)) form ≡ filled_by (form_in (pick b (Some c) (code_of cs n)) form) (Some (values [] [] []))
       go true e (inl o) i = absurd (other (rw (eqb-true c.code n e) at o))
       go true e (inr z) i = rw (z.0, z.1.0, z.1.1, nothing)
       go false e p i = i
@@ -61,6 +61,6 @@ none_of N k [] n o e = o.1 e
 none_of N k (j ∷ ks) n o (inl e) = (known (N × (n ≡ k → ⊥)) (j ∷ ks) n o).1 e
 none_of N k (j ∷ ks) n o (inr r) = none_of (N × (n ≡ k → ⊥)) j ks n o r
 
-pub written-plain : (table s t : List ℕ) (q : Request) → OtherThan (Unit {0}) special q.code → (l l' : List ℕ) (r : ℕ) → WrittenWith q [] [] [] l l' r → WrittenBy table s t q l l' r
+pub written-plain : (table s t : List ℕ) (q : Request) → OtherThan (Unit {0}) special q.code → (l l' : List ℕ) (r : Option ℕ) → WrittenWith q [] [] [] l l' r → WrittenBy table s t q l l' r
 unfolding shown_of
 written-plain table s t q other l l' r h = rw (found (shown table s t q) refl q.code q.form (none_of (Unit {0}) 5 others q.code other) all_texts all_plain) h

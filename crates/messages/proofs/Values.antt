@@ -4,7 +4,7 @@ use Prim.Native.Nat.{ℕ}
 use mathlib.Core.Path.{◌≡◌, refl}
 use mathlib.Core.Bool.{Bool, true, false, false≢true, ◌||◌}
 use mathlib.Core.List.{List}
-use mathlib.Core.Option.{Option, some, none}
+use Rattle.std.specs.Prelude.{Option, Some, None}
 use lib.Dec.{eqb}
 use borrow.Author.Tests.{eqb-true}
 use Rattle.message_texts.specs.Texts.{Code, Hole, document_texts, number_texts, marker_texts, attribute_texts}
@@ -14,14 +14,14 @@ use Rattle.message_texts.specs.Inner.{values}
 use Rattle.messages.specs.Message.{Request, shown, three, text_by}
 use Rattle.messages.specs.Inner.{WrittenBy, WrittenWith, is_tables, is_labels}
 
-unfilled : (f : Option (List ℕ)) → filled_by f none ≡ none
-unfilled none = refl
-unfilled (some f) = refl
+unfilled : (f : Option (List ℕ)) → filled_by f None ≡ None
+unfilled None = refl
+unfilled (Some f) = refl
 
 -- the three values of a code
 pub record Holes (n : ℕ) (h1 h2 h3 : Hole) : Type 0 where
   pub text : Code
-  pub is : code_of all_texts n ≡ some text
+  pub is : code_of all_texts n ≡ Some text
   pub one : text.h1 ≡ h1
   pub two : text.h2 ≡ h2
   pub third : text.h3 ≡ h3
@@ -34,10 +34,10 @@ module _ (table s t : List ℕ) (q : Request) (h1 h2 h3 : Hole) (k : Holes q.cod
   text-is : text_by (shown table s t q) (code_of all_texts q.code) q.form ≡ filled_by (text_in all_texts q.code q.form) vs
   text-is = rw (k.is, k.one, k.two, k.third)
 
-  pub written-with : (a b c : List ℕ) → vs ≡ some (values a b c) → (l l' : List ℕ) (r : ℕ) → WrittenWith q a b c l l' r → WrittenBy table s t q l l' r
+  pub written-with : (a b c : List ℕ) → vs ≡ Some (values a b c) → (l l' : List ℕ) (r : Option ℕ) → WrittenWith q a b c l l' r → WrittenBy table s t q l l' r
   written-with a b c e l l' r h = rw (text-is, e) h
 
-  pub written-lacks : vs ≡ none → (l : List ℕ) → WrittenBy table s t q l l 0
+  pub written-lacks : vs ≡ None → (l : List ℕ) → WrittenBy table s t q l l None
   written-lacks e l = rw (text-is, e, unfilled) (record { answer_is = refl; list_is = refl })
 
 pub holes-5 : (n : ℕ) → n ≡ 5 → Holes n texts.book_code texts.empty texts.empty

@@ -7,7 +7,9 @@ use native.Mathlib.Numerals.{add-one}
 use mathlib.Core.Path.{◌≡◌, refl, sym, ap, ◌∙◌}
 use mathlib.Core.Bool.{Bool, true, false}
 use mathlib.Core.List.{List, [], ◌∷◌, ◌++◌, append-nil}
-use mathlib.Core.Option.{Option, some, none}
+use Rattle.std.specs.Prelude.{Option, Some, None, Result, Ok, Err}
+use Rattle.refusals.specs.declared.Refusal as code
+use Rattle.refusals.specs.Reasons.{number_of, refusal_of}
 use lib.Dec.{ltb}
 use lib.ListN.{length, take, drop, length-append, length-drop, drop_of_length-le}
 use lib.Seq.{take_all}
@@ -15,8 +17,6 @@ use borrow.Author.Tests.{le-ltb, eq-eqb, ne_eqb, ltb-false}
 use borrow.Rule.Slice.PartMut.{mid_of, put_mid, put_same, mid_len}
 use Rattle.buffer.specs.Over.{over}
 use Rattle.buffer.proofs.Over.{over-over, over_none, over-past, length_over}
-use Rattle.messages.specs.declared.MessageAnswer as declared
-use Rattle.messages.specs.declared.MessageAnswer.TheVariants as answer
 use Rattle.messages.specs.Answer.{refused, written, by_room, bytes_by}
 use Rattle.message_texts.specs.Filled.{joined}
 use Rattle.messages.specs.Messages as answers
@@ -41,16 +41,16 @@ over-mid l at s =
 -- a text that has room, and is written
 record Fits (o : Option (List ℕ)) (part ys : List ℕ) (n : ℕ) : Type 0 where
   pub text : List ℕ
-  pub there : o ≡ some text
+  pub there : o ≡ Some text
   pub long : n ≡ length text
   pub fits : n ≤ length part
   pub list : ys ≡ over part 0 text
 
-answer-written : (o : Option (List ℕ)) (part ys : List ℕ) (n : ℕ) → written n ≡ by_room o (length part) → ys ≡ bytes_by none o part → Fits o part ys n
-answer-written none part ys n e f = let z : ◌≡◌ {A = ℕ} 0 1 = cc in absurd (omega arith)
-answer-written (some x) part ys n e f = test (ltb (length part) (length x)) refl e f
+answer-written : (o : Option (List ℕ)) (part ys : List ℕ) (n : ℕ) → written n ≡ by_room o (length part) → ys ≡ bytes_by None o part → Fits o part ys n
+answer-written None part ys n e f = let z : ◌≡◌ {A = ℕ} 0 1 = cc in absurd (omega arith)
+answer-written (Some x) part ys n e f = test (ltb (length part) (length x)) refl e f
   where
-    test : (b : Bool) → ltb (length part) (length x) ≡ b → written n ≡ pick b (refused (record { number = message_list_too_short; place = length x })) (written (length x)) → ys ≡ pick b part (over part 0 x) → Fits (some x) part ys n
+    test : (b : Bool) → ltb (length part) (length x) ≡ b → written n ≡ pick b (refused (record { number = message_list_too_short; place = length x })) (written (length x)) → ys ≡ pick b part (over part 0 x) → Fits (Some x) part ys n
     test true h e f = let z : ◌≡◌ {A = ℕ} 0 1 = cc in absurd (omega arith)
     test false h e f =
         let z : n ≡ length x = cc in
@@ -62,11 +62,11 @@ record Lacks (o : Option (List ℕ)) (part ys : List ℕ) (a b : ℕ) : Type 0 w
   pub why : turned_back o ≡ record { number = a; place = b }
   pub list : ys ≡ part
 
-answer-refused : (o : Option (List ℕ)) (part ys : List ℕ) (a b : ℕ) → refused (record { number = a; place = b }) ≡ by_room o (length part) → ys ≡ bytes_by none o part → Lacks o part ys a b
-answer-refused none part ys a b e f = record { stops = λ rest. refl; why = cc; list = f }
-answer-refused (some x) part ys a b e f = test (ltb (length part) (length x)) refl e f
+answer-refused : (o : Option (List ℕ)) (part ys : List ℕ) (a b : ℕ) → refused (record { number = a; place = b }) ≡ by_room o (length part) → ys ≡ bytes_by None o part → Lacks o part ys a b
+answer-refused None part ys a b e f = record { stops = λ rest. refl; why = cc; list = f }
+answer-refused (Some x) part ys a b e f = test (ltb (length part) (length x)) refl e f
   where
-    test : (d : Bool) → ltb (length part) (length x) ≡ d → refused (record { number = a; place = b }) ≡ pick d (refused (record { number = message_list_too_short; place = length x })) (written (length x)) → ys ≡ pick d part (over part 0 x) → Lacks (some x) part ys a b
+    test : (d : Bool) → ltb (length part) (length x) ≡ d → refused (record { number = a; place = b }) ≡ pick d (refused (record { number = message_list_too_short; place = length x })) (written (length x)) → ys ≡ pick d part (over part 0 x) → Lacks (Some x) part ys a b
     test true h e f = record { stops = λ rest. rw h; why = cc; list = f }
     test false h e f = let z : ◌≡◌ {A = ℕ} 0 1 = cc in absurd (omega arith)
 
@@ -75,7 +75,7 @@ abbrev pub left : (ℕ → Option (List ℕ)) → ℕ → ℕ → ℕ → ℕ �
 left text n room k at = texts_from text k (n - k) (room - at)
 
 module _ (text : ℕ → Option (List ℕ)) (n room k at : ℕ) where
-  left-more : k < n → (x : List ℕ) → text k ≡ some x → at + length x ≤ room → left text n room k at ≡ x ∷ left text n room (k + 1) (at + length x)
+  left-more : k < n → (x : List ℕ) → text k ≡ Some x → at + length x ≤ room → left text n room k at ≡ x ∷ left text n room (k + 1) (at + length x)
   unfolding texts_from
   left-more h x e f =
       let p : n - k ≡ suc (n - (k + 1)) = omega arith in
@@ -115,7 +115,7 @@ module _ (text : ℕ → Option (List ℕ)) (n : ℕ) (ends₀ out₀ : List ℕ
       record { few = omega arith; room = omega arith; records = rw z (zero-add _); size = rw z (zero-add _); bytes = rw z; places = rw z; same_out = refl; same_ends = refl }
 
   module _ (ends out : List ℕ) (k at : ℕ) (y : WritingTexts text n ends₀ out₀ ends out k at) where
-    writing-on : k < n → (x : List ℕ) → text k ≡ some x → at + length x ≤ length out₀ → (out' ends' : List ℕ) → out' ≡ over out at x → ((es : List ℕ) → over ends k ((at + length x) ∷ es) ≡ over ends' (k + 1) es) → WritingTexts text n ends₀ out₀ ends' out' (k + 1) (at + length x)
+    writing-on : k < n → (x : List ℕ) → text k ≡ Some x → at + length x ≤ length out₀ → (out' ends' : List ℕ) → out' ≡ over out at x → ((es : List ℕ) → over ends k ((at + length x) ∷ es) ≡ over ends' (k + 1) es) → WritingTexts text n ends₀ out₀ ends' out' (k + 1) (at + length x)
     unfolding joined ends_from
     writing-on h x e f out' ends' o p =
         let m = left text n (length out₀) (k + 1) (at + length x) in
@@ -150,18 +150,18 @@ module _ (text : ℕ → Option (List ℕ)) (n : ℕ) (ends₀ out₀ : List ℕ
         (rw (count z, width z, eq-eqb k n (omega arith)), lists z)
 
     -- what `message_in` makes of the part of the list that is left
-    module _ (h : k < n) (r : declared.MessageAnswer) (ys : List ℕ) (e : (message_answer_of r ≡ by_room (text k) (length (mid_of at (length out - at) out))) × (ys ≡ bytes_by none (text k) (mid_of at (length out - at) out))) where
+    module _ (h : k < n) (r : Result ℕ code.Refusal) (ys : List ℕ) (e : (message_answer_of r ≡ by_room (text k) (length (mid_of at (length out - at) out))) × (ys ≡ bytes_by None (text k) (mid_of at (length out - at) out))) where
       free : length (mid_of at (length out - at) out) ≡ length out₀ - at
       free = mid_len at (length out) out (omega arith) ∙ ap (◌- at) y.same_out
 
-      pub writing-stopped : (a b : ℕ) → r ≡ answer.Refused a b → Ended (answers.stopped k at (record { number = a; place = b })) ends (put_mid at (length out - at) out ys)
-      writing-stopped a b q =
-          let w = answer-refused (text k) _ ys a b (sym (ap message_answer_of q) ∙ e.0) e.1 in
+      pub writing-stopped : (x : code.Refusal) → r ≡ Err x → Ended (answers.stopped k at (refusal_of x)) ends (put_mid at (length out - at) out ys)
+      writing-stopped x q =
+          let w = answer-refused (text k) _ ys (number_of x.reason) x.place (sym (ap message_answer_of q) ∙ e.0) e.1 in
           let z = left-stopped text n (length out₀) k at h (rw free at w.stops) in
           let l = lists z in
           (rw (count z, width z, ne_eqb k n (omega arith), w.why), (rw (w.list, put_same at (length out - at) out) l.0, l.1))
 
-      module _ (len : ℕ) (q : r ≡ answer.Written len) where
+      module _ (len : ℕ) (q : r ≡ Ok len) where
         found : Fits (text k) (mid_of at (length out - at) out) ys len
         found = answer-written (text k) _ ys len (sym (ap message_answer_of q) ∙ e.0) e.1
 

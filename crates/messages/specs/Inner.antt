@@ -1,6 +1,6 @@
 -- What the functions that find a text's values promise.
 use Rattle.std.specs.Prelude.{ℕ, ◌<◌, ◌≤◌, Bool, ◌||◌, List, [], eqb, length}
-use Rattle.std.proofs.Math.Option.{Option, some, none}
+use Rattle.std.specs.Prelude.{Option, Some, None}
 use Rattle.text.specs.Pick.{cut}
 use Rattle.tape.specs.Nodes.{count}
 use Rattle.tape.specs.Forest.{Accepted}
@@ -20,11 +20,11 @@ pub record DocumentNode (table index : List ℕ) (entries : ℕ) (s t : List ℕ
   pub inside : node < count t
 
 -- the requested text is written over the list, if there is one and it has room
-abbrev pub WrittenBy : List ℕ → List ℕ → List ℕ → message.Request → List ℕ → List ℕ → ℕ → Type 0
+abbrev pub WrittenBy : List ℕ → List ℕ → List ℕ → message.Request → List ℕ → List ℕ → Option ℕ → Type 0
 WrittenBy table s t q l l' r = WrittenAs (text_by (shown table s t q) (code_of all_texts q.code) q.form) l l' r
 
 -- the text of the code and the form with these values is written over the list, if there is one and it has room
-abbrev pub WrittenWith : message.Request → List ℕ → List ℕ → List ℕ → List ℕ → List ℕ → ℕ → Type 0
+abbrev pub WrittenWith : message.Request → List ℕ → List ℕ → List ℕ → List ℕ → List ℕ → Option ℕ → Type 0
 WrittenWith q a b c l l' r = WrittenFrom all_texts q.code q.form a b c l l' r
 
 -- "`\fr` outside a note shows the table's name"
@@ -37,5 +37,5 @@ is_labels code = eqb code leading_zeros || eqb code unreadable_verse_number
 
 -- the name in the table, empty where there is no entry
 abbrev pub name_or : List ℕ → Option Entry → List ℕ
-name_or table none = []
-name_or table (some e) = cut e.name table
+name_or table None = []
+name_or table (Some e) = cut e.name table

@@ -1,6 +1,6 @@
 -- Document 01, module 10 and numbers 12 and 13: the text of a finding.
 use Rattle.std.specs.Prelude.{ℕ, zero, suc, ◌+◌, ◌-◌, Bool, true, false, not, ◌&&◌, ◌||◌, List, [], ◌∷◌, ◌++◌, eqb, ltb, leb, length, get_or, take}
-use Rattle.std.proofs.Math.Option.{Option, some, none}
+use Rattle.std.specs.Prelude.{Option, Some, None}
 use Rattle.text.specs.Pick.{cut, pick}
 use Rattle.text.specs.Literal.{ascii}
 use Rattle.tape.specs.Nodes.{Node, count, link_at, is_open, node_at}
@@ -30,8 +30,8 @@ abbrev pub request_of : Finding → Request
 request_of f = record { code = f.code; form = f.form; node = f.node; first = f.first; second = f.second }
 
 abbrev pub only_if_true : Bool → List ℕ → Option (List ℕ)
-only_if_true true s = some s
-only_if_true false s = none
+only_if_true true s = Some s
+only_if_true false s = None
 
 -- the letter of a verse position: a byte, or none
 abbrev pub letter_bytes : ℕ → List ℕ
@@ -40,8 +40,8 @@ letter_bytes (suc n) = suc n ∷ []
 
 -- the name in the table: "`\fr` outside a note shows the table's name"
 abbrev pub name_in : List ℕ → Option Entry → Option (List ℕ)
-name_in table none = none
-name_in table (some e) = some (cut e.name table)
+name_in table None = None
+name_in table (Some e) = Some (cut e.name table)
 
 -- "a Chapter's or Verse's nonempty label (glued for code 34)"
 abbrev pub label_in : Option Entry → Node → Option (List ℕ)
@@ -71,9 +71,9 @@ code_in x code = only_if_true (is_open x.kind && not (eqb (length code) 0)) code
 
 -- what a text shows of the node with its table entry and the children's book code, or none where it lacks that
 unfoldable pub shown_of : List ℕ → List ℕ → List ℕ → Request → Option Entry → Node → Hole → Option (List ℕ)
-shown_of table s t q e x texts.empty = some []
-shown_of table s t q e x texts.first = some (decimal q.first)
-shown_of table s t q e x texts.second = some (decimal q.second)
+shown_of table s t q e x texts.empty = Some []
+shown_of table s t q e x texts.first = Some (decimal q.first)
+shown_of table s t q e x texts.second = Some (decimal q.second)
 shown_of table s t q e x texts.position = only_if_true (leb q.second 127) (decimal q.first ++ letter_bytes q.second)
 shown_of table s t q e x texts.entry_name = name_in table e
 shown_of table s t q e x texts.owner_name = only_if_true (not (eqb q.first 0) && ltb q.first (count t)) (name_of (node_at s t q.first).text)
@@ -91,15 +91,15 @@ abbrev pub shown : List ℕ → List ℕ → List ℕ → Request → Hole → O
 shown table s t q h = shown_of table s t q (info_at table t q.node) (node_at s t q.node) h
 
 abbrev pub three : Option (List ℕ) → Option (List ℕ) → Option (List ℕ) → Option Values
-three none y z = none
-three (some a) none z = none
-three (some a) (some b) none = none
-three (some a) (some b) (some c) = some (record { a = a; b = b; c = c })
+three None y z = None
+three (Some a) None z = None
+three (Some a) (Some b) None = None
+three (Some a) (Some b) (Some c) = Some (record { a = a; b = b; c = c })
 
 abbrev pub text_by : (Hole → Option (List ℕ)) → Option Code → ℕ → Option (List ℕ)
-text_by shown none form = none
-text_by shown (some c) form = filled_by (form_of c.forms form) (three (shown c.h1) (shown c.h2) (shown c.h3))
+text_by shown None form = None
+text_by shown (Some c) form = filled_by (form_of c.forms form) (three (shown c.h1) (shown c.h2) (shown c.h3))
 
 -- the text, or none: "code and form unknown to validate.rs, node or owner not on the tape, letter over 127, or the node lacks what the text needs"
 unfoldable pub message_text : List ℕ → List ℕ → List ℕ → Request → Option (List ℕ)
-message_text table s t q = pick (ltb q.node (count t)) (text_by (shown table s t q) (code_of all_texts q.code) q.form) none
+message_text table s t q = pick (ltb q.node (count t)) (text_by (shown table s t q) (code_of all_texts q.code) q.form) None

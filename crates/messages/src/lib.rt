@@ -2,8 +2,8 @@
 // list's findings, one behind another, by one reading of the document.
 #![tactic(auto)]
 
-ghost use Rattle.std.specs.Prelude.{true, ◌||◌, ◌≡◌, List, [], ◌++◌, ℕ, ◌-◌, ◌<◌, ◌≤◌, eqb, length, get_or, take};
-ghost use Rattle.std.proofs.Math.Option.{none};
+ghost use Rattle.std.specs.Prelude.{Ok, true, ◌||◌, ◌≡◌, List, [], ◌++◌, ℕ, ◌-◌, ◌<◌, ◌≤◌, eqb, length, get_or, take};
+ghost use Rattle.std.specs.Prelude.{None};
 ghost use Rattle.text.specs.Pick.{pick};
 ghost use Rattle.tape.specs.Nodes.{count, kind_at, node_at};
 ghost use Rattle.tape.specs.Forest.{Accepted};
@@ -32,8 +32,7 @@ use findings::{
     MISSING_REQUIRED_ATTRIBUTE, MISSING_SPACE_BEFORE_NUMBER, NOTE_SUBMARKER_OUTSIDE_NOTE,
     UNREADABLE_VERSE_NUMBER,
 };
-use table::Info;
-use validate::InputCheck;
+use refusals::{Reason, Refusal};
 
 // Of a finding's words, those that its text depends on.
 #[derive(Clone, Copy)]
@@ -45,19 +44,12 @@ pub struct MessageRequest {
     pub second: u64,
 }
 
-// The length of the written text, or the number that turns it back with its place.
-#[derive(Clone, Copy)]
-pub enum MessageAnswer {
-    Written(usize),
-    Refused(u64, u64),
-}
-
 // How many texts are written and how many bytes they take; where not all are, what turns the next one back.
 #[derive(Clone, Copy)]
-pub enum MessagesAnswer {
-    All(usize, usize),
-    Stopped(usize, usize, u64, u64),
-    Refused(u64, u64),
+pub struct Texts {
+    pub records: usize,
+    pub bytes: usize,
+    pub stop: Option<Refusal>,
 }
 
 // The codes whose texts show the table's name.
@@ -90,8 +82,8 @@ fn name_shown<'a, 'b, 'c>(
         return cursor::marker_name(source, tape, i);
     }
     match cursor::marker_info(table, index, entries, tape, i) {
-        Info::Known(m) => table::name(table, m),
-        Info::Missing => &table[..0],
+        Some(m) => table::name(table, m),
+        None => &table[..0],
     }
 }
 
@@ -117,7 +109,7 @@ fn label_shown<'a, 'b, 'c, 'd>(
 }
 
 // Writes a text of two numbers.
-fn write_numbers(code: u64, form: u64, first: u64, second: u64, out: &mut [u8]) -> usize
+fn write_numbers(code: u64, form: u64, first: u64, second: u64, out: &mut [u8]) -> Option<usize>
     ensures { WrittenFrom all_texts code form (decimal first) (decimal second) [] out.old out.new result }
 {
     let mut x = [0u8; 20];
@@ -135,7 +127,7 @@ fn write_position(
     second: u64,
     label: &[u8],
     out: &mut [u8],
-) -> usize
+) -> Option<usize>
     requires { (second ≤ 127) × (length label.now ≤ 1048576) }
     ensures { WrittenFrom all_texts code form (decimal first ++ letter_bytes second) label.now [] out.old out.new result }
 {
@@ -158,16 +150,16 @@ fn write_verse(
     tape: &[u8],
     q: MessageRequest,
     out: &mut [u8],
-) -> usize
+) -> Option<usize>
     requires { (DocumentNode table.now index.now entries source.now tape.now q.node) × (q.code ≡ invalid_verse_sequence) }
     ensures { WrittenBy table.now source.now tape.now (request_by q) out.old out.new result }
 {
     if 127 < q.second {
-        return 0;
+        return None;
     }
     let label = label_shown(table, index, entries, source, tape, q.node as usize);
     if label.len() == 0 {
-        return 0;
+        return None;
     }
     write_position(q.code, q.form, q.first, q.second, label, out)
 }
@@ -181,19 +173,19 @@ fn write_label(
     tape: &[u8],
     q: MessageRequest,
     out: &mut [u8],
-) -> usize
+) -> Option<usize>
     requires { (DocumentNode table.now index.now entries source.now tape.now q.node) × (is_labels q.code ≡ true) }
     ensures { WrittenBy table.now source.now tape.now (request_by q) out.old out.new result }
 {
     let label = label_shown(table, index, entries, source, tape, q.node as usize);
     if label.len() == 0 {
-        return 0;
+        return None;
     }
     message_texts::write_text(q.code, q.form, label, b"", b"", out)
 }
 
 // Writes a text of a name, the label that is glued to it, and what the name is without it.
-fn write_parts(code: u64, form: u64, name: &[u8], label: &[u8], out: &mut [u8]) -> usize
+fn write_parts(code: u64, form: u64, name: &[u8], label: &[u8], out: &mut [u8]) -> Option<usize>
     requires { (length label.now ≤ length name.now) × (length name.now ≤ 1048576) }
     ensures { WrittenFrom all_texts code form name.now (take (length name.now - length label.now) name.now) label.now out.old out.new result }
 {
@@ -210,18 +202,18 @@ fn write_glued<'a>(
     tape: &[u8],
     q: MessageRequest,
     out: &mut [u8],
-) -> usize
+) -> Option<usize>
     requires { (DocumentNode table.now index.now entries source.now tape.now q.node) × (q.code ≡ missing_space_before_number) }
     ensures { WrittenBy table.now source.now tape.now (request_by q) out.old out.new result }
 {
     let i = q.node as usize;
     if !numbers::is_numbered(tape::kind_at(tape, i)) {
-        return 0;
+        return None;
     }
     let info = cursor::marker_info(table, index, entries, tape, i);
     let text = cursor::text(source, tape, i);
     if !numbers::is_glued(info, text) {
-        return 0;
+        return None;
     }
     let name = name_shown(table, index, entries, source, tape, i, q.code);
     let label = numbers::number_label(info, text);
@@ -237,17 +229,17 @@ fn write_entry<'a>(
     tape: &[u8],
     q: MessageRequest,
     out: &mut [u8],
-) -> usize
+) -> Option<usize>
     requires { (DocumentNode table.now index.now entries source.now tape.now q.node) × (is_tables q.code ≡ true) }
     ensures { WrittenBy table.now source.now tape.now (request_by q) out.old out.new result }
 {
     if q.node == 0 {
-        return 0;
+        return None;
     }
     let i = q.node as usize;
     let name = name_shown(table, index, entries, source, tape, i, q.code);
     if name.len() == 0 {
-        return 0;
+        return None;
     }
     message_texts::write_text(q.code, q.form, name, b"", b"", out)
 }
@@ -261,17 +253,17 @@ fn write_base<'a>(
     tape: &[u8],
     q: MessageRequest,
     out: &mut [u8],
-) -> usize
+) -> Option<usize>
     requires { (DocumentNode table.now index.now entries source.now tape.now q.node) × (q.code ≡ milestone_mismatch) }
     ensures { WrittenBy table.now source.now tape.now (request_by q) out.old out.new result }
 {
     if q.node == 0 {
-        return 0;
+        return None;
     }
     let i = q.node as usize;
     let name = name_shown(table, index, entries, source, tape, i, q.code);
     if !is_paired(name) {
-        return 0;
+        return None;
     }
     message_texts::write_text(
         q.code,
@@ -302,15 +294,15 @@ fn write_owner<'a>(
     tape: &[u8],
     q: MessageRequest,
     out: &mut [u8],
-) -> usize
+) -> Option<usize>
     requires { (DocumentNode table.now index.now entries source.now tape.now q.node) × (q.code ≡ default_attribute_not_defined) }
     ensures { WrittenBy table.now source.now tape.now (request_by q) out.old out.new result }
 {
     if q.first == 0 {
-        return 0;
+        return None;
     }
     if tape.len() as u64 / 16 <= q.first {
-        return 0;
+        return None;
     }
     let i = q.first as usize;
     let name = name_shown(table, index, entries, source, tape, i, q.code);
@@ -318,7 +310,7 @@ fn write_owner<'a>(
 }
 
 // Writes a text of the name of an alternate or a published number, the letter of its owner's marker and what its owner is.
-fn write_unit(code: u64, form: u64, name: &[u8], out: &mut [u8]) -> usize
+fn write_unit(code: u64, form: u64, name: &[u8], out: &mut [u8]) -> Option<usize>
     requires { (1 ≤ length name.now) × (length name.now ≤ 1048576) }
     ensures { WrittenFrom all_texts code form name.now (take 1 name.now) (unit_of (eqb (get_or name.now 0 0) 0x63)) out.old out.new result }
 {
@@ -337,33 +329,33 @@ fn write_number<'a>(
     tape: &[u8],
     q: MessageRequest,
     out: &mut [u8],
-) -> usize
+) -> Option<usize>
     requires { (DocumentNode table.now index.now entries source.now tape.now q.node) × (q.code ≡ misplaced_number_marker) }
     ensures { WrittenBy table.now source.now tape.now (request_by q) out.old out.new result }
 {
     if q.node == 0 {
-        return 0;
+        return None;
     }
     let i = q.node as usize;
     let name = name_shown(table, index, entries, source, tape, i, q.code);
     if !marker_checks::is_number_marker(name) {
-        return 0;
+        return None;
     }
     write_unit(q.code, q.form, name, out)
 }
 
 // InvalidBookCode.
-fn write_book(source: &[u8], tape: &[u8], q: MessageRequest, out: &mut [u8]) -> usize
+fn write_book(source: &[u8], tape: &[u8], q: MessageRequest, out: &mut [u8]) -> Option<usize>
     requires { (Accepted source.now tape.now) × (length source.now ≤ 1048576) × (q.node < count tape.now) × (q.code ≡ invalid_book_code) }
     ensures { (table : List ℕ) → WrittenBy table source.now tape.now (request_by q) out.old out.new result }
 {
     let i = q.node as usize;
     if tape::kind_at(tape, i) != tape::MARKER_OPEN {
-        return 0;
+        return None;
     }
     let code = marker_checks::book_code(source, tape, i + 1, tape::link_at(tape, i) as usize);
     if code.len() == 0 {
-        return 0;
+        return None;
     }
     message_texts::write_text(q.code, q.form, code, b"", b"", out)
 }
@@ -377,7 +369,7 @@ fn write_message<'a>(
     tape: &[u8],
     q: MessageRequest,
     out: &mut [u8],
-) -> usize
+) -> Option<usize>
     requires { DocumentNode table.now index.now entries source.now tape.now q.node }
     ensures { WrittenBy table.now source.now tape.now (request_by q) out.old out.new result }
 {
@@ -410,22 +402,20 @@ pub fn message_in<'a>(
     tape: &[u8],
     q: MessageRequest,
     out: &mut [u8],
-) -> MessageAnswer
+) -> Result<usize, Refusal>
     requires { (Indexed table.now index.now entries) × (Accepted source.now tape.now) × (length source.now ≤ 1048576) }
-    ensures { (message_answer_of result ≡ by_room (message_text table.now source.now tape.now (request_by q)) (length out.old)) × (out.new ≡ bytes_by none (message_text table.now source.now tape.now (request_by q)) out.old) }
+    ensures { (message_answer_of result ≡ by_room (message_text table.now source.now tape.now (request_by q)) (length out.old)) × (out.new ≡ bytes_by None (message_text table.now source.now tape.now (request_by q)) out.old) }
 {
     if tape.len() as u64 / 16 <= q.node {
-        return MessageAnswer::Refused(refusals::NO_MESSAGE, 0);
+        return Err(Reason::NoMessage.at(0));
     }
-    let n = write_message(table, index, entries, source, tape, q, out);
-    if n == 0 {
-        return MessageAnswer::Refused(refusals::NO_MESSAGE, 0);
-    }
-    let len = n - 1;
+    let Some(len) = write_message(table, index, entries, source, tape, q, out) else {
+        return Err(Reason::NoMessage.at(0));
+    };
     if out.len() < len {
-        return MessageAnswer::Refused(refusals::MESSAGE_LIST_TOO_SHORT, len as u64);
+        return Err(Reason::MessageListTooShort.at(len));
     }
-    MessageAnswer::Written(len)
+    Ok(len)
 }
 
 // The text of a finding: whatever is lent, the answer and the list at exit are the definition's.
@@ -435,15 +425,13 @@ pub fn message<'a>(
     tape: &[u8],
     q: MessageRequest,
     out: &mut [u8],
-) -> MessageAnswer
+) -> Result<usize, Refusal>
     ensures answer { message_answer_of result ≡ message_answer table.now source.now tape.now (request_by q) out.old }
     ensures bytes { out.new ≡ message_after table.now source.now tape.now (request_by q) out.old }
 {
     let mut index = [0u64; 512];
-    match validate::check_input(table, &mut index, source, tape, 65535, 65535) {
-        InputCheck::Refused(number, place) => MessageAnswer::Refused(number, place),
-        InputCheck::Accepted(entries) => message_in(table, &index, entries, source, tape, q, out),
-    }
+    let entries = validate::check_input(table, &mut index, source, tape, 65535, 65535)?;
+    message_in(table, &index, entries, source, tape, q, out)
 }
 
 // The request for the text of a record of a list.
@@ -471,22 +459,25 @@ pub fn messages_in<'a>(
     list: &[u64],
     ends: &mut [u64],
     out: &mut [u8],
-) -> MessagesAnswer
+) -> Texts
     requires { (Indexed table.now index.now entries) × (Accepted source.now tape.now) × (length source.now ≤ 1048576) }
-    ensures answer { messages_answer_of result ≡ answer_by_texts (text_at table.now source.now tape.now list.now) (whole_records list.now) (texts_of table.now source.now tape.now list.now (length out.old)) }
+    ensures answer { messages_answer_of (Ok result) ≡ answer_by_texts (text_at table.now source.now tape.now list.now) (whole_records list.now) (texts_of table.now source.now tape.now list.now (length out.old)) }
     ensures bytes { out.new ≡ over out.old 0 (joined (texts_of table.now source.now tape.now list.now (length out.old))) }
     ensures ends { ends.new ≡ over ends.old 0 (ends_from 0 (texts_of table.now source.now tape.now list.now (length out.old))) }
 {
-    let n = list.len() / 8;
-    let mut k: usize = 0;
     let mut at: usize = 0;
-    while k < n {
+    let mut k: usize = 0;
+    while k < list.len() / 8 {
         let q = request_at(list, k);
         match message_in(table, index, entries, source, tape, q, &mut out[at..]) {
-            MessageAnswer::Refused(number, place) => return MessagesAnswer::Stopped(
-                k, at, number, place,
-            ),
-            MessageAnswer::Written(len) => {
+            Err(stop) => {
+                return Texts {
+                    records: k,
+                    bytes: at,
+                    stop: Some(stop),
+                };
+            }
+            Ok(len) => {
                 at += len;
                 if k < ends.len() {
                     ends[k] = at as u64;
@@ -495,7 +486,11 @@ pub fn messages_in<'a>(
             }
         }
     }
-    MessagesAnswer::All(k, at)
+    Texts {
+        records: k,
+        bytes: at,
+        stop: None,
+    }
 }
 
 // Writes the texts of a list's records one behind another, up to the first that has none or no room, and where each ends.
@@ -506,16 +501,12 @@ pub fn messages<'a>(
     list: &[u64],
     ends: &mut [u64],
     out: &mut [u8],
-) -> MessagesAnswer
+) -> Result<Texts, Refusal>
     ensures answer { messages_answer_of result ≡ messages_answer table.now source.now tape.now list.now (length out.old) }
     ensures bytes { out.new ≡ messages_after table.now source.now tape.now list.now out.old }
     ensures ends { ends.new ≡ ends_after table.now source.now tape.now list.now (length out.old) ends.old }
 {
     let mut index = [0u64; 512];
-    match validate::check_input(table, &mut index, source, tape, 65535, 65535) {
-        InputCheck::Refused(number, place) => MessagesAnswer::Refused(number, place),
-        InputCheck::Accepted(entries) => messages_in(
-            table, &index, entries, source, tape, list, ends, out,
-        ),
-    }
+    let entries = validate::check_input(table, &mut index, source, tape, 65535, 65535)?;
+    Ok(messages_in(table, &index, entries, source, tape, list, ends, out))
 }

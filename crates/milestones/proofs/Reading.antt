@@ -19,10 +19,11 @@ use Rattle.cursor.specs.Inner.{Named}
 use Rattle.cursor.proofs.Named.{name-cut}
 use Rattle.numbers.proofs.Labels.{part-from}
 use Rattle.definition.specs.Milestones.{ends_in, is_start, is_milestone, base_of}
+use Rattle.std.specs.Prelude.{Option, Some, None}
+use Rattle.milestones.specs.declared.MilestoneSide.{MilestoneSide}
+use Rattle.milestones.specs.declared.MilestoneSide.TheVariants as code
 use Rattle.milestones.specs.Inner.{base_in, among_milestones, step_means, Placed}
 use Rattle.milestones.specs.Inner as among
-use Rattle.milestones.specs.declared.Step.{Step}
-use Rattle.milestones.specs.declared.Step.TheVariants as step
 use Rattle.milestones.proofs.Endings.{too_short}
 
 pub two_bytes : (name : List ℕ) (letter : ℕ) → ends_in letter name ≡ true → 2 ≤ length name
@@ -79,7 +80,7 @@ module _ (s t : List ℕ) (i a n : ℕ) (here : a ≡ start_at t i) (len : n ≡
       ∙ take-take (at.end - at.start - 2) (a + n - (a + at.start)) (drop (a + at.start) s) (omega (arith, x-long)))
 
   -- what is promised of the answer
-  abbrev ReadAs : Step → Type 0
+  abbrev ReadAs : Option MilestoneSide → Type 0
   ReadAs r = ((e : Entry) → e.category ≡ milestone_category → step_means s r ≡ among_milestones e (node_at s t i)) × Placed s r
 
   -- by the tests of the name
@@ -89,15 +90,15 @@ module _ (s t : List ℕ) (i a n : ℕ) (here : a ≡ start_at t i) (len : n ≡
   begins : (y : Bool) → y ≡ ends_in 0x73 name → is_start (node_at s t i) ≡ y
   begins y y-is = ap (ends_in 0x73) (sym is) ∙ sym y-is
 
-  pub a-start : (y : Bool) → y ≡ ends_in 0x73 name → y ≡ true → ReadAs (step.Start (record { node = i; base_len = at.end - at.start - 2 }))
+  pub a-start : (y : Bool) → y ≡ ends_in 0x73 name → y ≡ true → ReadAs (Some (code.Start (record { node = i; base_len = at.end - at.start - 2 })))
   a-start y y-is h = (λ e of. among-start e s t i (milestone e of y (ends_in 0x65 name) y-is refl ∙ rw h) (begins y y-is ∙ h) base-length, tt)
 
-  pub an-end : (y z : Bool) → y ≡ ends_in 0x73 name → z ≡ ends_in 0x65 name → y ≡ false → z ≡ true → at.start ≤ at.end → ReadAs (step.End (a + at.start) (at.end - at.start - 2))
+  pub an-end : (y z : Bool) → y ≡ ends_in 0x73 name → z ≡ ends_in 0x65 name → y ≡ false → z ≡ true → at.start ≤ at.end → ReadAs (Some (code.End (a + at.start) (at.end - at.start - 2)))
   an-end y z y-is z-is h g o =
       let l = named.inside in
       (λ e of. among-end e s t i (milestone e of y z y-is z-is ∙ rw (h, g)) (begins y y-is ∙ h) (base-place o), omega (arith, x-long))
 
-  pub neither : (y z : Bool) → y ≡ ends_in 0x73 name → z ≡ ends_in 0x65 name → y ≡ false → z ≡ false → ReadAs step.Neither
+  pub neither : (y z : Bool) → y ≡ ends_in 0x73 name → z ≡ ends_in 0x65 name → y ≡ false → z ≡ false → ReadAs None
   neither y z y-is z-is h g = (λ e of. among-neither e s t i (milestone e of y z y-is z-is ∙ rw (h, g)), tt)
 
 -- a marker of another category is no milestone, whatever its name

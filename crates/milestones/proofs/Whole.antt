@@ -5,7 +5,7 @@ use native.Mathlib.Omega.{arith}
 use mathlib.Core.Path.{◌≡◌, refl, sym, ap, subst, ◌∙◌}
 use mathlib.Core.Bool.{Bool, true, false, not, ◌&&◌}
 use mathlib.Core.List.{List, [], ◌∷◌, append-nil}
-use mathlib.Core.Option.{Option, some, none}
+use Rattle.std.specs.Prelude.{Option, Some, None}
 use lib.ListN.{length, set}
 use Rattle.text.specs.Pick.{pick}
 use Rattle.tape.specs.Nodes.{Node, node_at}
@@ -20,10 +20,8 @@ use Rattle.definition.specs.Setters.{set_open_starts}
 use Rattle.definition.specs.declared.OpenStart.{OpenStart}
 use Rattle.state.specs.Inner.{open_nodes, state_of, counts_of, with_counts, Opens}
 use Rattle.state.specs.declared.State.{State}
-use Rattle.milestones.specs.Inner.{Measured, AmongMilestones, start, end, neither, among_milestones, nearest_in, removed, opens_without, count_without, opens_by, paired_by, open_after_pair, with_opens, WroteEndAlone, Counted, Countable}
+use Rattle.milestones.specs.Inner.{Measured, AmongMilestones, start, end, neither, among_milestones, nearest_in, removed, opens_without, count_without, opens_by, paired_by, with_opens, WroteEndAlone, Counted, Countable}
 use Rattle.milestones.specs.InnerStep.{MilestoneStep, Milestoned}
-use Rattle.milestones.specs.declared.Paired.{Paired}
-use Rattle.milestones.specs.declared.Paired.TheVariants as paired
 use Rattle.milestones.proofs.Search.{Gone, is_found, found_inside, waits-found, none-taken, one-taken}
 use Rattle.milestones.proofs.Moves.{gone}
 use Rattle.milestones.proofs.Kept.{starts-pushed, opens-pushed, opens-gone}
@@ -114,27 +112,27 @@ module _ (e : Entry) (s t : List ℕ) (i : ℕ) (opens : List OpenStart) (l : Li
         let w : waits x (open_nodes s t opens r.open_len) ≡ is_found f = waits-found s t opens x r.open_len ∙ ap is_found h in
         rw (y, z, w)
 
-    by_itself : nearest_in s t opens r.open_len (base_of x) ≡ none → (l' : List ℕ) (r' : State) → WroteEndAlone t i l r l' r' → Milestoned e s t i opens l r opens l' r'
+    by_itself : nearest_in s t opens r.open_len (base_of x) ≡ None → (l' : List ℕ) (r' : State) → WroteEndAlone t i l r l' r' → Milestoned e s t i opens l r opens l' r'
     by_itself n l' r' w =
         let st : MilestoneStep e s t i opens r opens r = stepped opens r.open_len (rw (y, z) (sym (none-taken s t opens x r.open_len n))) o (omega arith) in
         record {
-          wrote = one-wrote alone true (error x milestone_mismatch end_alone) (error x milestone_mismatch end_alone) (alone-is none n) refl (counts_of r) (counts_of r) l l' (counts_of r') refl w.wrote;
+          wrote = one-wrote alone true (error x milestone_mismatch end_alone) (error x milestone_mismatch end_alone) (alone-is None n) refl (counts_of r) (counts_of r) l l' (counts_of r') refl w.wrote;
           step = subst (λ (q : State). MilestoneStep e s t i opens (with_counts r (counts_of r')) opens q) (sym w.same) (recounted (counts_of r') st);
         }
 
-    room-alone : nearest_in s t opens r.open_len (base_of x) ≡ none → Room (counts_of r) (given (milestone_checks e (state_of s t [] opens r) x)) → Room (counts_of r) (error (node_at [] t i) milestone_mismatch end_alone ∷ [])
-    room-alone n = one-fits alone true (error x milestone_mismatch end_alone) (error x milestone_mismatch end_alone) (alone-is none n) refl (counts_of r) (counts_of r) refl
+    room-alone : nearest_in s t opens r.open_len (base_of x) ≡ None → Room (counts_of r) (given (milestone_checks e (state_of s t [] opens r) x)) → Room (counts_of r) (error (node_at [] t i) milestone_mismatch end_alone ∷ [])
+    room-alone n = one-fits alone true (error x milestone_mismatch end_alone) (error x milestone_mismatch end_alone) (alone-is None n) refl (counts_of r) (counts_of r) refl
 
-    ended : (at : ℕ) → nearest_in s t opens r.open_len (base_of x) ≡ some at → (opens' : List OpenStart) → opens' ≡ removed opens r.open_len at → length opens' ≡ length opens → Milestoned e s t i opens l r opens' l (with_opens r (r.open_len - 1))
+    ended : (at : ℕ) → nearest_in s t opens r.open_len (base_of x) ≡ Some at → (opens' : List OpenStart) → opens' ≡ removed opens r.open_len at → length opens' ≡ length opens → Milestoned e s t i opens l r opens' l (with_opens r (r.open_len - 1))
     ended at n opens' w len =
         let a = found_inside s t opens (base_of x) r.open_len at n in
         let up : r.open_len ≡ suc (r.open_len - 1) = omega arith in
         let up' : r.open_len ≡ r.open_len - 1 + 1 = omega arith in
         let g : Gone opens opens' (r.open_len - 1) at = rw w (gone opens r.open_len at a o.room) in
-        let found : nearest_in s t opens (suc (r.open_len - 1)) (base_of x) ≡ some at = ap (λ (n : ℕ). nearest_in s t opens n (base_of x)) (sym up) ∙ n in
+        let found : nearest_in s t opens (suc (r.open_len - 1)) (base_of x) ≡ Some at = ap (λ (n : ℕ). nearest_in s t opens n (base_of x)) (sym up) ∙ n in
         let taken : without x (open_nodes s t opens r.open_len) ≡ open_nodes s t opens' (r.open_len - 1) = ap (λ (n : ℕ). without x (open_nodes s t opens n)) up ∙ one-taken s t opens opens' at x (r.open_len - 1) g found in
         let o' : Opens s t opens (r.open_len - 1 + 1) = rw up' at o in
-        no-finding (alone-is (some at) n) (stepped opens' (r.open_len - 1) (rw (y, z) (sym taken)) (opens-gone s t opens opens' (r.open_len - 1) at g (omega arith) len o') (omega arith))
+        no-finding (alone-is (Some at) n) (stepped opens' (r.open_len - 1) (rw (y, z) (sym taken)) (opens-gone s t opens opens' (r.open_len - 1) at g (omega arith) len o') (omega arith))
 
   -- by what the node is
   by_cases : (P : AmongMilestones → Type 0) → (is_milestone e x ≡ false → P neither) → (is_milestone e x ≡ true → is_start x ≡ true → P (start i (length (base_of x)))) → (is_milestone e x ≡ true → is_start x ≡ false → P (end (base_of x))) → (m : AmongMilestones) → m ≡ among_milestones e x → P m
@@ -149,8 +147,8 @@ module _ (e : Entry) (s t : List ℕ) (i : ℕ) (opens : List OpenStart) (l : Li
   countable m m-is n n-is h = rw n-is (by_cases (λ (m : AmongMilestones). Countable t i (paired_by s t opens r.open_len m) r) (λ y. tt) (λ y z. tt) (λ y z. go y z (nearest_in s t opens r.open_len (base_of x)) refl) m m-is)
     where
       go : is_milestone e x ≡ true → is_start x ≡ false → (f : Option ℕ) → nearest_in s t opens r.open_len (base_of x) ≡ f → Countable t i (count_without r.open_len f) r
-      go y z (some j) f-is = tt
-      go y z none f-is = room-alone y z f-is h
+      go y z (Some j) f-is = tt
+      go y z None f-is = room-alone y z f-is h
 
   -- from the open starts and their number to the promise
   module _ (sp : Spanned s t i) (room : r.open_len < length opens) (opens' : List OpenStart) (long : length opens' ≡ length opens) (l' : List ℕ) (q : State) where
@@ -158,8 +156,8 @@ module _ (e : Entry) (s t : List ℕ) (i : ℕ) (opens : List OpenStart) (l : Li
     Leads ys n = opens' ≡ ys → Counted t i n l r l' q → Milestoned e s t i opens l r opens' l' q
 
     end-leads : is_milestone e x ≡ true → is_start x ≡ false → (f : Option ℕ) → nearest_in s t opens r.open_len (base_of x) ≡ f → Leads (opens_without opens r.open_len f) (count_without r.open_len f)
-    end-leads y z (some j) f-is w c = rw (c.0, c.1) (ended y z j f-is opens' w long)
-    end-leads y z none f-is w c = rw w (by_itself y z f-is l' q c)
+    end-leads y z (Some j) f-is w c = rw (c.0, c.1) (ended y z j f-is opens' w long)
+    end-leads y z None f-is w c = rw w (by_itself y z f-is l' q c)
 
     leads : (m : AmongMilestones) → m ≡ among_milestones e x → Leads (opens_by s t opens r.open_len m) (paired_by s t opens r.open_len m)
     leads =
@@ -170,7 +168,3 @@ module _ (e : Entry) (s t : List ℕ) (i : ℕ) (opens : List OpenStart) (l : Li
 
   pub milestoned : (m : AmongMilestones) → m ≡ among_milestones e x → Spanned s t i → r.open_len < length opens → (opens' : List OpenStart) → opens' ≡ opens_by s t opens r.open_len m → length opens' ≡ length opens → (n : Option ℕ) → n ≡ paired_by s t opens r.open_len m → (l' : List ℕ) (q : State) → Counted t i n l r l' q → Milestoned e s t i opens l r opens' l' q
   milestoned m m-is sp room opens' w long n n-is l' q c = leads sp room opens' long l' q m m-is w (rw n-is at c)
-
--- the room that is asked for, where an end stands alone
-pub countable-alone : (t : List ℕ) (i : ℕ) (p : Paired) (r : State) → p ≡ paired.Alone → Countable t i (open_after_pair p) r → Room (counts_of r) (error (node_at [] t i) milestone_mismatch end_alone ∷ [])
-countable-alone t i p r h c = rw h at c

@@ -8,7 +8,7 @@ ghost use Rattle.cursor.specs.Inner.{Spanned};
 ghost use Rattle.definition.specs.Checks.{error};
 ghost use Rattle.definition.specs.Milestones.{ends_in, base_of};
 ghost use Rattle.state.specs.Inner.{counts_of, Opens};
-ghost use Rattle.milestones.specs.Inner.{base_in, Measured, among_milestones, step_means, Placed, base_at, nearest_in, found_entry, removed, opens_by, paired_by, open_after_pair, with_opens, WroteEndAlone, Counted, Countable};
+ghost use Rattle.milestones.specs.Inner.{base_in, Measured, among_milestones, step_means, Placed, base_at, nearest_in, removed, opens_by, paired_by, with_opens, WroteEndAlone, Counted, Countable};
 ghost use Rattle.milestones.specs.InnerStep.{Milestoned, Steppable};
 ghost use Rattle.findings.specs.Codes.{milestone_mismatch, end_alone};
 ghost use Rattle.text.specs.Bytes.{equal};
@@ -19,27 +19,11 @@ use findings::Severity;
 use state::State;
 use table::MarkerInfo;
 
-// An entry among the open starts, if there is one.
+// A milestone: a start as an entry of the open starts, or an end with the place of its base in the source.
 #[derive(Clone, Copy)]
-pub enum Found {
-    At(usize),
-    Nothing,
-}
-
-// What a marker is among milestones: a start as an entry of the open starts, an end with the place of its base in the source, or
-// neither.
-#[derive(Clone, Copy)]
-pub enum Step {
+pub enum MilestoneSide {
     Start(OpenStart),
     End(usize, usize),
-    Neither,
-}
-
-// How many open starts there are after a marker, or that it is an end without an open start.
-#[derive(Clone, Copy)]
-pub enum Paired {
-    Now(usize),
-    Alone,
 }
 
 // Whether a name ends in a hyphen and the letter.
@@ -68,7 +52,7 @@ pub fn milestone_base(name: &[u8]) -> &[u8]
 }
 
 // What a marker whose category is milestone is, by its name.
-fn step_named(source: &[u8], tape: &[u8], i: usize) -> Step
+fn step_named(source: &[u8], tape: &[u8], i: usize) -> Option<MilestoneSide>
     requires { (Spanned source.now tape.now i) × (i < 4294967296) }
     ensures { ((e : Entry) → e.category ≡ milestone_category → step_means source.now result ≡ among_milestones e (node_at source.now tape.now i)) × (Placed source.now result) }
 {
@@ -80,26 +64,26 @@ fn step_named(source: &[u8], tape: &[u8], i: usize) -> Step
     let e = at.end;
     let name = &text[b..e];
     if ends_in(name, b's') {
-        return Step::Start(OpenStart {
+        return Some(MilestoneSide::Start(OpenStart {
             node: i as u32,
             base_len: (e - b - 2) as u32,
-        });
+        }));
     }
     if ends_in(name, b'e') {
-        return Step::End(a + b, e - b - 2);
+        return Some(MilestoneSide::End(a + b, e - b - 2));
     }
-    Step::Neither
+    None
 }
 
 // What a marker is. Most are no milestones, and their names aren't read.
-pub fn step_of(m: MarkerInfo, source: &[u8], tape: &[u8], i: usize) -> Step
+pub fn step_of(m: MarkerInfo, source: &[u8], tape: &[u8], i: usize) -> Option<MilestoneSide>
     requires { (Spanned source.now tape.now i) × (i < 4294967296) }
     ensures { (step_means source.now result ≡ among_milestones (entry_of_info m) (node_at source.now tape.now i)) × (Placed source.now result) }
 {
     if state::is_of(m, table::MILESTONE) {
         return step_named(source, tape, i);
     }
-    Step::Neither
+    None
 }
 
 // Whether an open start has the base that stands at a place of the source; the length of its own is known, and most differ by it.
@@ -153,19 +137,19 @@ fn nearest(
     k: usize,
     at: usize,
     len: usize,
-) -> Found
+) -> Option<usize>
     requires { (Opens source.now tape.now opens.old k) × (at + len ≤ length source.now) }
-    ensures { (opens.new ≡ opens.old) × (found_entry result ≡ nearest_in source.now tape.now opens.old k (base_at source.now at len)) }
+    ensures { (opens.new ≡ opens.old) × (result ≡ nearest_in source.now tape.now opens.old k (base_at source.now at len)) }
 {
     let mut j = k;
     while 0 < j {
         j -= 1;
         let o = opens[j];
         if has_base(source, tape, o, at, len) {
-            return Found::At(j);
+            return Some(j);
         }
     }
-    Found::Nothing
+    None
 }
 
 fn push(opens: &mut [OpenStart], k: usize, o: OpenStart)
@@ -190,35 +174,48 @@ fn remove(opens: &mut [OpenStart], k: usize, at: usize)
     }
 }
 
-// The open starts after a marker, of which there are k before it: a start is one more, an end takes the latest of its base.
-fn pair(source: &[u8], tape: &[u8], step: Step, opens: &mut [OpenStart], k: usize) -> Paired
+// How many open starts there are after a marker, of k before it: a start is one more, an end takes the latest of its base. None is an end
+// without an open start.
+fn pair(
+    source: &[u8],
+    tape: &[u8],
+    step: Option<MilestoneSide>,
+    opens: &mut [OpenStart],
+    k: usize,
+) -> Option<usize>
     requires { (Opens source.now tape.now opens.old k) × (k < length opens.old) × (Placed source.now step) }
-    ensures { (opens.new ≡ opens_by source.now tape.now opens.old k (step_means source.now step)) × (open_after_pair result ≡ paired_by source.now tape.now opens.old k (step_means source.now step)) }
+    ensures { (opens.new ≡ opens_by source.now tape.now opens.old k (step_means source.now step)) × (result ≡ paired_by source.now tape.now opens.old k (step_means source.now step)) }
 {
-    match step {
-        Step::Neither => Paired::Now(k),
-        Step::Start(o) => {
+    let Some(side) = step else {
+        return Some(k);
+    };
+    match side {
+        MilestoneSide::Start(o) => {
             push(opens, k, o);
-            Paired::Now(k + 1)
+            Some(k + 1)
         }
-        Step::End(at, len) => match nearest(source, tape, opens, k, at, len) {
-            Found::At(j) => {
-                remove(opens, k, j);
-                Paired::Now(k - 1)
-            }
-            Found::Nothing => Paired::Alone,
-        },
+        MilestoneSide::End(at, len) => {
+            let j = nearest(source, tape, opens, k, at, len)?;
+            remove(opens, k, j);
+            Some(k - 1)
+        }
     }
 }
 
-// The record after a marker, by the number of open starts after it.
-pub fn after_pair(tape: &[u8], i: usize, p: Paired, rec: State, list: &mut [u64]) -> State
-    requires { (i < count tape.now) × Countable tape.now i (open_after_pair p) rec }
-    ensures { Counted tape.now i (open_after_pair p) list.old rec list.new result }
+// The record after a marker, by how many open starts there are after it; none says that it is an end without an open start.
+pub fn after_pair(
+    tape: &[u8],
+    i: usize,
+    paired: Option<usize>,
+    rec: State,
+    list: &mut [u64],
+) -> State
+    requires { (i < count tape.now) × Countable tape.now i paired rec }
+    ensures { Counted tape.now i paired list.old rec list.new result }
 {
-    match p {
-        Paired::Now(n) => with_open(rec, n),
-        Paired::Alone => push_end_alone(tape, i, rec, list),
+    match paired {
+        Some(n) => with_open(rec, n),
+        None => push_end_alone(tape, i, rec, list),
     }
 }
 
@@ -236,6 +233,6 @@ pub fn milestone(
     ensures { Milestoned (entry_of_info m) source.now tape.now i opens.old list.old rec opens.new list.new result }
 {
     let step = step_of(m, source, tape, i);
-    let p = pair(source, tape, step, opens, rec.open_len);
-    after_pair(tape, i, p, rec, list)
+    let paired = pair(source, tape, step, opens, rec.open_len);
+    after_pair(tape, i, paired, rec, list)
 }

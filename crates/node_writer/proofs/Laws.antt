@@ -1,13 +1,16 @@
 -- What the functions store, part by part, is what their contracts say.
 -- Assumes nothing.
-use Prim.Native.Nat.{ℕ, zero, suc, ◌+◌, ◌*◌, ◌/◌, ◌%◌, ◌≤◌}
+use Prim.Native.Nat.{ℕ, zero, suc, ◌+◌, ◌*◌, ◌/◌, ◌%◌, ◌<◌, ◌≤◌}
 use native.Mathlib.Nat.{add-zero}
 use native.Mathlib.Omega.{arith}
 use native.Mathlib.Numerals.{towards_suc}
-use mathlib.Core.Path.{◌≡◌, refl, sym, ◌∙◌}
-use mathlib.Core.List.{List, []}
-use lib.ListN.{length, set}
-use lib.Seq.{sets}
+use mathlib.Core.Path.{◌≡◌, refl, sym, ap, ◌∙◌}
+use mathlib.Core.List.{List, [], ◌∷◌, append_assoc}
+use lib.ListN.{length, set, take}
+use lib.Seq.{drop-drop}
+use borrow.Rule.Slice.PartMut.{put_mid}
+use Rattle.std.specs.Int.{w16, w32, to_le_bytes}
+use Rattle.std.proofs.lemmas.List.Edits.{sets, sets-eq}
 use borrow.Author.Tests.{eq-eqb, ne_eqb}
 use Rattle.tape.specs.Nodes.{marker_at, link_at, text_kind, attribute_kind, block_end_kind}
 use Rattle.definition.specs.Examples.{row, four, tape_of}
@@ -17,12 +20,22 @@ use Rattle.reader_spec.specs.InnerWriting.{put_row, put_link, laid}
 use Rattle.node_writer.specs.declared.Written.{Written}
 use Rattle.node_writer.specs.Written.{written, Ready, closed, after_close, block_ends, ended_block, after_block}
 
--- a row, from its first four bytes and three numbers of four bytes
-pub row-stored : (w w1 w2 w3 : List ℕ) (n k m a l x : ℕ) → w1 ≡ sets (set (set (set (set w (16 * n) k) (16 * n + 1) 0) (16 * n + 2) (m % 256)) (16 * n + 3) (m / 256)) (16 * n + 4) (four a) → w2 ≡ sets w1 (16 * n + 8) (four l) → w3 ≡ sets w2 (16 * n + 12) (four x) → w3 ≡ put_row w n (row k m a l x)
+-- bytes copied over a part of a list
+pub copied : (l vs : List ℕ) (at k : ℕ) → k ≡ length vs → at + length vs ≤ length l → put_mid at k l vs ≡ sets l at vs
+copied l vs at k e h = rw (sets-eq vs l at h, e, drop-drop (length vs) at l, append_assoc (take at l) vs)
+
+pub two-bytes : (n : ℕ) → n < 65536 → to_le_bytes w16 n ≡ n % 256 ∷ n / 256 ∷ []
+two-bytes n h = ap (λ (x : ℕ). n % 256 ∷ x ∷ []) (omega arith)
+
+pub four-bytes : (n : ℕ) → n < 4294967296 → to_le_bytes w32 n ≡ four n
+four-bytes n h = ap (λ (x : ℕ). n % 256 ∷ n / 256 % 256 ∷ n / 65536 % 256 ∷ x ∷ []) (omega arith)
+
+-- a row, from its kind, its marker and three numbers of four bytes
+pub row-stored : (w w0 w1 w2 w3 : List ℕ) (n k m a l x : ℕ) → w0 ≡ sets (set (set w (16 * n) k) (16 * n + 1) 0) (16 * n + 2) (m % 256 ∷ m / 256 ∷ []) → w1 ≡ sets w0 (16 * n + 4) (four a) → w2 ≡ sets w1 (16 * n + 8) (four l) → w3 ≡ sets w2 (16 * n + 12) (four x) → w3 ≡ put_row w n (row k m a l x)
 unfolding put_row tape_of
-row-stored w w1 w2 w3 n k m a l x e f g =
+row-stored w w0 w1 w2 w3 n k m a l x d e f g =
     let z : 16 * n + 12 ≡ suc (suc (suc (suc (suc (suc (suc (suc (suc (suc (suc (suc (16 * n)))))))))))) = omega arith in
-    g ∙ rw (f, e, z) (simp towards_suc)
+    g ∙ rw (f, e, d, z) (simp towards_suc)
 
 -- a Text and an Attribute: of no bytes, and of some
 module _ (w : List ℕ) (n at : ℕ) where

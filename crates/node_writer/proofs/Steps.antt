@@ -6,7 +6,7 @@ use native.Mathlib.Numerals.{add-one}
 use native.Mathlib.Omega.{arith}
 use mathlib.Core.Path.{◌≡◌, refl, sym, ap, ◌∙◌}
 use mathlib.Core.List.{List, [], ◌∷◌, ◌++◌}
-use mathlib.Core.Option.{Option, some, none}
+use Rattle.std.specs.Prelude.{Option, Some, None}
 use lib.ListN.{length, length-append}
 use borrow.Author.Tests.{eq-eqb, ne_eqb}
 use Rattle.tape.specs.Nodes.{marker_open_kind, marker_close_kind}
@@ -29,8 +29,8 @@ attribute-then at zero xs ys = refl
 attribute-then at (suc len) xs ys = refl
 
 pub block-end-then : (b : Option ℕ) (at : ℕ) (xs ys : List ReadNode) → with_block_end b at xs ++ ys ≡ with_block_end b at (xs ++ ys)
-block-end-then none at xs ys = refl
-block-end-then (some m) at xs ys = refl
+block-end-then None at xs ys = refl
+block-end-then (Some m) at xs ys = refl
 
 milestone-then : (m at l x y : ℕ) (ys : List ReadNode) → milestone_nodes m at l x y ++ ys ≡ opens m at l ∷ with_text (at + l) x (with_attribute (at + l + x) y (closes m (at + l + x + y) 2 ∷ ys))
 milestone-then m at l x y ys =
@@ -113,10 +113,10 @@ module _ (whole w : List ℕ) (n top : ℕ) (os ms : List ℕ) (is : List ReadNo
 module _ (whole w : List ℕ) (n top : ℕ) (at : ℕ) (is : List ReadNode) where
   pub ready-for-block-end : (b : Option ℕ) (os : List ℕ) → Writing whole w n top os (block_marker b) (with_block_end b at is) → n + length (with_block_end b at is) ≤ node_limit → at ≤ text_limit → Ready w (written n top) (block_ends (written n top)) at
   unfolding OpensWait Marked
-  ready-for-block-end none [] h few near = let c = h.chain in rw (eq-eqb top 0 c) (ready_for whole w n top [] [] is [] at h few near)
-  ready-for-block-end none (o ∷ os) h few near = absurd h.marks
-  ready-for-block-end (some m) [] h few near = absurd h.marks
-  ready-for-block-end (some m) (o ∷ os) h few near =
+  ready-for-block-end None [] h few near = let c = h.chain in rw (eq-eqb top 0 c) (ready_for whole w n top [] [] is [] at h few near)
+  ready-for-block-end None (o ∷ os) h few near = absurd h.marks
+  ready-for-block-end (Some m) [] h few near = absurd h.marks
+  ready-for-block-end (Some m) (o ∷ os) h few near =
       let a = h.chain.0 in
       let b = h.chain.1 in
       rw (ne_eqb top 0 (λ z. omega arith)) (ready_for whole w n top (m ∷ []) (o ∷ os) is (ends m at ∷ []) at h few near)
@@ -124,12 +124,12 @@ module _ (whole w : List ℕ) (n top : ℕ) (at : ℕ) (is : List ReadNode) wher
   module _ (v : List ℕ) (r : Written) (e : (v ≡ ended_block w (written n top) at) × (r ≡ after_block w (written n top))) where
     pub after-block-end : (b : Option ℕ) (os : List ℕ) → Writing whole w n top os (block_marker b) (with_block_end b at is) → Writing whole v r.next r.top [] [] is
     unfolding OpensWait Marked
-    after-block-end none [] h = let c = h.chain in rw (e.0, e.1, eq-eqb top 0 c) h
-    after-block-end none (o ∷ os) h = absurd h.marks
-    after-block-end (some m) [] h = absurd h.marks
-    after-block-end (some m) (o ∷ []) h =
+    after-block-end None [] h = let c = h.chain in rw (e.0, e.1, eq-eqb top 0 c) h
+    after-block-end None (o ∷ os) h = absurd h.marks
+    after-block-end (Some m) [] h = absurd h.marks
+    after-block-end (Some m) (o ∷ []) h =
         let a = h.chain.0 in
         let b = h.chain.1 in
         let p = write-close whole w n top o m [] [] (ends m at) is 0 refl h in
         rw (e.0, e.1, ne_eqb top 0 (λ z. omega arith), p.0, add-one n) p.1
-    after-block-end (some m) (o ∷ q ∷ os) h = absurd h.marks.1
+    after-block-end (Some m) (o ∷ q ∷ os) h = absurd h.marks.1

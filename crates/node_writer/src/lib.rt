@@ -23,10 +23,7 @@ fn put_four(t: &mut [u8], at: usize, n: u32)
     requires { at + 4 ≤ length t.old }
     ensures { t.new ≡ sets t.old at (four n) }
 {
-    t[at] = (n % 256) as u8;
-    t[at + 1] = (n / 256 % 256) as u8;
-    t[at + 2] = (n / 65536 % 256) as u8;
-    t[at + 3] = (n / 16777216) as u8;
+    t[at..at + 4].copy_from_slice(&n.to_le_bytes());
 }
 
 // Node n, with flags 0; gives the number after it.
@@ -45,8 +42,7 @@ pub fn put_row(
     let at = 16 * n;
     t[at] = kind;
     t[at + 1] = 0;
-    t[at + 2] = (marker % 256) as u8;
-    t[at + 3] = (marker / 256) as u8;
+    t[at + 2..at + 4].copy_from_slice(&marker.to_le_bytes());
     put_four(t, at + 4, start);
     put_four(t, at + 8, len);
     put_four(t, at + 12, link);
@@ -54,6 +50,7 @@ pub fn put_row(
 }
 
 // The link of node o, and nothing else of it.
+#[tactic(auto, unfolding(reader_spec::specs::InnerWriting::put_link))]
 pub fn put_link(t: &mut [u8], o: usize, link: u32)
     requires { 16 * o + 16 ≤ length t.old }
     ensures { t.new ≡ put_link t.old o link }

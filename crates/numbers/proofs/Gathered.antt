@@ -4,7 +4,7 @@ use Prim.Native.Nat.{ℕ, zero, suc, ◌+◌, ◌-◌, ◌<◌, ◌≤◌}
 use mathlib.Core.Path.{◌≡◌, refl, ap, ◌∙◌}
 use mathlib.Core.Bool.{Bool, true, false}
 use mathlib.Core.List.{List, ◌++◌, append_assoc, append-nil}
-use mathlib.Core.Option.{Option, none}
+use Rattle.std.specs.Prelude.{Option, Some, None}
 use native.Mathlib.Nat.{add-zero, zero-add}
 use native.Mathlib.Numerals.{add-one}
 use native.Mathlib.Omega.{arith}
@@ -91,10 +91,10 @@ module _ (bad : ℕ → Bool) (i next n : ℕ) (low : i ≤ next) (high : next �
       let p : i + (next - i) ≡ next = omega arith in
       rw (e, first-parts bad i (next - i) (n - next), p)
 
-  pub first-there : (o : Option Refusal) (at : ℕ) → o ≡ refuse split_label at → o ≡ first_bad split_label bad i (next - i) → first_bad split_label bad i (n - i) ≡ refuse split_label at
-  first-there o at e f = split-there ∙ rw (← f, e)
+  pub first-there : (r : Refusal) → Some r ≡ first_bad split_label bad i (next - i) → first_bad split_label bad i (n - i) ≡ Some r
+  first-there r f = split-there ∙ rw (← f)
 
-  pub first-later : (o : Option Refusal) → o ≡ none → o ≡ first_bad split_label bad i (next - i) → first_bad split_label bad i (n - i) ≡ first_bad split_label bad next (n - next)
+  pub first-later : (o : Option Refusal) → o ≡ None → o ≡ first_bad split_label bad i (next - i) → first_bad split_label bad i (n - i) ≡ first_bad split_label bad next (n - next)
   first-later o e f = split-there ∙ rw (← f, e)
 
 -- a search among some nodes, a node at a time
@@ -109,6 +109,6 @@ module _ (bad : ℕ → Bool) (l : List ℕ) (j : ℕ) where
   pub among-pass : j < length l → bad (get_or l j 0) ≡ false → first_among bad (drop j l) ≡ first_among bad (drop (j + 1) l)
   among-pass h e = among-step h ∙ rw e
 
-  pub among-end : length l ≤ j → first_among bad (drop j l) ≡ none
+  pub among-end : length l ≤ j → first_among bad (drop j l) ≡ None
   unfolding first_among
   among-end h = rw (drop_of_length-le l {i = j} h)

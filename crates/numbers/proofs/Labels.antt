@@ -5,7 +5,7 @@ use mathlib.Core.Path.{◌≡◌, refl, sym, ap, ◌∙◌}
 use mathlib.Core.Bool.{Bool, true, false, not, ◌&&◌}
 use mathlib.Core.Logic.{inl, inr}
 use mathlib.Core.List.{List}
-use mathlib.Core.Option.{Option, some, none}
+use Rattle.std.specs.Prelude.{Option, Some, None}
 use native.Mathlib.Decide.{dec_lt}
 use native.Mathlib.Nat.{le_refl}
 use native.Mathlib.Omega.{arith}
@@ -28,8 +28,6 @@ use Rattle.tape.specs.Nodes.{count, kind_at, span}
 use Rattle.refusals.specs.Refusal.{first_bad, split_label}
 use Rattle.table.specs.Entries.{Entry, info_of}
 use Rattle.table.specs.declared.MarkerInfo.{MarkerInfo}
-use Rattle.table.specs.declared.Info.{Info}
-use Rattle.table.specs.declared.Info.TheVariants as info
 use Rattle.cursor.specs.declared.NameSpan.{NameSpan}
 use Rattle.cursor.specs.Names.{ends_name, name_part, name_of}
 use Rattle.cursor.specs.Info.{info_at}
@@ -39,7 +37,7 @@ use Rattle.numbers.specs.declared.LabelSpan.{LabelSpan}
 use Rattle.numbers.specs.Inner.{split_at, Labelled, LabelledBy, Usual}
 use Rattle.numbers.specs.Label.{base_len, is_glued, label_of, splits, numbered, bad_label, label_refusal}
 
-pub base-own : (m : Info) (name : List ℕ) → m ≡ info.Missing → length name ≡ base_len (info_of m) name
+pub base-own : (m : Option MarkerInfo) (name : List ℕ) → m ≡ None → length name ≡ base_len (info_of m) name
 base-own m name h = rw h refl
 
 pub glued-by : (e : Option Entry) (text name : List ℕ) (base : ℕ) → name ≡ name_of text → base ≡ base_len e name → ltb base (length name) ≡ is_glued e (name_of text)
@@ -142,8 +140,8 @@ name-short s = omega (arith, length-take (name_part s).len (drop (name_part s).s
 -- the label of an entry: without one, no name is longer than the text
 pub labelled : (e : Option Entry) (s : List ℕ) (base : ℕ) (r : LabelSpan) → base ≡ base_len e s → LabelledBy base s r → Labelled e s r
 unfolding label_of
-labelled (some x) s base r h l = record { glued_is = rw h at l.glued_is; label_is = rw h at l.label_is; ordered = l.ordered; inside = l.inside }
-labelled none s base r h l =
+labelled (Some x) s base r h l = record { glued_is = rw h at l.glued_is; label_is = rw h at l.label_is; ordered = l.ordered; inside = l.inside }
+labelled None s base r h l =
     let v : ltb base (length (name_of s)) ≡ false = le-ltb base (length (name_of s)) (omega (arith, name-short s)) in
     let own : ltb (length (name_of s)) (length (name_of s)) ≡ false = le-ltb (length (name_of s)) (length (name_of s)) (le_refl (length (name_of s))) in
     record { glued_is = l.glued_is ∙ v ∙ sym own; label_is = l.label_is ∙ rw (v, own) refl; ordered = l.ordered; inside = l.inside }
@@ -181,11 +179,11 @@ module _ (s : List ℕ) (b base : ℕ) (is-start : b ≡ (name_part s).start) wh
 pub split_by : (s name : List ℕ) (base : ℕ) → name ≡ name_of s → (v : Bool) → ltb base (length name) ≡ v → (v && not (is_boundary name base)) ≡ split_at (name_of s) base
 split_by s name base named v h = rw (← h, named)
 
-pub split-known : (m : MarkerInfo) (i : Info) (s : List ℕ) → i ≡ info.Known m → split_at (name_of s) m.name_len ≡ splits (info_of i) s
+pub split-known : (m : MarkerInfo) (i : Option MarkerInfo) (s : List ℕ) → i ≡ Some m → split_at (name_of s) m.name_len ≡ splits (info_of i) s
 unfolding splits
 split-known m i s h = rw h
 
-pub split-missing : (i : Info) (s : List ℕ) → i ≡ info.Missing → false ≡ splits (info_of i) s
+pub split-missing : (i : Option MarkerInfo) (s : List ℕ) → i ≡ None → false ≡ splits (info_of i) s
 unfolding splits
 split-missing i s h = rw (h, le-ltb (length (name_of s)) (length (name_of s)) (le_refl (length (name_of s))))
 

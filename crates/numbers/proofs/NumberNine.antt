@@ -5,7 +5,7 @@ use native.Mathlib.Omega.{arith}
 use mathlib.Core.Path.{◌≡◌, sym, subst}
 use mathlib.Core.List.{List}
 use mathlib.Core.Logic.{◌↔◌}
-use mathlib.Core.Option.{some, none}
+use Rattle.std.specs.Prelude.{Some, None}
 use Rattle.tape.specs.Nodes.{count}
 use Rattle.refusals.specs.Refusal.{Refusal, refuse, AllGood, First, split_label}
 use Rattle.refusals.proofs.First.{first_of, none_of, all_none, first-is}
@@ -23,11 +23,11 @@ module _ (table s t : List ℕ) (some-node : 1 ≤ count t) where
   )
 
   -- and no other number is
-  pub number-9-one : (r : Refusal) → label_refusal table s t ≡ some r → r.number ≡ 9
+  pub number-9-one : (r : Refusal) → label_refusal table s t ≡ Some r → r.number ≡ 9
   unfolding label_refusal
   number-9-one r e = (first_of split_label (bad_label table s t) (count t - 1) 1 r e).0
 
-  pub number-9-none : (label_refusal table s t ≡ none) ↔ AllGood (bad_label table s t) 1 (count t)
+  pub number-9-none : (label_refusal table s t ≡ None) ↔ AllGood (bad_label table s t) 1 (count t)
   unfolding label_refusal
   number-9-none = (
     λ e. subst (λ (n : ℕ). AllGood (bad_label table s t) 1 n) all (none_of split_label (bad_label table s t) (count t - 1) 1 e),

@@ -4,7 +4,8 @@ use Prim.Native.Nat.{ℕ, ◌≤◌}
 use mathlib.Core.Path.{◌≡◌, refl, sym}
 use mathlib.Core.Bool.{Bool, true, false, ◌&&◌}
 use mathlib.Core.List.{List, [], ◌∷◌}
-use mathlib.Core.Option.{Option, some, none, none-ne-some, some-injective}
+use Rattle.std.specs.Prelude.{Option, Some, None}
+use Rattle.std.proofs.lemmas.Option.{none-some, same_Some}
 use native.Mathlib.Omega.{arith}
 use borrow.Author.Tests.{lt-ltb, leb-true}
 use lib.Dec.{leb, eqb}
@@ -16,13 +17,13 @@ use Rattle.text.proofs.Rows.{within-hi}
 use Rattle.numbers.specs.Verse.{Position, PartReading, position, no_digits, too_large, Readable, letter_of, is_letter_low, with_letter, digits_end, part_of, verse_part, end_start, verse_end}
 use Rattle.text.proofs.Bool.{and_right}
 
-picked : (c : Bool) (v n : ℕ) → pick c (some v) none ≡ some n → (c ≡ true) × (v ≡ n)
-picked true v n h = (refl, some-injective v n h)
-picked false v n h = absurd (none-ne-some n h)
+picked : (c : Bool) (v n : ℕ) → pick c (Some v) None ≡ Some n → (c ≡ true) × (v ≡ n)
+picked true v n h = (refl, same_Some v n h)
+picked false v n h = absurd (none-some n h)
 
-limited : (t : List ℕ) (n : ℕ) → digits t ≡ some n → n ≤ 4294967295
+limited : (t : List ℕ) (n : ℕ) → digits t ≡ Some n → n ≤ 4294967295
 unfolding digits digits_from
-limited [] n h = absurd (none-ne-some n h)
+limited [] n h = absurd (none-some n h)
 limited (b ∷ t) n h =
     let v = value_from 0 (b ∷ t) in
     let p = picked (all_digits (b ∷ t) && leb v 4294967295) v n h in
@@ -32,7 +33,7 @@ low-letter : (s : List ℕ) → is_letter_low (letter_of s) ≡ true
 low-letter [] = refl
 low-letter (b ∷ s) = go (within 0x61 0x7A b) refl
   where
-    go : (v : Bool) → within 0x61 0x7A b ≡ v → is_letter_low (pick v (some b) none) ≡ true
+    go : (v : Bool) → within 0x61 0x7A b ≡ v → is_letter_low (pick v (Some b) None) ≡ true
     go true h = let l = within-hi 0x61 0x7A b h in lt-ltb b 255 (omega arith)
     go false h = refl
 
@@ -48,8 +49,8 @@ part-readable s = go (eqb (digits_end s) 0) (digits (take (digits_end s) s)) ref
   where
     go : (b : Bool) (o : Option ℕ) → digits (take (digits_end s) s) ≡ o → ReadableIf (pick b no_digits (with_letter o (letter_of (drop (digits_end s) s))))
     go true o e = tt
-    go false none e = tt
-    go false (some n) e = record { number_low = limited (take (digits_end s) s) n e; letter_low = low-letter (drop (digits_end s) s) }
+    go false None e = tt
+    go false (Some n) e = record { number_low = limited (take (digits_end s) s) n e; letter_low = low-letter (drop (digits_end s) s) }
 
 pub start-readable : (s : List ℕ) (p : Position) → verse_part s ≡ position p → Readable p
 unfolding verse_part

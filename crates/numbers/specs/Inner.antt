@@ -1,6 +1,6 @@
 -- What the inner functions promise.
 use Rattle.std.specs.Prelude.{ℕ, zero, suc, ◌-◌, ◌≤◌, ◌≡◌, Bool, true, false, not, ◌&&◌, List, [], ◌∷◌, ltb, length, get_or, take, drop}
-use Rattle.std.proofs.Math.Option.{Option, none}
+use Rattle.std.specs.Prelude.{Option, None}
 use Rattle.text.specs.Pick.{within, cut, pick}
 use Rattle.text.specs.Characters.{is_boundary}
 use Rattle.tape.specs.Nodes.{kind_at}
@@ -48,5 +48,5 @@ numbers_in t i (suc n) = kept_if (numbered (kind_at t i)) i (numbers_in t (suc i
 
 -- the first of some nodes that is bad, with number 9
 unfoldable pub first_among : (ℕ → Bool) → List ℕ → Option Refusal
-first_among bad [] = none
+first_among bad [] = None
 first_among bad (i ∷ l) = or_else (only_if (bad i) (refuse split_label i)) (first_among bad l)

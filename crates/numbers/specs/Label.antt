@@ -1,6 +1,6 @@
 -- Document 01, module 4: "A label is what the marker name has beyond its table name (glued), else the second word of the node's text."
 use Rattle.std.specs.Prelude.{ℕ, ◌-◌, Bool, not, ◌&&◌, ◌||◌, List, eqb, ltb, length, drop}
-use Rattle.std.proofs.Math.Option.{Option, some, none}
+use Rattle.std.specs.Prelude.{Option, Some, None}
 use Rattle.text.specs.Pick.{cut, pick}
 use Rattle.text.specs.Characters.{is_boundary}
 use Rattle.text.specs.Words.{second_word}
@@ -9,13 +9,11 @@ use Rattle.refusals.specs.Refusal.{Refusal, refuse, first_bad, split_label}
 use Rattle.table.specs.Entries.{Entry}
 use Rattle.cursor.specs.Names.{name_of}
 use Rattle.cursor.specs.Info.{info_at}
-use Rattle.numbers.specs.declared.LabelCheck.{LabelCheck}
-use Rattle.numbers.specs.declared.LabelCheck.TheVariants as label
 
 -- how long the table's name is; without an entry there is nothing that the name could be longer than
 abbrev pub base_len : Option Entry → List ℕ → ℕ
-base_len none name = length name
-base_len (some e) name = e.name.len
+base_len None name = length name
+base_len (Some e) name = e.name.len
 
 -- the name is longer than the table's
 abbrev pub is_glued : Option Entry → List ℕ → Bool
@@ -40,8 +38,3 @@ bad_label table s t i = numbered (kind_at t i) && splits (info_at table t i) (cu
 -- node 0 is the root
 unfoldable pub label_refusal : List ℕ → List ℕ → List ℕ → Option Refusal
 label_refusal table s t = first_bad split_label (bad_label table s t) 1 (count t - 1)
-
--- what the answer says
-abbrev pub label_check_refusal : LabelCheck → Option Refusal
-label_check_refusal label.Good = none
-label_check_refusal (label.Split i) = refuse split_label i

@@ -1,6 +1,6 @@
 -- Document 01, module 4: "A verse position is a number with a letter or none."
 use Rattle.std.specs.Prelude.{ℕ, ◌+◌, ◌≤◌, Bool, true, false, not, ◌&&◌, List, [], ◌∷◌, ◌≡◌, leb, eqb, ltb, length, take, drop}
-use Rattle.std.proofs.Math.Option.{Option, some, none}
+use Rattle.std.specs.Prelude.{Option, Some, None, Result, Ok, Err}
 use Rattle.text.specs.Pick.{within, cut, pick}
 use Rattle.text.specs.Characters.{find_byte}
 use Rattle.text.specs.Words.{trim_start}
@@ -8,8 +8,8 @@ use Rattle.text.specs.Number.{digit, digits}
 use Rattle.numbers.specs.declared.Suffix.{Suffix}
 use Rattle.numbers.specs.declared.Suffix.TheVariants as suffix
 use Rattle.numbers.specs.declared.VersePart.{VersePart}
-use Rattle.numbers.specs.declared.PartRead.{PartRead}
-use Rattle.numbers.specs.declared.PartRead.TheVariants as read
+use Rattle.numbers.specs.declared.Unread.{Unread}
+use Rattle.numbers.specs.declared.Unread.TheVariants as unread
 
 pub record Position : Type 0 where
   pub number : ℕ
@@ -17,8 +17,8 @@ pub record Position : Type 0 where
 
 -- "then one ASCII lower-case letter if next"
 abbrev pub letter_of : List ℕ → Option ℕ
-letter_of [] = none
-letter_of (b ∷ s) = pick (within 0x61 0x7A b) (some b) none
+letter_of [] = None
+letter_of (b ∷ s) = pick (within 0x61 0x7A b) (Some b) None
 
 -- Document 02, K6: "The part reading shall answer three ways: read, no digits, too large."
 pub data PartReading : Type 0 where
@@ -28,8 +28,8 @@ pub data PartReading : Type 0 where
 
 -- digits whose value is no u32 are too large
 abbrev pub with_letter : Option ℕ → Option ℕ → PartReading
-with_letter none l = too_large
-with_letter (some n) l = position (record { number = n; letter = l })
+with_letter None l = too_large
+with_letter (Some n) l = position (record { number = n; letter = l })
 
 -- where the digits end that the text begins with
 abbrev pub digits_end : List ℕ → ℕ
@@ -52,8 +52,8 @@ unfoldable pub verse_end : List ℕ → PartReading
 verse_end s = verse_part (drop (end_start s) s)
 
 abbrev pub next_position : ℕ → Option ℕ → Position
-next_position n none = record { number = n + 1; letter = none }
-next_position n (some b) = record { number = n; letter = some (b + 1) }
+next_position n None = record { number = n + 1; letter = None }
+next_position n (Some b) = record { number = n; letter = Some (b + 1) }
 
 -- "Next: number + 1, or the letter's byte + 1."
 unfoldable pub next : Position → Position
@@ -61,15 +61,15 @@ next p = next_position p.number p.letter
 
 -- "no letter before any letter": the second stands no earlier than the first
 abbrev pub no_earlier : Option ℕ → Option ℕ → Bool
-no_earlier none l = true
-no_earlier (some a) none = false
-no_earlier (some a) (some b) = leb a b
+no_earlier None l = true
+no_earlier (Some a) None = false
+no_earlier (Some a) (Some b) = leb a b
 
 -- the numbers differ: "After `9a`, `10` may follow; after `9`, a lettered `9a` may"
 abbrev pub other_number : Option ℕ → ℕ → Option ℕ → ℕ → Bool
-other_number (some a) e l n = eqb n (e + 1)
-other_number none e none n = false
-other_number none e (some b) n = leb 1 n && eqb (n + 1) e
+other_number (Some a) e l n = eqb n (e + 1)
+other_number None e None n = false
+other_number None e (Some b) n = leb 1 n && eqb (n + 1) e
 
 -- "Sequence as `is_valid_verse_sequence`": the expected position, and the one that stands there
 unfoldable pub in_sequence : Position → Position → Bool
@@ -77,21 +77,21 @@ in_sequence e a = pick (eqb a.number e.number) (no_earlier e.letter a.letter) (o
 
 -- what the code's values say
 abbrev pub suffix_of : Suffix → Option ℕ
-suffix_of (suffix.Letter b) = some b
-suffix_of suffix.None = none
+suffix_of (suffix.Letter b) = Some b
+suffix_of suffix.None = None
 
 abbrev pub position_of : VersePart → Position
 position_of p = record { number = p.num; letter = suffix_of p.suffix }
 
-abbrev pub read_of : PartRead → PartReading
-read_of (read.Is p) = position (position_of p)
-read_of read.NoDigits = no_digits
-read_of read.TooLarge = too_large
+abbrev pub read_of : Result VersePart Unread → PartReading
+read_of (Ok p) = position (position_of p)
+read_of (Err unread.NoDigits) = no_digits
+read_of (Err unread.TooLarge) = too_large
 
 -- the letter is a byte that has another after it
 abbrev pub is_letter_low : Option ℕ → Bool
-is_letter_low none = true
-is_letter_low (some b) = ltb b 255
+is_letter_low None = true
+is_letter_low (Some b) = ltb b 255
 
 -- a position that a label can have: what `next_expected` requires
 pub record Readable (p : Position) : Type 0 where

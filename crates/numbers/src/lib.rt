@@ -6,20 +6,21 @@ ghost use Rattle.text.specs.Pick.{end};
 ghost use Rattle.text.specs.Words.{first_word};
 ghost use Rattle.tape.specs.Nodes.{count};
 ghost use Rattle.refusals.specs.Refusal.{first_bad, split_label};
+ghost use Rattle.refusals.specs.Reasons.{refusal_in};
 ghost use Rattle.tape.specs.Forest.{Accepted};
 ghost use Rattle.table.specs.Entries.{info_of};
 ghost use Rattle.cursor.specs.Names.{name_of};
 ghost use Rattle.cursor.specs.Inner.{Spanned, Named, Reached};
-ghost use Rattle.numbers.specs.Label.{base_len, is_glued, label_of, splits, numbered, bad_label, label_refusal, label_check_refusal};
+ghost use Rattle.numbers.specs.Label.{base_len, is_glued, label_of, splits, numbered, bad_label, label_refusal};
 ghost use Rattle.numbers.specs.Inner.{split_at, Labelled, LabelledBy, Usual, numbers_in, first_among};
 ghost use Rattle.numbers.specs.Verse.{verse_part, verse_end, next, in_sequence, letter_of, no_earlier, other_number, suffix_of, position_of, read_of, Readable};
 ghost use Rattle.table.specs.Inner.{Indexed};
 
 use cursor::NameSpan;
-use table::Info;
-use text::Parsed;
+use refusals::{Reason, Refusal};
+use table::MarkerInfo;
 
-// The letter of a verse position, `9a`, or none.
+// The letter of a verse position, `9a`, or none. An enum and no Option: document 01 names it as the form of this answer.
 #[derive(Clone, Copy)]
 pub enum Suffix {
     Letter(u8),
@@ -32,10 +33,9 @@ pub struct VersePart {
     pub suffix: Suffix,
 }
 
-// What is read of a part of a label: a position, or nothing, for want of a digit or since the number is over 4,294,967,295.
+// Why no position is read of a part of a label: it has no digit, or the number is over 4,294,967,295.
 #[derive(Clone, Copy)]
-pub enum PartRead {
-    Is(VersePart),
+pub enum Unread {
     NoDigits,
     TooLarge,
 }
@@ -48,25 +48,18 @@ pub struct LabelSpan {
     pub glued: bool,
 }
 
-// What the check of the labels finds: nothing, or the node whose name is cut inside a character (number 9).
-#[derive(Clone, Copy)]
-pub enum LabelCheck {
-    Good,
-    Split(usize),
-}
-
 // How long the table's name is; without an entry, the name's own length.
-fn base_len(info: Info, name: &[u8]) -> usize
+fn base_len(info: Option<MarkerInfo>, name: &[u8]) -> usize
     ensures { result ≡ base_len (info_of info) name.now }
 {
     match info {
-        Info::Known(m) => m.name_len,
-        Info::Missing => name.len(),
+        Some(m) => m.name_len,
+        None => name.len(),
     }
 }
 
 // Whether a chapter's or verse's number stands in its marker's name, `\v12`.
-pub fn is_glued(info: Info, text: &[u8]) -> bool
+pub fn is_glued(info: Option<MarkerInfo>, text: &[u8]) -> bool
     ensures { result ≡ is_glued (info_of info) (name_of text.now) }
 {
     let name = cursor::name_of(text);
@@ -140,14 +133,14 @@ fn label_by(base: usize, text: &[u8]) -> LabelSpan
 
 // The label by its places, for a caller that needs to know whether it is glued, too: the name is read once. Without an entry no name is
 // longer than the text.
-pub fn label_span(info: Info, text: &[u8]) -> LabelSpan
+pub fn label_span(info: Option<MarkerInfo>, text: &[u8]) -> LabelSpan
     ensures { Labelled (info_of info) text.now result }
 {
     label_by(base_len(info, text), text)
 }
 
 // The number of a chapter or a verse as written: a part of the node's text.
-pub fn number_label(info: Info, text: &[u8]) -> &[u8]
+pub fn number_label(info: Option<MarkerInfo>, text: &[u8]) -> &[u8]
     ensures { result.now ≡ label_of (info_of info) text.now }
 {
     let at = label_span(info, text);
@@ -175,12 +168,12 @@ fn is_split(text: &[u8], base: usize) -> bool
     false
 }
 
-fn label_splits(info: Info, text: &[u8]) -> bool
+fn label_splits(info: Option<MarkerInfo>, text: &[u8]) -> bool
     ensures { result ≡ splits (info_of info) text.now }
 {
     match info {
-        Info::Known(m) => is_split(text, m.name_len),
-        Info::Missing => false,
+        Some(m) => is_split(text, m.name_len),
+        None => false,
     }
 }
 
@@ -237,19 +230,19 @@ fn first_split(
     source: &[u8],
     tape: &[u8],
     found: &[usize],
-) -> LabelCheck
+) -> Result<(), Refusal>
     requires { (Indexed table.now index.now entries) × ((j : ℕ) → j < length found.now → Spanned source.now tape.now (get_or found.now j 0)) }
-    ensures { label_check_refusal result ≡ first_among (bad_label table.now source.now tape.now) found.now }
+    ensures { refusal_in result ≡ first_among (bad_label table.now source.now tape.now) found.now }
 {
     let mut j: usize = 0;
     while j < found.len() {
         let i = found[j];
         if bad_label(table, index, entries, source, tape, i) {
-            return LabelCheck::Split(i);
+            return Err(Reason::SplitLabel.at(i));
         }
         j += 1;
     }
-    LabelCheck::Good
+    Ok(())
 }
 
 // Number 9 of the nodes from one up to another.
@@ -261,9 +254,9 @@ fn split_in(
     tape: &[u8],
     from: usize,
     to: usize,
-) -> LabelCheck
+) -> Result<(), Refusal>
     requires { (Indexed table.now index.now entries) × (Accepted source.now tape.now) × (1 ≤ from) × (from ≤ to) × (to ≤ count tape.now) × (to ≤ from + 64) }
-    ensures { label_check_refusal result ≡ first_bad split_label (bad_label table.now source.now tape.now) from (to - from) }
+    ensures { refusal_in result ≡ first_bad split_label (bad_label table.now source.now tape.now) from (to - from) }
 {
     let mut found = [0usize; 65];
     let k = gather(tape, from, to, &mut found);
@@ -283,55 +276,48 @@ pub fn label_check(
     entries: usize,
     source: &[u8],
     tape: &[u8],
-) -> LabelCheck
+) -> Result<(), Refusal>
     requires { (Indexed table.now index.now entries) × (Accepted source.now tape.now) }
-    ensures { label_check_refusal result ≡ label_refusal table.now source.now tape.now }
+    ensures { refusal_in result ≡ label_refusal table.now source.now tape.now }
 {
     let n = tape.len() / 16;
     let mut i: usize = 1;
     while i < n {
         let next = least(i + 64, n);
-        if let LabelCheck::Split(at) = split_in(table, index, entries, source, tape, i, next) {
-            return LabelCheck::Split(at);
-        }
+        split_in(table, index, entries, source, tape, i, next)?;
         i = next;
     }
-    LabelCheck::Good
+    Ok(())
 }
 
 // The lower-case letter that the text begins with.
 fn letter(s: &[u8]) -> Suffix
     ensures { suffix_of result ≡ letter_of s.now }
 {
-    if s.len() == 0 {
-        return Suffix::None;
-    }
-    let b = s[0];
-    if text::holds(b, 0x61, 0x7A) {
-        Suffix::Letter(b)
-    } else {
-        Suffix::None
+    match s {
+        [b, ..] if matches!(*b, b'a'..=b'z') => Suffix::Letter(*b),
+        _ => Suffix::None,
     }
 }
 
-pub fn parse_verse_part(s: &[u8]) -> PartRead
+pub fn parse_verse_part(s: &[u8]) -> Result<VersePart, Unread>
     ensures { read_of result ≡ verse_part s.now }
 {
     let rest = text::trim_start(s);
     let end = text::find_non_digit(rest);
     if end == 0 {
-        return PartRead::NoDigits;
+        return Err(Unread::NoDigits);
     }
     match text::parse(&rest[..end]) {
-        Parsed::Value(n) => PartRead::Is(VersePart {
+        Some(n) => Ok(VersePart {
             num: n as u64,
             suffix: letter(&rest[end..]),
         }),
-        Parsed::NotANumber => PartRead::TooLarge,
+        None => Err(Unread::TooLarge),
     }
 }
 
-pub fn parse_verse_range_end(s: &[u8]) -> PartRead
+pub fn parse_verse_range_end(s: &[u8]) -> Result<VersePart, Unread>
     ensures { read_of result ≡ verse_end s.now }
 {
     let at = text::find_byte(s, b'-');
@@ -342,12 +328,12 @@ pub fn parse_verse_range_end(s: &[u8]) -> PartRead
     }
 }
 
+#[tactic(auto, unfolding(crate::specs::Verse::next))]
 pub fn next_expected(p: VersePart) -> VersePart
     requires { Readable (position_of p) }
     ensures { position_of result ≡ next (position_of p) }
 {
-    let suffix = p.suffix;
-    match suffix {
+    match p.suffix {
         Suffix::Letter(b) => VersePart {
             num: p.num,
             suffix: Suffix::Letter(b + 1),
@@ -362,12 +348,10 @@ pub fn next_expected(p: VersePart) -> VersePart
 fn no_earlier(expected: Suffix, actual: Suffix) -> bool
     ensures { result ≡ no_earlier (suffix_of expected) (suffix_of actual) }
 {
-    match expected {
-        Suffix::None => true,
-        Suffix::Letter(a) => match actual {
-            Suffix::None => false,
-            Suffix::Letter(b) => a <= b,
-        },
+    match (expected, actual) {
+        (Suffix::None, _) => true,
+        (Suffix::Letter(_), Suffix::None) => false,
+        (Suffix::Letter(a), Suffix::Letter(b)) => a <= b,
     }
 }
 
@@ -376,29 +360,20 @@ fn other_number(expected: VersePart, actual: VersePart) -> bool
     requires { (expected.num ≤ 4294967296) × (actual.num ≤ 4294967296) }
     ensures { result ≡ other_number (suffix_of expected.suffix) expected.num (suffix_of actual.suffix) actual.num }
 {
-    let wanted = expected.suffix;
-    let given = actual.suffix;
-    match wanted {
-        Suffix::Letter(_) => actual.num == expected.num + 1,
-        Suffix::None => match given {
-            Suffix::None => false,
-            Suffix::Letter(_) => if 1 <= actual.num {
-                actual.num + 1 == expected.num
-            } else {
-                false
-            },
-        },
+    match (expected.suffix, actual.suffix) {
+        (Suffix::Letter(_), _) => actual.num == expected.num + 1,
+        (Suffix::None, Suffix::None) => false,
+        (Suffix::None, Suffix::Letter(_)) => 1 <= actual.num && actual.num + 1 == expected.num,
     }
 }
 
+#[tactic(auto, unfolding(crate::specs::Verse::in_sequence))]
 pub fn is_valid_verse_sequence(expected: VersePart, actual: VersePart) -> bool
     requires { (expected.num ≤ 4294967296) × (actual.num ≤ 4294967296) }
     ensures { result ≡ in_sequence (position_of expected) (position_of actual) }
 {
-    let wanted = expected.suffix;
-    let given = actual.suffix;
     if actual.num == expected.num {
-        no_earlier(wanted, given)
+        no_earlier(expected.suffix, actual.suffix)
     } else {
         other_number(expected, actual)
     }

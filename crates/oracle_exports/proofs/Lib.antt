@@ -1,3 +1,1 @@
-pub mod Indexing
 pub mod Guards
-pub mod Nexts

@@ -1,12 +1,13 @@
 // Functions of the library under C names, for the program that compares them with the Rust's. A caller must pass valid slices.
 #![tactic(auto)]
 
-ghost use Rattle.std.specs.Prelude.{◌≡◌, true, not, ◌&&◌, ◌+◌, ◌*◌, ◌%◌, ◌<◌, ◌≤◌, eqb, length, take, drop};
+ghost use Rattle.std.specs.Prelude.{◌≡◌, true, not, ◌&&◌, ◌+◌, ◌*◌, ◌%◌, ◌<◌, ◌≤◌, eqb, length, take, drop, IfSome};
+ghost use Rattle.table.specs.Inner.{Indexed};
 ghost use Rattle.table.specs.Names.{front_matter, note_only, stripped_length};
 ghost use Rattle.oracle_exports.specs.Words.{number_or, number_word, letter_word, position_from, next_from, low, start_word, end_word};
-ghost use Rattle.oracle_exports.specs.Inner.{Child, Holds, SiblingsAfter};
-ghost use Rattle.rows.specs.Cells.{cell_columns, cell_of};
-ghost use Rattle.numbers.specs.Verse.{read_of, position_of, suffix_of, verse_part, verse_end, next, in_sequence};
+ghost use Rattle.oracle_exports.specs.Inner.{Child, Holds, Opened, SiblingsAfter};
+ghost use Rattle.rows.specs.Cells.{cell_columns};
+ghost use Rattle.numbers.specs.Verse.{read_of, suffix_of, position_of, verse_part, verse_end, in_sequence};
 ghost use Rattle.text.specs.Pick.{cut};
 ghost use Rattle.text.specs.Utf8.{first_ill_formed, decode};
 ghost use Rattle.text.specs.Blank.{blank};
@@ -22,39 +23,39 @@ ghost use Rattle.text.specs.Bytes.{one_of};
 ghost use Rattle.findings.specs.Inner.{count_limit};
 
 use attachment::Attached;
-use cursor::{NumberRead, Place};
 use findings::Counts;
-use numbers::{LabelCheck, PartRead, Suffix, VersePart};
-use rows::Cell;
-use table::{Book, BookId, Category, DefaultAttribute, Info, Layout, Lookup, MarkerId, TextRole};
-use tape::TapeCheck;
-use text::{Parsed, Utf8};
+use numbers::{Suffix, Unread, VersePart};
+use table::{BookId, MarkerId, MarkerInfo};
+
+// What stands for a number or a place that is missing.
+const NONE: u64 = 4294967296;
+
+const NO_COUNTS: Counts = Counts {
+    errors: 0,
+    warnings: 0,
+    infos: 0,
+};
 
 // The place of the first ill-formed sequence, or the length.
 #[unsafe(no_mangle)]
 pub extern "C" fn compared_utf8_check(s: &[u8]) -> usize
     ensures { result ≡ number_or (length s.now) (first_ill_formed s.now) }
 {
-    match text::utf8_check(s) {
-        Utf8::WellFormed => s.len(),
-        Utf8::IllFormed(at) => at,
-    }
+    text::utf8_check(s).unwrap_or(s.len())
 }
 
 #[unsafe(no_mangle)]
 pub extern "C" fn compared_code_point(s: &[u8], at: usize) -> u32
     ensures { result ≡ (decode (drop at s.now)).cp }
 {
-    let d = text::decode_at(s, at);
-    d.cp
+    text::decode_at(s, at).cp
 }
 
 #[unsafe(no_mangle)]
 pub extern "C" fn compared_width(s: &[u8], at: usize) -> usize
     ensures { result ≡ (decode (drop at s.now)).width }
 {
-    let d = text::decode_at(s, at);
-    d.width
+    text::decode_at(s, at).width
 }
 
 #[unsafe(no_mangle)]
@@ -92,14 +93,14 @@ pub extern "C" fn compared_find_non_digit(s: &[u8]) -> usize
     text::find_non_digit(s)
 }
 
-// The number, or 2 to the power of 32.
+// The number, or `NONE`.
 #[unsafe(no_mangle)]
 pub extern "C" fn compared_parse(s: &[u8]) -> u64
     ensures { result ≡ number_or 4294967296 (parsed s.now) }
 {
     match text::parse(s) {
-        Parsed::Value(n) => n as u64,
-        Parsed::NotANumber => 4294967296,
+        Some(n) => u64::from(n),
+        None => NONE,
     }
 }
 
@@ -107,11 +108,8 @@ pub extern "C" fn compared_parse(s: &[u8]) -> u64
 fn copy(part: &[u8], out: &mut [u8]) -> usize
     ensures { result ≡ length part.now }
 {
-    let mut i: usize = 0;
-    while i < part.len() && i < out.len() {
-        out[i] = part[i];
-        i += 1;
-    }
+    let n = part.len().min(out.len());
+    out[..n].copy_from_slice(&part[..n]);
     part.len()
 }
 
@@ -145,7 +143,7 @@ pub extern "C" fn compared_second_word(s: &[u8], out: &mut [u8]) -> usize
 
 // A number and a place in one word.
 fn answer_word(number: u64, place: usize) -> u64
-    requires { number < 16 }
+    requires { number < 32 }
     ensures { result ≡ number * 4294967296 + place % 4294967296 }
 {
     number * 4294967296 + place as u64 % 4294967296
@@ -155,12 +153,8 @@ fn answer_word(number: u64, place: usize) -> u64
 #[unsafe(no_mangle)]
 pub extern "C" fn compared_tape_check(source: &[u8], tape: &[u8]) -> u64 {
     match tape::tape_check(source, tape) {
-        TapeCheck::Good => 0,
-        TapeCheck::Length => answer_word(4, 0),
-        TapeCheck::Kind(i) => answer_word(5, i),
-        TapeCheck::Span(i) => answer_word(6, i),
-        TapeCheck::Links(i) => answer_word(7, i),
-        TapeCheck::Deep(i) => answer_word(8, i),
+        Ok(()) => 0,
+        Err(r) => answer_word(r.reason.number(), r.place),
     }
 }
 
@@ -168,11 +162,8 @@ pub extern "C" fn compared_tape_check(source: &[u8], tape: &[u8]) -> u64 {
 fn spanned(source: &[u8], tape: &[u8], i: usize) -> bool
     ensures { result ≡ true → Spanned source.now tape.now i }
 {
-    if tape.len() / 16 <= i {
-        return false;
-    }
-    let end = tape::start_at(tape, i) as usize + tape::len_at(tape, i) as usize;
-    end <= source.len()
+    i < tape.len() / 16
+        && tape::start_at(tape, i) as usize + tape::len_at(tape, i) as usize <= source.len()
 }
 
 // A node's text, or nothing where it doesn't lie in the source.
@@ -197,18 +188,18 @@ pub extern "C" fn compared_marker_name(
     copy(cursor::marker_name(source, tape, i), out)
 }
 
-// A place, or 2 to the power of 32.
-fn place_of(p: Place) -> u64 {
+// A place, or `NONE`.
+fn place_of(p: Option<usize>) -> u64 {
     match p {
-        Place::At(i) => i as u64,
-        Place::Nowhere => 4294967296,
+        Some(i) => i as u64,
+        None => NONE,
     }
 }
 
 #[unsafe(no_mangle)]
 pub extern "C" fn compared_first_child(tape: &[u8], i: usize) -> u64 {
     if tape.len() / 16 <= i {
-        return 4294967296;
+        return NONE;
     }
     place_of(cursor::first_child(tape, i))
 }
@@ -216,20 +207,20 @@ pub extern "C" fn compared_first_child(tape: &[u8], i: usize) -> u64 {
 #[unsafe(no_mangle)]
 pub extern "C" fn compared_next_sibling(tape: &[u8], i: usize) -> u64 {
     if tape.len() / 16 <= i {
-        return 4294967296;
+        return NONE;
     }
     place_of(cursor::next_sibling(tape, i))
 }
 
-// The number of a chapter or a verse, or 2 to the power of 32.
+// The number of a chapter or a verse, or `NONE`.
 #[unsafe(no_mangle)]
 pub extern "C" fn compared_number(tape: &[u8], i: usize) -> u64 {
     if tape.len() / 16 <= i {
-        return 4294967296;
+        return NONE;
     }
     match cursor::number(tape, i) {
-        NumberRead::Is(n) => n as u64,
-        NumberRead::NoNumber => 4294967296,
+        Some(n) => u64::from(n),
+        None => NONE,
     }
 }
 
@@ -238,80 +229,70 @@ pub extern "C" fn compared_number(tape: &[u8], i: usize) -> u64 {
 pub extern "C" fn compared_table(table: &[u8]) -> u64 {
     let mut index = [0u64; 512];
     match table::index(table, &mut index) {
-        Layout::Good(n) => answer_word(0, n),
-        Layout::Bad(at) => answer_word(1, at),
+        Ok(n) => answer_word(0, n),
+        Err(r) => answer_word(1, r.place),
     }
 }
 
-// The number of the marker that a name stands for, or 2 to the power of 32, also where the table breaks its layout.
+// A table's index.
+#[derive(Clone, Copy)]
+struct Index {
+    words: [u64; 512],
+    entries: usize,
+}
+
+// `None` where the table breaks its layout.
+fn index_of(table: &[u8]) -> Option<Index>
+    ensures { IfSome result (λ i. Indexed table.now i.words i.entries) }
+{
+    let mut words = [0; 512];
+    match table::index(table, &mut words) {
+        Ok(entries) => Some(Index { words, entries }),
+        Err(_) => None,
+    }
+}
+
+// The number of the marker that a name stands for, or `NONE`, also where the table breaks its layout.
 #[unsafe(no_mangle)]
 pub extern "C" fn compared_lookup(table: &[u8], name: &[u8]) -> u64 {
-    let mut index = [0u64; 512];
-    let Layout::Good(n) = table::index(table, &mut index) else {
-        return 4294967296;
+    let Some(index) = index_of(table) else {
+        return NONE;
     };
     let mut chains = [0u16; 768];
-    table::link_names(table, &index, n, &mut chains);
-    match MarkerId::lookup(table, &index, n, &chains, name) {
-        Lookup::Found(id) => id.0 as u64,
-        Lookup::Unknown => 4294967296,
+    table::link_names(table, &index.words, index.entries, &mut chains);
+    match MarkerId::lookup(table, &index.words, index.entries, &chains, name) {
+        Some(id) => u64::from(id.0),
+        None => NONE,
     }
 }
 
-fn category_number(c: Category) -> u64 {
-    match c {
-        Category::Identification => 0,
-        Category::Chapter => 1,
-        Category::Verse => 2,
-        Category::Paragraph => 3,
-        Category::Character => 4,
-        Category::Note => 5,
-        Category::Milestone => 6,
-        Category::Other => 7,
-    }
-}
-
-fn role_number(r: TextRole) -> u64 {
-    match r {
-        TextRole::Content => 0,
-        TextRole::Excluded => 1,
-        TextRole::Boundary => 2,
-    }
-}
-
-// An entry's category and role, eight times the role and the category, or 2 to the power of 32.
-fn info_number(i: Info) -> u64 {
+// An entry's category and role, eight times the role and the category, each by its place in its enum, or `NONE`.
+fn info_number(i: Option<MarkerInfo>) -> u64 {
     match i {
-        Info::Known(m) => {
-            let c = m.category;
-            let r = m.text_role;
-            category_number(c) % 8 + 8 * (role_number(r) % 3)
-        }
-        Info::Missing => 4294967296,
+        Some(m) => m.category as u64 + 8 * (m.text_role as u64),
+        None => NONE,
     }
 }
 
 // Of marker number k of a table.
 #[unsafe(no_mangle)]
 pub extern "C" fn compared_info(table: &[u8], k: u16) -> u64 {
-    let mut index = [0u64; 512];
-    let Layout::Good(n) = table::index(table, &mut index) else {
-        return 4294967296;
+    let Some(index) = index_of(table) else {
+        return NONE;
     };
-    info_number(MarkerId::info(table, &index, n, MarkerId(k)))
+    info_number(MarkerId::info(table, &index.words, index.entries, MarkerId(k)))
 }
 
 // Of a node's marker.
 #[unsafe(no_mangle)]
 pub extern "C" fn compared_marker_info(table: &[u8], tape: &[u8], i: usize) -> u64 {
-    let mut index = [0u64; 512];
-    let Layout::Good(n) = table::index(table, &mut index) else {
-        return 4294967296;
+    let Some(index) = index_of(table) else {
+        return NONE;
     };
     if tape.len() / 16 <= i {
-        return 4294967296;
+        return NONE;
     }
-    info_number(cursor::marker_info(table, &index, n, tape, i))
+    info_number(cursor::marker_info(table, &index.words, index.entries, tape, i))
 }
 
 #[unsafe(no_mangle)]
@@ -325,14 +306,8 @@ pub extern "C" fn compared_strip_level_suffix(name: &[u8], out: &mut [u8]) -> us
 #[unsafe(no_mangle)]
 pub extern "C" fn compared_default_attribute(name: &[u8]) -> u8 {
     match table::default_attribute(name) {
-        DefaultAttribute::Lemma => 0,
-        DefaultAttribute::Gloss => 1,
-        DefaultAttribute::Href => 2,
-        DefaultAttribute::Loc => 3,
-        DefaultAttribute::LinkHref => 4,
-        DefaultAttribute::Id => 5,
-        DefaultAttribute::Who => 6,
-        DefaultAttribute::NoDefault => 7,
+        Some(attribute) => attribute as u8,
+        None => 7,
     }
 }
 
@@ -340,8 +315,8 @@ pub extern "C" fn compared_default_attribute(name: &[u8]) -> u8 {
 #[unsafe(no_mangle)]
 pub extern "C" fn compared_book(code: &[u8]) -> u16 {
     match BookId::from_code(code) {
-        Book::Known(b) => b.0 as u16,
-        Book::Unknown => 256,
+        Some(b) => u16::from(b.0),
+        None => 256,
     }
 }
 
@@ -368,42 +343,33 @@ fn letter_byte(suffix: Suffix) -> u8
     }
 }
 
-fn part_number(read: PartRead) -> u64
+fn part_number(read: Result<VersePart, Unread>) -> u64
     ensures { result ≡ number_word (read_of read) }
 {
     match read {
-        PartRead::Is(p) => p.num,
-        PartRead::NoDigits => 18446744073709551615,
-        PartRead::TooLarge => 18446744073709551614,
+        Ok(p) => p.num,
+        Err(Unread::NoDigits) => 18446744073709551615,
+        Err(Unread::TooLarge) => 18446744073709551614,
     }
 }
 
-fn part_letter(read: PartRead) -> u8
+fn part_letter(read: Result<VersePart, Unread>) -> u8
     ensures { result ≡ letter_word (read_of read) }
 {
     match read {
-        PartRead::Is(p) => {
-            let suffix = p.suffix;
-            letter_byte(suffix)
-        }
-        PartRead::NoDigits => 0,
-        PartRead::TooLarge => 0,
+        Ok(p) => letter_byte(p.suffix),
+        Err(_) => 0,
     }
 }
 
 fn position(num: u64, letter: u8) -> VersePart
     ensures { position_of result ≡ position_from num letter }
 {
-    if letter == 0 {
-        return VersePart {
-            num: num,
-            suffix: Suffix::None,
-        };
-    }
-    VersePart {
-        num: num,
-        suffix: Suffix::Letter(letter),
-    }
+    let suffix = match letter {
+        0 => Suffix::None,
+        _ => Suffix::Letter(letter),
+    };
+    VersePart { num, suffix }
 }
 
 #[unsafe(no_mangle)]
@@ -439,26 +405,20 @@ pub extern "C" fn compared_end_letter(s: &[u8]) -> u8
 pub extern "C" fn compared_sequence(expected: u64, wanted: u8, actual: u64, given: u8) -> bool
     ensures { result ≡ (low expected && (low actual && in_sequence (position_from expected wanted) (position_from actual given))) }
 {
-    if 4294967296 < expected {
-        return false;
-    }
-    if 4294967296 < actual {
-        return false;
-    }
-    numbers::is_valid_verse_sequence(position(expected, wanted), position(actual, given))
+    expected <= 4294967296
+        && actual <= 4294967296
+        && numbers::is_valid_verse_sequence(position(expected, wanted), position(actual, given))
 }
 
 fn next_position(num: u64, letter: u8) -> VersePart
     ensures { position_of result ≡ next_from num letter }
 {
     let p = position(num, letter);
-    if 4294967295 < num {
-        return p;
+    if 4294967295 < num || letter == 255 {
+        p
+    } else {
+        numbers::next_expected(p)
     }
-    if letter == 255 {
-        return p;
-    }
-    numbers::next_expected(p)
 }
 
 // The position after another, or that one itself where its number is past 4,294,967,295 or its letter is byte 255: no label has
@@ -467,80 +427,68 @@ fn next_position(num: u64, letter: u8) -> VersePart
 pub extern "C" fn compared_next_number(num: u64, letter: u8) -> u64
     ensures { result ≡ (next_from num letter).number }
 {
-    let p = next_position(num, letter);
-    p.num
+    next_position(num, letter).num
 }
 
 #[unsafe(no_mangle)]
 pub extern "C" fn compared_next_letter(num: u64, letter: u8) -> u8
     ensures { result ≡ number_or 0 (next_from num letter).letter }
 {
-    let p = next_position(num, letter);
-    let suffix = p.suffix;
-    letter_byte(suffix)
+    letter_byte(next_position(num, letter).suffix)
 }
 
-fn cell_start(cell: Cell) -> u64
-    ensures { result ≡ start_word (cell_of cell) }
-{
-    match cell {
-        Cell::At(c) => c.start as u64,
-        Cell::NoColumns => 4294967296,
-    }
-}
-
-fn cell_end(cell: Cell) -> u64
-    ensures { result ≡ end_word (cell_of cell) }
-{
-    match cell {
-        Cell::At(c) => c.end as u64,
-        Cell::NoColumns => 4294967296,
-    }
-}
-
+// The first and the last column of a cell, or `NONE`.
 #[unsafe(no_mangle)]
 pub extern "C" fn compared_cell_start(name: &[u8]) -> u64
     ensures { result ≡ start_word (cell_columns name.now) }
 {
-    cell_start(rows::table_cell_columns(name))
+    match rows::table_cell_columns(name) {
+        Some(c) => u64::from(c.start),
+        None => NONE,
+    }
 }
 
 #[unsafe(no_mangle)]
 pub extern "C" fn compared_cell_end(name: &[u8]) -> u64
     ensures { result ≡ end_word (cell_columns name.now) }
 {
-    cell_end(rows::table_cell_columns(name))
+    match rows::table_cell_columns(name) {
+        Some(c) => u64::from(c.end),
+        None => NONE,
+    }
 }
 
 // Whether numbers 4 to 8 pass a tape.
 fn accepted(source: &[u8], tape: &[u8]) -> bool
     ensures { result ≡ is_none (tape_refusal source.now tape.now) }
 {
-    match tape::tape_check(source, tape) {
-        TapeCheck::Good => true,
-        TapeCheck::Length => false,
-        TapeCheck::Kind(_) => false,
-        TapeCheck::Span(_) => false,
-        TapeCheck::Links(_) => false,
-        TapeCheck::Deep(_) => false,
-    }
+    tape::tape_check(source, tape).is_ok()
 }
 
 // Whether a number is one of a node, the root not among them, of an accepted tape.
+#[tactic(auto, using(crate::proofs::Guards::good_tape))]
 fn is_node(source: &[u8], tape: &[u8], i: usize) -> bool
     ensures { result ≡ true → Child source.now tape.now i }
 {
-    if i == 0 {
-        return false;
-    }
-    if tape.len() / 16 <= i {
-        return false;
-    }
-    accepted(source, tape)
+    i != 0 && i < tape.len() / 16 && accepted(source, tape)
 }
 
-// The label of a node, read as that of a chapter or a verse, or nothing where table or tape is turned back or there is no such
-// node.
+// What the table says of a node's marker, and its text, or `None` where table or tape is turned back or there is no such node.
+fn info_and_text<'a>(
+    table: &[u8],
+    source: &'a [u8],
+    tape: &[u8],
+    i: usize,
+) -> Option<(Option<MarkerInfo>, &'a [u8])> {
+    let index = index_of(table)?;
+    if !is_node(source, tape, i) {
+        return None;
+    }
+    let info = cursor::marker_info(table, &index.words, index.entries, tape, i);
+    Some((info, cursor::text(source, tape, i)))
+}
+
+// The label of a node, read as that of a chapter or a verse, or nothing where `info_and_text` gives none.
 #[unsafe(no_mangle)]
 pub extern "C" fn compared_label(
     table: &[u8],
@@ -549,57 +497,39 @@ pub extern "C" fn compared_label(
     i: usize,
     out: &mut [u8],
 ) -> usize {
-    let mut index = [0u64; 512];
-    let Layout::Good(n) = table::index(table, &mut index) else {
-        return 0;
-    };
-    if !is_node(source, tape, i) {
-        return 0;
-    }
-    let info = cursor::marker_info(table, &index, n, tape, i);
-    copy(
-        numbers::number_label(info, cursor::text(source, tape, i)),
-        out,
+    info_and_text(table, source, tape, i).map_or(
+        0,
+        |(info, text)| copy(numbers::number_label(info, text), out),
     )
 }
 
 #[unsafe(no_mangle)]
 pub extern "C" fn compared_is_glued(table: &[u8], source: &[u8], tape: &[u8], i: usize) -> bool {
-    let mut index = [0u64; 512];
-    let Layout::Good(n) = table::index(table, &mut index) else {
-        return false;
-    };
-    if !is_node(source, tape, i) {
-        return false;
-    }
-    let info = cursor::marker_info(table, &index, n, tape, i);
-    numbers::is_glued(info, cursor::text(source, tape, i))
+    info_and_text(table, source, tape, i).is_some_and(|(info, text)| numbers::is_glued(info, text))
 }
 
-// The place of number 9, or 2 to the power of 32, also where table or tape is turned back.
+// The place of number 9, or `NONE`, also where table or tape is turned back.
 #[unsafe(no_mangle)]
+#[tactic(auto, using(crate::proofs::Guards::good_tape))]
 pub extern "C" fn compared_label_check(table: &[u8], source: &[u8], tape: &[u8]) -> u64 {
-    let mut index = [0u64; 512];
-    let Layout::Good(n) = table::index(table, &mut index) else {
-        return 4294967296;
+    let Some(index) = index_of(table) else {
+        return NONE;
     };
     if !accepted(source, tape) {
-        return 4294967296;
+        return NONE;
     }
-    match numbers::label_check(table, &index, n, source, tape) {
-        LabelCheck::Good => 4294967296,
-        LabelCheck::Split(i) => i as u64,
+    match numbers::label_check(table, &index.words, index.entries, source, tape) {
+        Ok(()) => NONE,
+        Err(r) => r.place as u64,
     }
 }
 
 // Whether a node is an open one of an accepted tape.
+#[tactic(auto, using(crate::proofs::Guards::holds_open))]
 fn opens(source: &[u8], tape: &[u8], i: usize) -> bool
     ensures { result ≡ true → Child source.now tape.now i × Holds source.now tape.now i }
 {
-    if !is_node(source, tape, i) {
-        return false;
-    }
-    tape::kind_at(tape, i) == tape::MARKER_OPEN
+    is_node(source, tape, i) && tape::kind_at(tape, i) == tape::MARKER_OPEN
 }
 
 // Whether a node is an open one of an accepted tape, or its root.
@@ -607,9 +537,10 @@ fn holds_run(source: &[u8], tape: &[u8], i: usize) -> bool
     ensures { result ≡ true → Holds source.now tape.now i }
 {
     if i == 0 {
-        return accepted(source, tape);
+        accepted(source, tape)
+    } else {
+        opens(source, tape, i)
     }
-    opens(source, tape, i)
 }
 
 fn total_of(c: Counts) -> u64
@@ -619,26 +550,27 @@ fn total_of(c: Counts) -> u64
     c.errors + c.warnings + c.infos
 }
 
-// The findings of an open node's cells, and how many they are, or 2 to the power of 32 where it is no open node of an
-// accepted tape over a source that number 2 passes.
-#[unsafe(no_mangle)]
-pub extern "C" fn compared_row(source: &[u8], tape: &[u8], i: usize, list: &mut [u64]) -> u64 {
-    if 1048576 < source.len() {
-        return 4294967296;
+// Where the run of an open node ends, or `None` where it is no open node of an accepted tape over a source that number 2
+// passes.
+fn run_end(source: &[u8], tape: &[u8], i: usize) -> Option<usize>
+    ensures { IfSome result (λ to. Opened source.now tape.now i to) }
+{
+    if 1048576 < source.len() || !opens(source, tape, i) {
+        return None;
     }
-    if !opens(source, tape, i) {
-        return 4294967296;
-    }
-    let link = tape::link_at(tape, i) as usize;
-    let none = Counts {
-        errors: 0,
-        warnings: 0,
-        infos: 0,
-    };
-    total_of(rows::validate_table_row(source, tape, i + 1, link, list, none))
+    Some(tape::link_at(tape, i) as usize)
 }
 
-// The findings of an open node's attributes, and how many they are, or 2 to the power of 32 as with its cells.
+// The findings of an open node's cells, and how many they are, or `NONE` where `run_end` gives none.
+#[unsafe(no_mangle)]
+pub extern "C" fn compared_row(source: &[u8], tape: &[u8], i: usize, list: &mut [u64]) -> u64 {
+    let Some(to) = run_end(source, tape, i) else {
+        return NONE;
+    };
+    total_of(rows::validate_table_row(source, tape, i + 1, to, list, NO_COUNTS))
+}
+
+// The findings of an open node's attributes, and how many they are, or `NONE` where `run_end` gives none.
 #[unsafe(no_mangle)]
 pub extern "C" fn compared_attributes(
     source: &[u8],
@@ -646,72 +578,51 @@ pub extern "C" fn compared_attributes(
     i: usize,
     list: &mut [u64],
 ) -> u64 {
-    if 1048576 < source.len() {
-        return 4294967296;
-    }
-    if !opens(source, tape, i) {
-        return 4294967296;
-    }
-    let link = tape::link_at(tape, i) as usize;
-    let none = Counts {
-        errors: 0,
-        warnings: 0,
-        infos: 0,
+    let Some(to) = run_end(source, tape, i) else {
+        return NONE;
     };
-    total_of(attributes::validate_attributes(source, tape, i + 1, link, i, list, none))
+    total_of(attributes::validate_attributes(source, tape, i + 1, to, i, list, NO_COUNTS))
 }
 
-// Where the siblings after a node of a run begin, or 0 if the node isn't one of its siblings.
-fn after_child(source: &[u8], tape: &[u8], from: usize, to: usize, i: usize) -> usize
+// Where the siblings after a node of a run begin, or `None` if the node isn't one of its siblings.
+fn after_child(source: &[u8], tape: &[u8], from: usize, to: usize, i: usize) -> Option<usize>
     requires { Run source.now tape.now from to }
-    ensures { 1 ≤ result → Run source.now tape.now result to }
+    ensures { IfSome result (λ after. Run source.now tape.now after to) }
 {
     let mut k = from;
+    // A while: the step is past what a node holds.
     while k < to {
         let next = cursor::past_node(tape, k);
         if k == i {
-            return next;
+            return Some(next);
         }
         k = next;
     }
-    0
-}
-
-fn put(list: &mut [u64], k: usize, x: u32) {
-    if k < list.len() {
-        list[k] = x as u64;
-    }
+    None
 }
 
 // The start offsets of attached numbers, as far as there is room, and how many they are.
 fn write_starts(numbers: Attached, list: &mut [u64]) -> u64
     ensures { result ≡ length (starts_of numbers) }
 {
-    if numbers.count == 0 {
-        return 0;
+    let starts = [numbers.first, numbers.second];
+    let n = starts.len().min(numbers.count as usize);
+    for (word, start) in list.iter_mut().zip(&starts[..n]) {
+        *word = u64::from(*start);
     }
-    put(list, 0, numbers.first);
-    if numbers.count == 1 {
-        return 1;
-    }
-    put(list, 1, numbers.second);
-    2
+    n as u64
 }
 
-// Where the siblings after a chapter or a verse begin that is among a node's children, or 0 where it is no such child of a
+// Where the siblings after a chapter or a verse begin that is among a node's children, or `None` where it is no such child of a
 // root or an open node of an accepted tape.
-fn after_anchor(source: &[u8], tape: &[u8], parent: usize, i: usize) -> usize
-    ensures { 1 ≤ result → SiblingsAfter source.now tape.now parent i result }
+fn after_anchor(source: &[u8], tape: &[u8], parent: usize, i: usize) -> Option<usize>
+    ensures { IfSome result (λ after. SiblingsAfter source.now tape.now parent i after) }
 {
-    if tape.len() / 16 <= i {
-        return 0;
-    }
-    let kind = tape::kind_at(tape, i);
-    if kind != tape::CHAPTER && kind != tape::VERSE {
-        return 0;
-    }
-    if !holds_run(source, tape, parent) {
-        return 0;
+    let is_anchor = i < tape.len() / 16
+        && matches!(tape::kind_at(tape, i), tape::CHAPTER | tape::VERSE)
+        && holds_run(source, tape, parent);
+    if !is_anchor {
+        return None;
     }
     after_child(
         source,
@@ -722,8 +633,15 @@ fn after_anchor(source: &[u8], tape: &[u8], parent: usize, i: usize) -> usize
     )
 }
 
-// The starts of the numbers attached to a chapter or a verse among a node's children, and how many they are, or 2 to the power
-// of 32 where there is no such child.
+// The numbers attached to a chapter or a verse among a node's children, if there is such a child.
+fn attached(source: &[u8], tape: &[u8], parent: usize, i: usize) -> Option<Attached> {
+    let from = after_anchor(source, tape, parent, i)?;
+    let to = tape::link_at(tape, parent) as usize;
+    Some(attachment::attached_numbers(source, tape, tape::kind_at(tape, i), from, to))
+}
+
+// The starts of the numbers attached to a chapter or a verse among a node's children, and how many they are, or `NONE` where
+// there is no such child.
 #[unsafe(no_mangle)]
 pub extern "C" fn compared_attached(
     source: &[u8],
@@ -732,16 +650,7 @@ pub extern "C" fn compared_attached(
     i: usize,
     list: &mut [u64],
 ) -> u64 {
-    let from = after_anchor(source, tape, parent, i);
-    if from == 0 {
-        return 4294967296;
-    }
-    let kind = tape::kind_at(tape, i);
-    let to = tape::link_at(tape, parent) as usize;
-    write_starts(
-        attachment::attached_numbers(source, tape, kind, from, to),
-        list,
-    )
+    attached(source, tape, parent, i).map_or(NONE, |numbers| write_starts(numbers, list))
 }
 
 // Whether a number that starts at the offset is attached to it.
@@ -753,14 +662,5 @@ pub extern "C" fn compared_is_attached(
     i: usize,
     at: u32,
 ) -> bool {
-    let from = after_anchor(source, tape, parent, i);
-    if from == 0 {
-        return false;
-    }
-    let kind = tape::kind_at(tape, i);
-    let to = tape::link_at(tape, parent) as usize;
-    attachment::is_attached(
-        attachment::attached_numbers(source, tape, kind, from, to),
-        at,
-    )
+    attached(source, tape, parent, i).is_some_and(|numbers| attachment::is_attached(numbers, at))
 }

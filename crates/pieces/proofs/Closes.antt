@@ -4,7 +4,7 @@ use Prim.Native.Nat.{ℕ, ◌+◌}
 use mathlib.Core.Path.{◌≡◌, refl, sym, ◌∙◌}
 use mathlib.Core.Bool.{Bool, true, false, false≢true}
 use mathlib.Core.List.{List}
-use mathlib.Core.Option.{Option, some, none}
+use Rattle.std.specs.Prelude.{Option, Some, None}
 use lib.ListN.{length}
 use Rattle.text.specs.Bytes.{equal}
 use Rattle.text.specs.Pick.{pick}
@@ -23,8 +23,8 @@ use Rattle.pieces.specs.Closes.{is_fault, is_inline, OwnClose}
 pub record Usable (t name : List ℕ) : Type 0 where
   pub number : ℕ
   pub entry : Entry
-  pub found : looked_up t name ≡ some number
-  pub there : nth (entries t) number ≡ some entry
+  pub found : looked_up t name ≡ Some number
+  pub there : nth (entries t) number ≡ Some entry
   pub usable : category_at entry.category ≡ category.Other → ⊥
 
 module _ (t l : List ℕ) where
@@ -32,13 +32,13 @@ module _ (t l : List ℕ) where
   unfolding marker_piece known_piece
   marker-usable = go (looked_up t (name_of l)) refl
     where
-      by : (k : ℕ) → looked_up t (name_of l) ≡ some k → (x : Option Entry) → nth (entries t) k ≡ x → is_fault (entry_piece k x l) ≡ false → Usable t (name_of l)
-      by k q none r h = absurd (false≢true (sym h))
-      by k q (some e) r h = record { number = k; entry = e; found = q; there = r; usable = λ z. false≢true (sym (rw z at h)) }
+      by : (k : ℕ) → looked_up t (name_of l) ≡ Some k → (x : Option Entry) → nth (entries t) k ≡ x → is_fault (entry_piece k x l) ≡ false → Usable t (name_of l)
+      by k q None r h = absurd (false≢true (sym h))
+      by k q (Some e) r h = record { number = k; entry = e; found = q; there = r; usable = λ z. false≢true (sym (rw z at h)) }
 
       go : (o : Option ℕ) → looked_up t (name_of l) ≡ o → is_fault (found_piece t o l) ≡ false → Usable t (name_of l)
-      go none q h = absurd (false≢true (sym h))
-      go (some k) q h = by k q (nth (entries t) k) refl h
+      go None q h = absurd (false≢true (sym h))
+      go (Some k) q h = by k q (nth (entries t) k) refl h
 
   known-star : (c : Category) (m : ℕ) (e : Entry) → (c ≡ category.Other → ⊥) → byte_is star l (name_end l) ≡ true → close (name_of l) (name_end l + 1) ≡ known_piece c m e l
   unfolding known_piece
@@ -69,11 +69,11 @@ module _ (t l : List ℕ) (fair : is_fault (piece_at t l) ≡ false) (slash : by
   unfolding piece_at
   marker-here = rw (slash, no-star-next)
 
-  pub faultless-close : (end : ℕ) → end ≡ name_end l → byte_is star l end ≡ true → close (name_of l) (end + 1) ≡ piece_at t l
-  faultless-close end is h = rw is (usable-close t l (marker-usable t l (rw marker-here fair)) (rw is at h)) ∙ marker-here
+  pub faultless_close : (end : ℕ) → end ≡ name_end l → byte_is star l end ≡ true → close (name_of l) (end + 1) ≡ piece_at t l
+  faultless_close end is h = rw is (usable-close t l (marker-usable t l (rw marker-here fair)) (rw is at h)) ∙ marker-here
 
-  pub faultless-marker : (q : Piece) → q ≡ marker_piece t l → q ≡ piece_at t l
-  faultless-marker q e = e ∙ marker-here
+  pub faultless_marker : (q : Piece) → q ≡ marker_piece t l → q ≡ piece_at t l
+  faultless_marker q e = e ∙ marker-here
 
 inline-fair : (p : Piece) → is_inline p ≡ true → is_fault p ≡ false
 inline-fair (run x y) h = refl
@@ -94,12 +94,9 @@ inline-usable t o = go (byte_is backslash o 0) (byte_is star o 1)
     go true true h = absurd (false≢true h)
     go true false h = marker-usable t o (inline-fair (marker_piece t o) h)
 
--- a close with the name of an open character or note marker, by the tests that the code takes
-module _ (t o l : List ℕ) (x y z e : Bool) (slash : x ≡ byte_is backslash l 0) (next : y ≡ byte_is star l 1) where
-  pub own : (end : ℕ) → end ≡ name_end l → z ≡ byte_is star l end → (a b : List ℕ) → a ≡ name_of o → b ≡ name_of l → e ≡ equal a b → x ≡ true → y ≡ false → z ≡ true → e ≡ true → is_inline (piece_at t o) ≡ true → OwnClose t o l (end + 1)
-  unfolding piece_at
-  own end is starred a b a-is b-is alike x-is y-is z-is e-is inside =
-      let same : equal (name_of o) (name_of l) ≡ true = rw (← a-is, ← b-is) (sym alike ∙ e-is) in
-      let usable : Usable t (name_of l) = rw (equal-true (name_of o) (name_of l) same) at (inline-usable t o inside) in
-      let there : byte_is star l (name_end l) ≡ true = rw (← is) (sym starred ∙ z-is) in
-      record { is = rw (← slash, x-is, ← next, y-is, is) (usable-close t l usable there); same = same }
+-- a close with the name of an open character or note marker
+pub own : (t o l : List ℕ) → byte_is backslash l 0 ≡ true → byte_is star l 1 ≡ false → (end : ℕ) → end ≡ name_end l → byte_is star l end ≡ true → equal (name_of o) (name_of l) ≡ true → is_inline (piece_at t o) ≡ true → OwnClose t o l (end + 1)
+unfolding piece_at
+own t o l slash next end is starred same inside =
+    let usable : Usable t (name_of l) = rw (equal-true (name_of o) (name_of l) same) at (inline-usable t o inside) in
+    record { is = rw (slash, next, is) (usable-close t l usable (rw is at starred)); same = same }

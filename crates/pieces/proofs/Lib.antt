@@ -2,5 +2,4 @@ pub mod Tests
 pub mod Answers
 pub mod Sizes
 pub mod Places
-pub mod Depths
 pub mod Closes

@@ -2,7 +2,7 @@
 -- Assumes nothing.
 use Prim.Native.Nat.{ℕ, zero, suc, ◌+◌, ◌<◌, ◌≤◌}
 use mathlib.Core.Path.{◌≡◌, refl}
-use mathlib.Core.Bool.{Bool, true, false}
+use mathlib.Core.Bool.{true, false}
 use mathlib.Core.List.{List, [], ◌∷◌}
 use native.Mathlib.Decide.{dec_lt}
 use native.Mathlib.Omega.{arith}
@@ -17,7 +17,7 @@ use Rattle.text.proofs.Blank.{ascii-not-blank}
 use Rattle.text.proofs.Chars.{past, stops}
 use Rattle.text.proofs.Find.{past_ascii, stops-ascii, low-decode, high-decode}
 use Rattle.text.proofs.Rows.{place, within-lo, within-hi}
-use Rattle.reader_spec.specs.Pieces.{backslash, star, byte_is, star_at, ends_word}
+use Rattle.reader_spec.specs.Pieces.{backslash, byte_is, ends_word}
 
 -- a byte at a place of the list, and past its end
 same_byte : (l : List ℕ) (k : ℕ) → k < length l → get_or l k 0 ≡ get_or l k 256
@@ -30,13 +30,6 @@ byte-in b l k h = rw (same_byte l k h)
 
 pub byte-out : (b : ℕ) (l : List ℕ) (k : ℕ) → b < 256 → length l ≤ k → ltb k (length l) ≡ byte_is b l k
 byte-out b l k low h = rw (le-ltb k (length l) h, get_or-eq_default l 256 h, ne_eqb 256 b (λ e. omega arith))
-
--- `\*`
-pub star-by : (l : List ℕ) (k : ℕ) (x y : Bool) → x ≡ byte_is backslash l k → x ≡ true → y ≡ byte_is star l (k + 1) → y ≡ star_at l k
-star-by l k x y e h f = rw (← e, h) f
-
-pub star-out : (l : List ℕ) (k : ℕ) (x : Bool) → x ≡ byte_is backslash l k → x ≡ false → x ≡ star_at l k
-star-out l k x e h = rw (← e, h)
 
 -- the end of a word: at a backslash, past an ASCII byte above the space, and by a character that is decoded
 module _ (s : List ℕ) (i : ℕ) (inside : i < length s) where

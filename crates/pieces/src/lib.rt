@@ -1,8 +1,8 @@
 // The pieces of a text: what stands at a place, and how far it reaches. The passes over a text go from piece to piece.
 #![tactic(auto)]
 
-ghost use Rattle.std.specs.Prelude.{◌≡◌, true, false, List, ℕ, ◌<◌, ◌≤◌, eqb, length, drop};
-ghost use Rattle.std.proofs.Math.Option.{some};
+ghost use Rattle.std.specs.Prelude.{◌≡◌, true, false, List, ℕ, ◌<◌, ◌≤◌, IfSome, eqb, length, drop};
+ghost use Rattle.std.specs.Prelude.{Some};
 ghost use Rattle.text.specs.Characters.{find, find_byte};
 ghost use Rattle.text.specs.Inner.{Ended};
 ghost use Rattle.table.specs.Entries;
@@ -14,8 +14,8 @@ ghost use Rattle.pieces.specs.Shown.{link_by, shown, bytes_of};
 ghost use Rattle.pieces.specs.Depth.{depth_after};
 ghost use Rattle.pieces.specs.Closes.{is_fault, is_inline, OwnClose};
 
-use numbers::PartRead;
-use table::{Category, Info, Lookup, MarkerId, MarkerInfo};
+use refusals::Reason;
+use table::{Category, MarkerId, MarkerInfo};
 
 // What a text has at a place, with the numbers of bytes that belong to it. Names, links and a run's first `|` are left out, since the
 // pass that only counts needs few of them.
@@ -35,7 +35,7 @@ pub enum Piece {
     // A milestone: its number in the table, the bytes of the marker, of the blanks and of the attributes after it. `\*` closes it.
     Milestone(u16, usize, usize, usize),
     // Number 16 or 17; all the rest of the text belongs to it.
-    Fault(u64),
+    Fault(Reason),
 }
 
 // Whether a byte stands at a place; past the end there is none.
@@ -79,11 +79,12 @@ fn word_end(l: &[u8], from: usize) -> usize
 }
 
 // The bytes of a Chapter or Verse whose name ends at a place.
+#[tactic(auto, unfolding(reader_spec::specs::Pieces::number_size))]
 fn number_size(info: MarkerInfo, l: &[u8], end: usize) -> usize
     requires { Reached l.now (name_end l.now) end }
     ensures { result ≡ number_size (entry_of_info info) l.now }
 {
-    if numbers::is_glued(Info::Known(info), l) {
+    if numbers::is_glued(Some(info), l) {
         return end;
     }
     let word = text::find_from(l, end, false);
@@ -94,6 +95,7 @@ fn number_size(info: MarkerInfo, l: &[u8], end: usize) -> usize
 }
 
 // A milestone whose name ends at a place.
+#[tactic(auto, using(crate::proofs::Places::rest_is, text::proofs::Chars::byte_le), unfolding(reader_spec::specs::Pieces::milestone_piece))]
 fn milestone_piece(m: u16, l: &[u8], end: usize) -> Piece
     requires { Reached l.now (name_end l.now) end }
     ensures { (t : List ℕ) → shown t l.now result ≡ milestone_piece m l.now }
@@ -103,12 +105,12 @@ fn milestone_piece(m: u16, l: &[u8], end: usize) -> Piece
     }
     let bar = text::find_from(l, end, false);
     if byte_is(l, bar, b'|') {
-        let last = bar + text::find_byte(&l[bar..], b'\\');
-        if star_at(l, last) {
-            return Piece::Milestone(m, end, bar - end, last - bar);
+        let attributes = text::find_byte(&l[bar..], b'\\');
+        if star_at(l, bar + attributes) {
+            return Piece::Milestone(m, end, bar - end, attributes);
         }
     }
-    Piece::Fault(refusals::UNMATCHED_MARKER)
+    Piece::Fault(Reason::UnmatchedMarker)
 }
 
 // A close where a star stands directly behind the name, else the piece that is given.
@@ -123,24 +125,23 @@ fn unless_star(l: &[u8], end: usize, p: Piece) -> Piece
 }
 
 // The piece of a marker that is known. One of category other is a fault even with a star behind it.
+#[tactic(auto, unfolding(reader_spec::specs::Pieces::known_piece, reader_spec::specs::Pieces::number_link))]
 fn known_piece(info: MarkerInfo, m: u16, l: &[u8], end: usize) -> Piece
     requires { Reached l.now (name_end l.now) end }
-    ensures { (t : List ℕ) → nth (Entries.entries t) m ≡ some (entry_of_info info) → shown t l.now result ≡ known_piece info.category m (entry_of_info info) l.now }
+    ensures { (t : List ℕ) → nth (Entries.entries t) m ≡ Some (entry_of_info info) → shown t l.now result ≡ known_piece info.category m (entry_of_info info) l.now }
 {
-    let category = info.category;
-    match category {
-        Category::Identification => unless_star(l, end, Piece::Block(m, end)),
+    match info.category {
+        Category::Identification | Category::Paragraph => unless_star(l, end, Piece::Block(m, end)),
         Category::Chapter => unless_star(l, end, Piece::Chapter(m, number_size(info, l, end))),
         Category::Verse => unless_star(l, end, Piece::Verse(m, number_size(info, l, end))),
-        Category::Paragraph => unless_star(l, end, Piece::Block(m, end)),
-        Category::Character => unless_star(l, end, Piece::Inline(m, end)),
-        Category::Note => unless_star(l, end, Piece::Inline(m, end)),
+        Category::Character | Category::Note => unless_star(l, end, Piece::Inline(m, end)),
         Category::Milestone => unless_star(l, end, milestone_piece(m, l, end)),
-        Category::Other => Piece::Fault(refusals::UNKNOWN_MARKER),
+        Category::Other => Piece::Fault(Reason::UnknownMarker),
     }
 }
 
 // The piece of a marker whose name ends at a place.
+#[tactic(auto, unfolding(reader_spec::specs::Pieces::marker_piece))]
 fn named_piece(
     table: &[u8],
     index: &[u64],
@@ -153,11 +154,11 @@ fn named_piece(
     ensures { shown table.now l.now result ≡ marker_piece table.now l.now }
 {
     let start = cursor::name_start(l);
-    let Lookup::Found(id) = MarkerId::lookup(table, index, entries, chains, &l[start..end]) else {
-        return Piece::Fault(refusals::UNKNOWN_MARKER);
+    let Some(id) = MarkerId::lookup(table, index, entries, chains, &l[start..end]) else {
+        return Piece::Fault(Reason::UnknownMarker);
     };
-    let Info::Known(info) = MarkerId::info(table, index, entries, id) else {
-        return Piece::Fault(refusals::UNKNOWN_MARKER);
+    let Some(info) = MarkerId::info(table, index, entries, id) else {
+        return Piece::Fault(Reason::UnknownMarker);
     };
     known_piece(info, id.0, l, end)
 }
@@ -167,11 +168,11 @@ fn marker_piece(table: &[u8], index: &[u64], entries: usize, chains: &[u16], l: 
     requires { Indexed table.now index.now entries × Chained table.now chains.now }
     ensures { shown table.now l.now result ≡ marker_piece table.now l.now }
 {
-    let at = cursor::name_span(l);
-    named_piece(table, index, entries, chains, l, at.end)
+    named_piece(table, index, entries, chains, l, cursor::name_span(l).end)
 }
 
 // The piece that a text begins with.
+#[tactic(auto, unfolding(reader_spec::specs::Pieces::piece_at, reader_spec::specs::Pieces::run_piece))]
 pub fn piece_at(table: &[u8], index: &[u64], entries: usize, chains: &[u16], l: &[u8]) -> Piece
     requires { Indexed table.now index.now entries × Chained table.now chains.now }
     ensures { shown table.now l.now result ≡ piece_at table.now l.now }
@@ -180,12 +181,13 @@ pub fn piece_at(table: &[u8], index: &[u64], entries: usize, chains: &[u16], l: 
         return Piece::Run(text::find_byte(l, b'\\'));
     }
     if byte_is(l, 1, b'*') {
-        return Piece::Fault(refusals::UNMATCHED_MARKER);
+        return Piece::Fault(Reason::UnmatchedMarker);
     }
     marker_piece(table, index, entries, chains, l)
 }
 
 // The same where that piece is known to be no fault: a star behind the name makes it a close, without a look into the table.
+#[tactic(auto, using(crate::proofs::Closes::faultless_close, crate::proofs::Closes::faultless_marker), unfolding(reader_spec::specs::Pieces::piece_at, reader_spec::specs::Pieces::run_piece))]
 pub fn faultless_piece_at(
     table: &[u8],
     index: &[u64],
@@ -199,35 +201,26 @@ pub fn faultless_piece_at(
     if !byte_is(l, 0, b'\\') {
         return Piece::Run(text::find_byte(l, b'\\'));
     }
-    let at = cursor::name_span(l);
-    let end = at.end;
+    let end = cursor::name_span(l).end;
     if byte_is(l, end, b'*') {
         return Piece::Close(end + 1);
     }
     named_piece(table, index, entries, chains, l, end)
 }
 
-// The bytes of a close with the name of the character or note marker that another text begins with, else 0, which says nothing:
+// The bytes of a close with the name of the character or note marker that another text begins with, else None, which says nothing:
 // the piece is found then as any other. The table has that name, so that it need not be looked up again.
-pub fn own_close(opened: &[u8], l: &[u8]) -> usize
-    ensures { (t : List ℕ) → is_inline (piece_at t opened.now) ≡ true → 0 < result → OwnClose t opened.now l.now result }
+pub fn own_close(opened: &[u8], l: &[u8]) -> Option<usize>
+    ensures { (t : List ℕ) → is_inline (piece_at t opened.now) ≡ true → IfSome result (λ r. OwnClose t opened.now l.now r) }
 {
-    if !byte_is(l, 0, b'\\') {
-        return 0;
-    }
-    if byte_is(l, 1, b'*') {
-        return 0;
+    if !byte_is(l, 0, b'\\') || byte_is(l, 1, b'*') {
+        return None;
     }
     let at = cursor::name_span(l);
-    let start = at.start;
-    let end = at.end;
-    if !byte_is(l, end, b'*') {
-        return 0;
+    if byte_is(l, at.end, b'*') && text::equal(cursor::name_of(opened), &l[at.start..at.end]) {
+        return Some(at.end + 1);
     }
-    if text::equal(cursor::name_of(opened), &l[start..end]) {
-        return end + 1;
-    }
-    0
+    None
 }
 
 // How many bytes belong to a piece, where `rest` bytes are left from its first on. A fault has all of them.
@@ -236,12 +229,8 @@ pub fn size_of(p: Piece, rest: usize) -> usize
     ensures { result ≡ bytes_of p rest }
 {
     match p {
-        Piece::Run(n) => n,
-        Piece::Close(n) => n,
-        Piece::Block(_, n) => n,
-        Piece::Chapter(_, n) => n,
-        Piece::Verse(_, n) => n,
-        Piece::Inline(_, n) => n,
+        Piece::Run(n) | Piece::Close(n) => n,
+        Piece::Block(_, n) | Piece::Chapter(_, n) | Piece::Verse(_, n) | Piece::Inline(_, n) => n,
         Piece::Milestone(_, n, x, y) => n + x + y + 2,
         Piece::Fault(_) => rest,
     }
@@ -253,7 +242,7 @@ pub fn depth_after(p: Piece, depth: usize) -> usize
     ensures { result ≡ depth_after p depth }
 {
     match p {
-        Piece::Close(_) => if depth == 0 { 0 } else { depth - 1 },
+        Piece::Close(_) => depth.saturating_sub(1),
         Piece::Inline(_, _) => depth + 1,
         _ => depth,
     }
@@ -271,12 +260,11 @@ pub fn number_link(table: &[u8], index: &[u64], entries: usize, m: u16, l: &[u8]
     requires { Indexed table.now index.now entries }
     ensures { result ≡ link_by (nth (Entries.entries table.now) m) l.now }
 {
-    let Info::Known(info) = MarkerId::info(table, index, entries, MarkerId(m)) else {
+    let Some(info) = MarkerId::info(table, index, entries, MarkerId(m)) else {
         return 0;
     };
-    match numbers::parse_verse_part(numbers::number_label(Info::Known(info), l)) {
-        PartRead::Is(p) => p.num as u32,
-        PartRead::NoDigits => 0,
-        PartRead::TooLarge => 0,
+    match numbers::parse_verse_part(numbers::number_label(Some(info), l)) {
+        Ok(p) => p.num as u32,
+        Err(_) => 0,
     }
 }

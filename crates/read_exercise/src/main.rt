@@ -6,7 +6,8 @@ ghost use Rattle.listing.specs.Listing.{is_too_large};
 
 use std::io;
 
-// A tape of 65,537 nodes: a source that isn't too large has no more.
+// A tape of 65,537 nodes: a source that isn't too large has no more. Its length is a clause, since a check of code that holds
+// this array would count its elements.
 fn tape_room() -> [u8; 1048592]
     ensures { 1048592 ≡ length result }
 {
@@ -24,10 +25,10 @@ fn run(rt: &impl Print, table: &[u8], source: &[u8]) -> io::Result<()>
 fn main(rt: HostRuntime) -> io::Result<()> {
     let mut table = exercise::file_room();
     let mut source = exercise::file_room();
-    let a = exercise::read(&rt, b"table.txt", &mut table);
-    let b = exercise::read(&rt, b"source.usfm", &mut source);
-    if exercise::is_too_large(a, b, 0) {
+    let table = exercise::read(&rt, b"table.txt", &mut table);
+    let source = exercise::read(&rt, b"source.usfm", &mut source);
+    if exercise::is_too_large(table.len(), source.len(), 0) {
         return exercise::write_too_large(&rt);
     }
-    run(&rt, &table[..a], &source[..b])
+    run(&rt, table, source)
 }

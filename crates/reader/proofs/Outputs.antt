@@ -3,68 +3,40 @@
 use Prim.Native.Nat.{ℕ, suc, ◌*◌, ◌≤◌}
 use native.Mathlib.Omega.{arith}
 use native.Mathlib.Nat.{zero-add}
-use mathlib.Core.Path.{◌≡◌, refl, sym, ap, ◌∙◌}
+use mathlib.Core.Path.{◌≡◌, refl, ap, ◌∙◌}
 use mathlib.Core.Bool.{false}
 use mathlib.Core.List.{List, [], ◌++◌}
-use mathlib.Core.Option.{Option, some, none}
+use Rattle.std.specs.Prelude.{Option, Some, None}
 use lib.ListN.{length, take, drop}
 use lib.Seq.{take-append_seam, drop-append_seam}
 use Rattle.text.proofs.AnyOver.{any-parts}
 use Rattle.refusals.specs.Refusal.{Refusal, refuse, node_list_too_short}
 use Rattle.tape.specs.Nodes.{count}
-use Rattle.buffer.specs.Over.{Put}
 use Rattle.buffer.proofs.Over.{over-fits, length_over}
 use Rattle.listing.specs.Lines.{refused_lines}
 use Rattle.listing.specs.Listing.{largest_file, is_too_large}
 use Rattle.definition.specs.Outcome.{words_by}
 use Rattle.reader_spec.specs.Rows.{node_count, rows_of}
 use Rattle.reader_spec.specs.Conditions.{GivenRead, by1, by2, by3, by16, by17, by18, by_none}
-use Rattle.reader_spec.specs.Answer.{read_refusal, nodes_read, tape_read, refused, read, read_answer_by, read_answer, nodes_after}
+use Rattle.reader_spec.specs.Answer.{read_refusal, nodes_read, tape_read, read, read_answer_by, read_answer, nodes_after}
 use Rattle.reader_spec.proofs.Fields.{tape-length, rows-length}
 use Rattle.reader_spec.proofs.OneNumber.{read_number}
 use Rattle.reader_spec.proofs.Whole.{was_read, read-yields, read-checked}
-use Rattle.reader.specs.declared.ReadAnswer.{ReadAnswer}
-use Rattle.reader.specs.declared.ReadAnswer.TheVariants as answer
-use Rattle.reader.specs.Read.{read_answer_of}
 use Rattle.reader.specs.Output.{program_nodes, tape_unless, read_output, Printed}
 
-module _ (t s entry exit : List ℕ) (a : ReadAnswer) (answers : read_answer_of a ≡ read_answer t s entry) (leaves : exit ≡ nodes_after t s entry) where
-  -- the nodes
-  module _ (n : ℕ) (is : a ≡ answer.Read n) where
-    read_is : read_answer t s entry ≡ read n
-    read_is = sym answers ∙ ap read_answer_of is
-
-    pub nodes-fit : 16 * n ≤ length entry
-    nodes-fit = go (read_refusal t s entry) refl read_is
-      where
-        go : (o : Option Refusal) → read_refusal t s entry ≡ o → read_answer_by o (node_count (nodes_read t s)) ≡ read n → 16 * n ≤ length entry
-        go none e h =
-            let z : node_count (nodes_read t s) ≡ n = cc in
-            let room = (was_read t s entry e).room in
-            omega arith
-        go (some r) e h = let z : ◌≡◌ {A = ℕ} 0 1 = cc in absurd (omega arith)
-
-    pub prints-nodes : Printed t s entry exit (16 * n) (read_answer t s entry)
-    prints-nodes = rw read_is (leaves, refl)
-
-  -- the lines of a refusal
-  module _ (number place : ℕ) (is : a ≡ answer.Refused number place) where
-    refused-is : read_answer t s entry ≡ refused (record { number = number; place = place })
-    refused-is = sym answers ∙ ap read_answer_of is
-
-    pub unwritten : exit ≡ entry
-    unwritten = leaves ∙ go (read_refusal t s entry) refl refused-is
-      where
-        go : (o : Option Refusal) → read_refusal t s entry ≡ o → read_answer_by o (node_count (nodes_read t s)) ≡ refused (record { number = number; place = place }) → nodes_after t s entry ≡ entry
-        go none e h = let z : ◌≡◌ {A = ℕ} 0 1 = cc in absurd (omega arith)
-        go (some r) e h = rw e
-
-    pub prints-refusal : (v : List ℕ) (r : ℕ) → Put (refused_lines number place) exit 0 v r → Printed t s entry v r (read_answer t s entry)
-    prints-refusal v r put = rw refused-is (rw unwritten at put)
+-- nodes that are read have room in the list
+pub nodes-fit : (t s entry : List ℕ) (n : ℕ) → read n ≡ read_answer t s entry → 16 * n ≤ length entry
+nodes-fit t s entry n = go (read_refusal t s entry) refl
+  where
+    go : (o : Option Refusal) → read_refusal t s entry ≡ o → read n ≡ read_answer_by o (node_count (nodes_read t s)) → 16 * n ≤ length entry
+    go None e h =
+        let z : n ≡ node_count (nodes_read t s) = cc in
+        omega (arith, (was_read t s entry e).room)
+    go (Some r) e h = let z : ◌≡◌ {A = ℕ} 0 1 = cc in absurd (omega arith)
 
 -- a refusal leaves the list as it was, and what lies beyond the nodes stays in any case
 module _ (t s nodes : List ℕ) where
-  pub refused-unchanged : (r : Refusal) → read_refusal t s nodes ≡ some r → nodes_after t s nodes ≡ nodes
+  pub refused-unchanged : (r : Refusal) → read_refusal t s nodes ≡ Some r → nodes_after t s nodes ≡ nodes
   refused-unchanged r e = rw e
 
   pub kept-beyond : drop (16 * node_count (nodes_read t s)) (nodes_after t s nodes) ≡ drop (16 * node_count (nodes_read t s)) nodes
@@ -77,16 +49,16 @@ module _ (t s nodes : List ℕ) where
       long = tape-length (rows_of s (nodes_read t s)) ∙ ap (16 *◌) (ap suc (rows-length 1 (nodes_read t s)))
 
       go : (o : Option Refusal) → drop n (words_by o nodes (tape_read t s ++ drop n nodes)) ≡ drop n nodes
-      go none = rw (← long) (drop-append_seam (tape_read t s) (drop (length (tape_read t s)) nodes))
-      go (some r) = refl
+      go None = rw (← long) (drop-append_seam (tape_read t s) (drop (length (tape_read t s)) nodes))
+      go (Some r) = refl
 
   -- a list of as many nodes as the program's has room for any text that isn't too large
   pub has_room : (place : ℕ) → is_too_large t s [] ≡ false → count nodes ≡ program_nodes → read_refusal t s nodes ≡ refuse node_list_too_short place → ⊥
   has_room place small room given = by_number ((read_number t s nodes (refuse node_list_too_short place)).0 given) refl
     where
       number : Option Refusal → ℕ
-      number none = 0
-      number (some r) = r.number
+      number None = 0
+      number (Some r) = r.number
 
       by_number : {o : Option Refusal} → GivenRead t s nodes o → o ≡ refuse node_list_too_short place → ⊥
       by_number (by1 p h) e = let z = ap number e in omega arith
@@ -107,8 +79,8 @@ unfolding read_output
 output-printed t s entry exit r small room inside p = rw small (go (read_refusal t s entry) refl p)
   where
     go : (o : Option Refusal) → read_refusal t s entry ≡ o → Printed t s entry exit r (read_answer_by o (node_count (nodes_read t s))) → take r exit ≡ tape_unless o (tape_read t s)
-    go none e (leaves, end) = rw (leaves, end) (read-checked t s entry [] [] [] e).written
-    go (some x) e put =
+    go None e (leaves, end) = rw (leaves, end) (read-checked t s entry [] [] [] e).written
+    go (Some x) e put =
         let l = refused_lines x.number x.place in
         let long : length exit ≡ length entry = ap length put.list ∙ length_over entry 0 l in
         let end : r ≡ length l = put.end ∙ zero-add _ in

@@ -1,6 +1,6 @@
 -- Document 02, K5: what the program read-exercise prints: the bytes of a text's tape, or a refusal as check-exercise prints it.
 use Rattle.std.specs.Prelude.{ℕ, ◌*◌, ◌≡◌, List, []}
-use Rattle.std.proofs.Math.Option.{Option, some, none}
+use Rattle.std.specs.Prelude.{Option, Some, None}
 use Rattle.text.specs.Pick.{pick}
 use Rattle.refusals.specs.Refusal.{Refusal}
 use Rattle.buffer.specs.Over.{Put}
@@ -13,8 +13,8 @@ abbrev pub program_nodes : ℕ
 program_nodes = 65537
 
 abbrev pub tape_unless : Option Refusal → List ℕ → List ℕ
-tape_unless (some r) tape = refused_lines r.number r.place
-tape_unless none tape = tape
+tape_unless (Some r) tape = refused_lines r.number r.place
+tape_unless None tape = tape
 
 -- the whole output for table t and text s, with the program's list of nodes
 unfoldable pub read_output : List ℕ → List ℕ → List ℕ → List ℕ

@@ -3,7 +3,7 @@
 use mathlib.Core.Path.{◌≡◌, refl, sym, ap, ◌∙◌}
 use mathlib.Core.Bool.{Bool, true, false}
 use mathlib.Core.List.{List, [], ◌∷◌}
-use mathlib.Core.Option.{Option, some, none}
+use Rattle.std.specs.Prelude.{Option, Some, None}
 use Prim.Native.Nat.{ℕ, zero, suc, pred, ◌+◌, ◌-◌, ◌<◌, ◌≤◌}
 use native.Mathlib.Nat.{add-zero, zero-add, not-suc-le-zero}
 use native.Mathlib.Omega.{arith}
@@ -57,7 +57,7 @@ unfolding find_byte
 run-some [] h e = absurd (not-suc-le-zero h)
 run-some (b ∷ l) h e = let no_slash : eqb backslash b ≡ false = ne_eqb backslash b (λ z. eqb-false b backslash e (sym z)) in rw no_slash (omega arith)
 
-module _ (t l : List ℕ) (sound : bad_table t ≡ none) (made : Made l) (some_left : 0 < length l) where
+module _ (t l : List ℕ) (sound : bad_table t ≡ None) (made : Made l) (some_left : 0 < length l) where
   broken : (k : ℕ) → Cut t l (fault k (length l))
   broken k = record { stops = clear-end l (length l) refl; fair = some_left }
 
@@ -118,7 +118,7 @@ module _ (t l : List ℕ) (sound : bad_table t ≡ none) (made : Made l) (some_l
         (λ f. record { stops = after-star (last_at l) (and_right (byte_is bar l (bar_at l)) _ f) last-edge; fair = (two, low, ends-name, bar-edge, last-edge) })
         (λ f. broken unmatched_marker))
 
-    known-cut : (c : Category) (m : ℕ) (e : Entry) → looked_up t (name_of l) ≡ some m → nth (entries t) m ≡ some e → Cut t l (known_piece c m e l)
+    known-cut : (c : Category) (m : ℕ) (e : Entry) → looked_up t (name_of l) ≡ Some m → nth (entries t) m ≡ Some e → Cut t l (known_piece c m e l)
     unfolding known_piece
     known-cut category.Identification m e h n = star-cut _ (record { stops = ends-name; fair = (name-two l made slash t m e sound h n, marker-low t m e sound n) })
     known-cut category.Chapter m e h n =
@@ -133,13 +133,13 @@ module _ (t l : List ℕ) (sound : bad_table t ≡ none) (made : Made l) (some_l
     known-cut category.Milestone m e h n = star-cut _ (milestone-cut m (name-two l made slash t m e sound h n) (marker-low t m e sound n))
     known-cut category.Other m e h n = broken unknown_marker
 
-    entry-cut : (m : ℕ) (o : Option Entry) → looked_up t (name_of l) ≡ some m → nth (entries t) m ≡ o → Cut t l (entry_piece m o l)
-    entry-cut m none h n = broken unknown_marker
-    entry-cut m (some e) h n = known-cut (category_at e.category) m e h n
+    entry-cut : (m : ℕ) (o : Option Entry) → looked_up t (name_of l) ≡ Some m → nth (entries t) m ≡ o → Cut t l (entry_piece m o l)
+    entry-cut m None h n = broken unknown_marker
+    entry-cut m (Some e) h n = known-cut (category_at e.category) m e h n
 
     found-cut : (o : Option ℕ) → looked_up t (name_of l) ≡ o → Cut t l (found_piece t o l)
-    found-cut none h = broken unknown_marker
-    found-cut (some m) h = entry-cut m (nth (entries t) m) h refl
+    found-cut None h = broken unknown_marker
+    found-cut (Some m) h = entry-cut m (nth (entries t) m) h refl
 
     slash-cut : Cut t l (backslash_piece t l)
     unfolding marker_piece
@@ -169,7 +169,7 @@ next-pieces t (b ∷ l) h k = ap (piece_at t (b ∷ l) ∷◌) (go (size_of (pie
     go zero k = absurd (not-suc-le-zero k)
     go (suc n) k = skip t n l
 
-module _ (t s : List ℕ) (sound : bad_table t ≡ none) where
+module _ (t s : List ℕ) (sound : bad_table t ≡ None) where
   abbrev LaidFrom : List ℕ → Type 0
   LaidFrom l = (at : ℕ) → Edge s at → drop at s ≡ l → Made l → Laid t s at (pieces t l)
 

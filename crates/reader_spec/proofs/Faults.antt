@@ -4,7 +4,7 @@ use Prim.Native.Nat.{ℕ, ◌+◌}
 use mathlib.Core.Path.{◌≡◌, refl}
 use mathlib.Core.Bool.{Bool, true, false, not, ◌&&◌, ◌||◌}
 use mathlib.Core.List.{List, [], ◌∷◌}
-use mathlib.Core.Option.{Option, some, none}
+use Rattle.std.specs.Prelude.{Option, Some, None}
 use lib.ListN.{length}
 use Rattle.text.specs.Pick.{pick}
 use Rattle.text.specs.Bytes.{equal}
@@ -21,15 +21,15 @@ use Rattle.reader_spec.specs.Conditions.{entry_at, entry_found, none_or_other, i
 
 -- the number with which a piece stops, if it does
 abbrev pub stop_of : PieceStep → Option ℕ
-stop_of (goes ns st) = none
-stop_of (stops number) = some number
+stop_of (goes ns st) = None
+stop_of (stops number) = Some number
 
 module _ (t l : List ℕ) (b : Option ℕ) (os : List OpenMarker) (at : ℕ) where
   abbrev stop : Piece → Option ℕ
   stop p = stop_of (piece_step b os at p)
 
   abbrev only17 : Bool → Option ℕ
-  only17 x = pick x (some unmatched_marker) none
+  only17 x = pick x (Some unmatched_marker) None
 
   -- a close: of the innermost, or not
   close-stops : (name : List ℕ) (n : ℕ) → stop (close name n) ≡ only17 (not (innermost_is os name) || false)
@@ -78,17 +78,17 @@ module _ (t l : List ℕ) (b : Option ℕ) (os : List OpenMarker) (at : ℕ) whe
       go (o ∷ os) = refl
 
   -- a Verse, a character and a note stand anywhere
-  goes_on : (p : Piece) → stop p ≡ none → stop p ≡ only17 (some_open os && false)
+  goes_on : (p : Piece) → stop p ≡ None → stop p ≡ only17 (some_open os && false)
   goes_on p h = go os h
     where
-      go : (os : List OpenMarker) → stop p ≡ none → stop p ≡ only17 (some_open os && false)
+      go : (os : List OpenMarker) → stop p ≡ None → stop p ≡ only17 (some_open os && false)
       go [] h = h
       go (o ∷ os) h = h
 
   abbrev Says : Option Entry → Piece → Type 0
-  Says e p = stop p ≡ pick (none_or_other e) (some unknown_marker) (only17 ((byte_is star l (name_end l) && not (innermost_is os (name_of l))) || (not (byte_is star l (name_end l)) && (milestone_open e l || block_inside e os))))
+  Says e p = stop p ≡ pick (none_or_other e) (Some unknown_marker) (only17 ((byte_is star l (name_end l) && not (innermost_is os (name_of l))) || (not (byte_is star l (name_end l)) && (milestone_open e l || block_inside e os))))
 
-  known-says : (m : ℕ) (e : Entry) (c : Category) → category_at e.category ≡ c → Says (some e) (known_piece c m e l)
+  known-says : (m : ℕ) (e : Entry) (c : Category) → category_at e.category ≡ c → Says (Some e) (known_piece c m e l)
   unfolding known_piece piece_step milestone_piece
   known-says m e category.Identification q = rw q (unless-star (byte_is star l (name_end l)) _ (block m (name_end l)) (block-stops m (name_end l)))
   known-says m e category.Chapter q = rw q (unless-star (byte_is star l (name_end l)) _ (chapter m (number_size e l) (number_link e l)) (chapter-stops m (number_size e l) (number_link e l)))
@@ -101,24 +101,24 @@ module _ (t l : List ℕ) (b : Option ℕ) (os : List OpenMarker) (at : ℕ) whe
 
   entry-says : (m : ℕ) (e : Option Entry) → Says e (entry_piece m e l)
   unfolding piece_step
-  entry-says m none = refl
-  entry-says m (some e) = known-says m e (category_at e.category) refl
+  entry-says m None = refl
+  entry-says m (Some e) = known-says m e (category_at e.category) refl
 
   found-says : (o : Option ℕ) → Says (entry_at t o) (found_piece t o l)
   unfolding piece_step
-  found-says none = refl
-  found-says (some m) = entry-says m (nth (entries t) m)
+  found-says None = refl
+  found-says (Some m) = entry-says m (nth (entries t) m)
 
-  slash-says : (x : Bool) → stop (pick x (fault unmatched_marker (length l)) (marker_piece t l)) ≡ pick (not x && none_or_other (entry_found t l)) (some unknown_marker) (only17 ((x || (byte_is star l (name_end l) && not (innermost_is os (name_of l)))) || (not (byte_is star l (name_end l)) && (milestone_open (entry_found t l) l || block_inside (entry_found t l) os))))
+  slash-says : (x : Bool) → stop (pick x (fault unmatched_marker (length l)) (marker_piece t l)) ≡ pick (not x && none_or_other (entry_found t l)) (Some unknown_marker) (only17 ((x || (byte_is star l (name_end l) && not (innermost_is os (name_of l)))) || (not (byte_is star l (name_end l)) && (milestone_open (entry_found t l) l || block_inside (entry_found t l) os))))
   unfolding piece_step marker_piece
   slash-says true = refl
   slash-says false = found-says (looked_up t (name_of l))
 
   -- the number of the piece that the list begins with: "at one place 16"
-  pub step-number : stop_of (piece_step b os at (piece_at t l)) ≡ pick (is_unknown t l) (some unknown_marker) (pick (is_unmatched t l os) (some unmatched_marker) none)
+  pub step-number : stop_of (piece_step b os at (piece_at t l)) ≡ pick (is_unknown t l) (Some unknown_marker) (pick (is_unmatched t l os) (Some unmatched_marker) None)
   unfolding piece_step piece_at run_piece
   step-number = go (byte_is backslash l 0)
     where
-      go : (x : Bool) → stop (pick x (backslash_piece t l) (run_piece l)) ≡ pick (x && (not (byte_is star l 1) && none_or_other (entry_found t l))) (some unknown_marker) (only17 (x && (close_alone l os || (not (byte_is star l (name_end l)) && (milestone_open (entry_found t l) l || block_inside (entry_found t l) os)))))
+      go : (x : Bool) → stop (pick x (backslash_piece t l) (run_piece l)) ≡ pick (x && (not (byte_is star l 1) && none_or_other (entry_found t l))) (Some unknown_marker) (only17 (x && (close_alone l os || (not (byte_is star l (name_end l)) && (milestone_open (entry_found t l) l || block_inside (entry_found t l) os)))))
       go true = slash-says (byte_is star l 1)
       go false = refl

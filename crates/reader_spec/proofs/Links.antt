@@ -6,7 +6,7 @@ use native.Mathlib.Omega.{arith}
 use mathlib.Core.Path.{◌≡◌, refl, sym, ap}
 use mathlib.Core.Bool.{true, false}
 use mathlib.Core.List.{List, [], ◌∷◌}
-use mathlib.Core.Option.{Option, none}
+use Rattle.std.specs.Prelude.{Option, None}
 use lib.ListN.{length, drop}
 use borrow.Author.Tests.{le-ltb}
 use Rattle.text.specs.Pick.{within}
@@ -93,7 +93,7 @@ row_is (ends m a) close = record { kind = refl; good = refl; marker = refl; star
 
 -- no refusal, or number 8 where the nodes nest too deep
 abbrev pub Fine : ℕ → Option Refusal → Type 0
-Fine deep x = (deep ≤ 64 → x ≡ none) × (64 < deep → (place : ℕ) × (x ≡ refuse too_deep place))
+Fine deep x = (deep ≤ 64 → x ≡ None) × (64 < deep → (place : ℕ) × (x ≡ refuse too_deep place))
 
 module _ (t : List ℕ) where
   too-deep : (n : ℕ) (aw : List ℕ) → is_open (kind_at t n) ≡ true → 64 ≤ length aw → step t n aw ≡ stop too_deep

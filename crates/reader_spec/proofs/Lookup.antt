@@ -3,7 +3,7 @@
 use mathlib.Core.Path.{◌≡◌, refl, sym, ap, ◌∙◌}
 use mathlib.Core.Bool.{Bool, true, false, ◌&&◌, ◌||◌}
 use mathlib.Core.List.{List, [], ◌∷◌}
-use mathlib.Core.Option.{Option, some, none}
+use Rattle.std.specs.Prelude.{Option, Some, None}
 use Prim.Native.Nat.{ℕ, zero, suc, ◌+◌, ◌-◌, ◌%◌, ◌<◌, ◌≤◌}
 use native.Mathlib.Nat.{not-suc-le-zero, zero-add}
 use native.Mathlib.Omega.{arith}
@@ -59,7 +59,7 @@ all_lie at (b ∷ s) to h = go (eqb b 10) (lines (suc at) s) (heads (suc at) s) 
     go false (l ∷ ls) e k = (omega (arith, k.0, e), k.1)
 
 -- so an entry's name has the length that the entry says
-named-length : (t : List ℕ) (ls : List Line) (k : ℕ) (e : Entry) → AllLie (length t) ls → nth (entries_of ls) k ≡ some e → length (cut e.name t) ≡ e.name.len
+named-length : (t : List ℕ) (ls : List Line) (k : ℕ) (e : Entry) → AllLie (length t) ls → nth (entries_of ls) k ≡ Some e → length (cut e.name t) ≡ e.name.len
 unfolding nth entries_of AllLie
 named-length t [] k e a h = let z : ◌≡◌ {A = ℕ} 0 1 = cc in absurd (omega arith)
 named-length t (x ∷ []) k e a h = let z : ◌≡◌ {A = ℕ} 0 1 = cc in absurd (omega arith)
@@ -72,17 +72,17 @@ named-length t (x ∷ y ∷ w ∷ ls) zero e a h =
     go n h = length-take-le (n - 5) (drop (x.at + 5) t) (omega (arith, length-drop (x.at + 5) t))
 named-length t (x ∷ y ∷ w ∷ ls) (suc k) e a h = named-length t ls k e a.1.1.1 h
 
-pub entry_length : (t : List ℕ) (k : ℕ) (e : Entry) → nth (entries t) k ≡ some e → length (cut e.name t) ≡ e.name.len
+pub entry_length : (t : List ℕ) (k : ℕ) (e : Entry) → nth (entries t) k ≡ Some e → length (cut e.name t) ≡ e.name.len
 unfolding entries
 entry_length t k e h = named-length t (lines 0 t) k e (all_lie 0 t (length t) (omega arith)) h
 
 -- a table that number 1 doesn't turn back has few markers
-lines-few : (to k : ℕ) (ls : List Line) → k ≤ 1536 → bad_from to k ls ≡ none → k + length ls ≤ 1536
+lines-few : (to k : ℕ) (ls : List Line) → k ≤ 1536 → bad_from to k ls ≡ None → k + length ls ≤ 1536
 unfolding bad_from
 lines-few to k [] h e = omega arith
 lines-few to k (l ∷ ls) h e = go (good_line k l) refl e (lines-few to (suc k) ls)
   where
-    go : (x : Bool) → good_line k l ≡ x → pick x (bad_from to (suc k) ls) (some l.at) ≡ none → (suc k ≤ 1536 → bad_from to (suc k) ls ≡ none → suc k + length ls ≤ 1536) → k + suc (length ls) ≤ 1536
+    go : (x : Bool) → good_line k l ≡ x → pick x (bad_from to (suc k) ls) (Some l.at) ≡ None → (suc k ≤ 1536 → bad_from to (suc k) ls ≡ None → suc k + length ls ≤ 1536) → k + suc (length ls) ≤ 1536
     go true q e ih = let low = ltb-true k 1536 (and_left _ _ q) in let r = ih low e in omega arith
     go false q e ih = let z : ◌≡◌ {A = ℕ} 0 1 = cc in absurd (omega arith)
 
@@ -93,13 +93,13 @@ entries-few (x ∷ []) = omega arith
 entries-few (x ∷ y ∷ []) = omega arith
 entries-few (x ∷ y ∷ w ∷ ls) = let r = entries-few ls in omega arith
 
-nth-low : (es : List Entry) (k : ℕ) (e : Entry) → nth es k ≡ some e → k < length es
+nth-low : (es : List Entry) (k : ℕ) (e : Entry) → nth es k ≡ Some e → k < length es
 unfolding nth
 nth-low [] k e h = let z : ◌≡◌ {A = ℕ} 0 1 = cc in absurd (omega arith)
 nth-low (x ∷ es) zero e h = omega arith
 nth-low (x ∷ es) (suc k) e h = let r = nth-low es k e h in omega arith
 
-pub marker-low : (t : List ℕ) (k : ℕ) (e : Entry) → bad_table t ≡ none → nth (entries t) k ≡ some e → k < 65536
+pub marker-low : (t : List ℕ) (k : ℕ) (e : Entry) → bad_table t ≡ None → nth (entries t) k ≡ Some e → k < 65536
 unfolding bad_table entries
 marker-low t k e h n =
     let a = lines-few (length t) 0 (lines 0 t) (omega arith) h in
@@ -116,11 +116,11 @@ name-some k l z g =
     let low = within-lo 1 16 (length (beyond name_key l.body)) long in
     omega (arith, length-drop 5 l.body)
 
-good-or-none : (b : Bool) (n : ℕ) (o : Option ℕ) → pick b o (some n) ≡ none → (b ≡ true) × (o ≡ none)
+good-or-none : (b : Bool) (n : ℕ) (o : Option ℕ) → pick b o (Some n) ≡ None → (b ≡ true) × (o ≡ None)
 good-or-none true n o e = (refl, e)
 good-or-none false n o e = let z : ◌≡◌ {A = ℕ} 0 1 = cc in absurd (omega arith)
 
-entry-some : (to k : ℕ) (ls : List Line) (j : ℕ) (e : Entry) → k % 3 ≡ 0 → bad_from to k ls ≡ none → nth (entries_of ls) j ≡ some e → 1 ≤ e.name.len
+entry-some : (to k : ℕ) (ls : List Line) (j : ℕ) (e : Entry) → k % 3 ≡ 0 → bad_from to k ls ≡ None → nth (entries_of ls) j ≡ Some e → 1 ≤ e.name.len
 unfolding nth entries_of bad_from
 entry-some to k [] j e z g h = let z : ◌≡◌ {A = ℕ} 0 1 = cc in absurd (omega arith)
 entry-some to k (x ∷ []) j e z g h = let z : ◌≡◌ {A = ℕ} 0 1 = cc in absurd (omega arith)
@@ -134,26 +134,26 @@ entry-some to k (x ∷ y ∷ w ∷ ls) (suc j) e z g h =
     let three = (good-or-none (good_line (suc (suc k)) w) _ _ two).1 in
     entry-some to (suc (suc (suc k))) ls j e (omega arith) three h
 
-named_some : (t : List ℕ) (k : ℕ) (e : Entry) → bad_table t ≡ none → nth (entries t) k ≡ some e → 1 ≤ e.name.len
+named_some : (t : List ℕ) (k : ℕ) (e : Entry) → bad_table t ≡ None → nth (entries t) k ≡ Some e → 1 ≤ e.name.len
 unfolding bad_table entries
 named_some t k e h n = entry-some (length t) 0 (lines 0 t) k e refl h n
 
 -- an entry that has a name
-named-ge : (t s : List ℕ) (k : ℕ) (es : List Entry) (n : ℕ) → named_from t k es s ≡ some n → k ≤ n
+named-ge : (t s : List ℕ) (k : ℕ) (es : List Entry) (n : ℕ) → named_from t k es s ≡ Some n → k ≤ n
 unfolding named_from
 named-ge t s k [] n h = let z : ◌≡◌ {A = ℕ} 0 1 = cc in absurd (omega arith)
 named-ge t s k (x ∷ es) n h = go (equal (cut x.name t) s) h (named-ge t s (suc k) es n)
   where
-    go : (b : Bool) → pick b (some k) (named_from t (suc k) es s) ≡ some n → (named_from t (suc k) es s ≡ some n → suc k ≤ n) → k ≤ n
+    go : (b : Bool) → pick b (Some k) (named_from t (suc k) es s) ≡ Some n → (named_from t (suc k) es s ≡ Some n → suc k ≤ n) → k ≤ n
     go true h ih = let z : k ≡ n = cc in omega arith
     go false h ih = let r = ih h in omega arith
 
-named-is : (t s : List ℕ) (k : ℕ) (es : List Entry) (m : ℕ) (e : Entry) → named_from t k es s ≡ some (k + m) → nth es m ≡ some e → equal (cut e.name t) s ≡ true
+named-is : (t s : List ℕ) (k : ℕ) (es : List Entry) (m : ℕ) (e : Entry) → named_from t k es s ≡ Some (k + m) → nth es m ≡ Some e → equal (cut e.name t) s ≡ true
 unfolding named_from nth
 named-is t s k [] m e h n = let z : ◌≡◌ {A = ℕ} 0 1 = cc in absurd (omega arith)
 named-is t s k (x ∷ es) m e h n = go (equal (cut x.name t) s) refl m h n (named-is t s (suc k) es)
   where
-    go : (b : Bool) → equal (cut x.name t) s ≡ b → (m : ℕ) → pick b (some k) (named_from t (suc k) es s) ≡ some (k + m) → nth (x ∷ es) m ≡ some e → ((m : ℕ) (e : Entry) → named_from t (suc k) es s ≡ some (suc k + m) → nth es m ≡ some e → equal (cut e.name t) s ≡ true) → equal (cut e.name t) s ≡ true
+    go : (b : Bool) → equal (cut x.name t) s ≡ b → (m : ℕ) → pick b (Some k) (named_from t (suc k) es s) ≡ Some (k + m) → nth (x ∷ es) m ≡ Some e → ((m : ℕ) (e : Entry) → named_from t (suc k) es s ≡ Some (suc k + m) → nth es m ≡ Some e → equal (cut e.name t) s ≡ true) → equal (cut e.name t) s ≡ true
     go true q zero h n ih = let z : x ≡ e = cc in rw (← z) q
     go true q (suc m) h n ih = let z : k ≡ k + suc m = cc in absurd (omega arith)
     go false q zero h n ih = let r = named-ge t s (suc k) es (k + 0) h in absurd (omega arith)
@@ -162,7 +162,7 @@ named-is t s k (x ∷ es) m e h n = go (equal (cut x.name t) s) refl m h n (name
         one_on : (k m : ℕ) → suc k + m ≡ k + suc m
         one_on k m = omega arith
 
-name-is : (t s : List ℕ) (m : ℕ) (e : Entry) → entry_named t s ≡ some m → nth (entries t) m ≡ some e → e.name.len ≡ length s
+name-is : (t s : List ℕ) (m : ℕ) (e : Entry) → entry_named t s ≡ Some m → nth (entries t) m ≡ Some e → e.name.len ≡ length s
 name-is t s m e h n =
     let is : cut e.name t ≡ s = equal-true (cut e.name t) s (named-is t s 0 (entries t) m e (rw (zero-add m) h) n) in
     sym (entry_length t m e n) ∙ ap length is
@@ -203,11 +203,11 @@ pub record Cut (s : List ℕ) (e : Entry) : Type 0 where
   pub beginning : e.name.len ≤ length s
   pub whole : e.name.len < length s → is_boundary s e.name.len ≡ true
 
-pub cut-whole : (t s : List ℕ) (m : ℕ) (e : Entry) → looked_up t s ≡ some m → nth (entries t) m ≡ some e → Cut s e
+pub cut-whole : (t s : List ℕ) (m : ℕ) (e : Entry) → looked_up t s ≡ Some m → nth (entries t) m ≡ Some e → Cut s e
 unfolding looked_up
 cut-whole t s m e h n = first (entry_named t s) refl h
   where
-    third : (x : Bool) → glued_digit s ≡ x → pick x (entry_named t (take 1 s)) none ≡ some m → Cut s e
+    third : (x : Bool) → glued_digit s ≡ x → pick x (entry_named t (take 1 s)) None ≡ Some m → Cut s e
     third true q h =
         let long : 1 < length s = ltb-true 1 (length s) (and_left _ _ q) in
         let d : digit (get_or s 1 0) ≡ true = and_right (eqb (get_or s 0 0) 118 || eqb (get_or s 0 0) 99) _ (and_right (ltb 1 (length s)) _ q) in
@@ -215,19 +215,19 @@ cut-whole t s m e h n = first (entry_named t s) refl h
         record { beginning = omega arith; whole = λ l. rw is (inside-low s 1 long (digit_low (get_or s 1 0) d)) }
     third false q h = let z : ◌≡◌ {A = ℕ} 0 1 = cc in absurd (omega arith)
 
-    second : (x : Bool) → ltb (stripped_length s) (length s) ≡ x → (o : Option ℕ) → pick x (entry_named t (take (stripped_length s) s)) none ≡ o → first_known o (pick (glued_digit s) (entry_named t (take 1 s)) none) ≡ some m → Cut s e
-    second true q (some j) p h =
+    second : (x : Bool) → ltb (stripped_length s) (length s) ≡ x → (o : Option ℕ) → pick x (entry_named t (take (stripped_length s) s)) None ≡ o → first_known o (pick (glued_digit s) (entry_named t (take 1 s)) None) ≡ Some m → Cut s e
+    second true q (Some j) p h =
         let below = ltb-true (stripped_length s) (length s) q in
-        let here : entry_named t (take (stripped_length s) s) ≡ some m = p ∙ h in
+        let here : entry_named t (take (stripped_length s) s) ≡ Some m = p ∙ h in
         let is : e.name.len ≡ stripped_length s = name-is t (take (stripped_length s) s) m e here n ∙ length-take-le (stripped_length s) s (stripped-le s) in
         record { beginning = omega (arith, stripped-le s); whole = λ l. rw is (inside-low s (stripped_length s) below (stripped-digit s below)) }
-    second false q (some j) p h = let z : ◌≡◌ {A = ℕ} 0 1 = cc in absurd (omega arith)
-    second x q none p h = third (glued_digit s) refl h
+    second false q (Some j) p h = let z : ◌≡◌ {A = ℕ} 0 1 = cc in absurd (omega arith)
+    second x q None p h = third (glued_digit s) refl h
 
-    first : (o : Option ℕ) → entry_named t s ≡ o → first_known o (first_known (pick (ltb (stripped_length s) (length s)) (entry_named t (take (stripped_length s) s)) none) (pick (glued_digit s) (entry_named t (take 1 s)) none)) ≡ some m → Cut s e
-    first (some j) q h = let is = name-is t s m e (q ∙ h) n in record { beginning = omega arith; whole = λ l. absurd (omega arith) }
-    first none q h = second (ltb (stripped_length s) (length s)) refl (pick (ltb (stripped_length s) (length s)) (entry_named t (take (stripped_length s) s)) none) refl h
+    first : (o : Option ℕ) → entry_named t s ≡ o → first_known o (first_known (pick (ltb (stripped_length s) (length s)) (entry_named t (take (stripped_length s) s)) None) (pick (glued_digit s) (entry_named t (take 1 s)) None)) ≡ Some m → Cut s e
+    first (Some j) q h = let is = name-is t s m e (q ∙ h) n in record { beginning = omega arith; whole = λ l. absurd (omega arith) }
+    first None q h = second (ltb (stripped_length s) (length s)) refl (pick (ltb (stripped_length s) (length s)) (entry_named t (take (stripped_length s) s)) None) refl h
 
 -- a name that is found has a byte
-pub found_some : (t s : List ℕ) (m : ℕ) (e : Entry) → bad_table t ≡ none → looked_up t s ≡ some m → nth (entries t) m ≡ some e → 1 ≤ length s
+pub found_some : (t s : List ℕ) (m : ℕ) (e : Entry) → bad_table t ≡ None → looked_up t s ≡ Some m → nth (entries t) m ≡ Some e → 1 ≤ length s
 found_some t s m e g h n = let c = (cut-whole t s m e h n).beginning in let d = named_some t m e g n in omega arith

@@ -3,7 +3,7 @@
 use mathlib.Core.Path.{◌≡◌, refl, ap, ◌∙◌}
 use mathlib.Core.Bool.{Bool, true, false, not, ◌&&◌}
 use mathlib.Core.List.{List, ◌++◌}
-use mathlib.Core.Option.{some, none}
+use Rattle.std.specs.Prelude.{Some, None}
 use Prim.Native.Nat.{ℕ, zero, suc, ◌+◌, ◌-◌, ◌<◌, ◌≤◌}
 use native.Mathlib.Decide.{dec_lt}
 use native.Mathlib.Omega.{arith}
@@ -60,7 +60,7 @@ module _ (l : List ℕ) (made : Made l) (slash : byte_is backslash l 0 ≡ true)
   name-some = let b = begins.1 in rw name-start (omega arith)
 
   -- a marker that is found has a backslash and a name
-  pub name-two : (t : List ℕ) (m : ℕ) (e : Entry) → bad_table t ≡ none → looked_up t (name_of l) ≡ some m → nth (entries t) m ≡ some e → 2 ≤ name_end l
+  pub name-two : (t : List ℕ) (m : ℕ) (e : Entry) → bad_table t ≡ None → looked_up t (name_of l) ≡ Some m → nth (entries t) m ≡ Some e → 2 ≤ name_end l
   name-two t m e g h n =
       let b = begins.1 in
       let one : 1 ≤ length (take (name_part l).len (drop (name_part l).start l)) = found_some t (name_of l) m e g h n in
@@ -74,7 +74,7 @@ module _ (l : List ℕ) (made : Made l) (slash : byte_is backslash l 0 ≡ true)
 
   pub number-edge : (e : Entry) → Edge l (number_size e l)
   unfolding number_size
-  number-edge e = go (is_glued (some e) (name_of l))
+  number-edge e = go (is_glued (Some e) (name_of l))
     where
       go : (x : Bool) → Edge l (pick x (name_end l) (with_word (name_end l) (blanks_at l (name_end l)) l))
       go true = name-edge
@@ -86,7 +86,7 @@ module _ (l : List ℕ) (made : Made l) (slash : byte_is backslash l 0 ≡ true)
 
   pub number-le : (e : Entry) → name_end l ≤ number_size e l
   unfolding number_size
-  number-le e = go (is_glued (some e) (name_of l))
+  number-le e = go (is_glued (Some e) (name_of l))
     where
       go : (x : Bool) → name_end l ≤ pick x (name_end l) (with_word (name_end l) (blanks_at l (name_end l)) l)
       go true = omega arith
@@ -152,11 +152,11 @@ module _ (l : List ℕ) (made : Made l) (slash : byte_is backslash l 0 ≡ true)
   number_low no_digits s e = omega arith
   number_low too_large s e = omega arith
 
-  pub number-node : (t : List ℕ) (m : ℕ) (e : Entry) → looked_up t (name_of l) ≡ some m → nth (entries t) m ≡ some e → Numbered t m (number_link e l) (take (number_size e l) l)
+  pub number-node : (t : List ℕ) (m : ℕ) (e : Entry) → looked_up t (name_of l) ≡ Some m → nth (entries t) m ≡ Some e → Numbered t m (number_link e l) (take (number_size e l) l)
   unfolding number_link splits
   number-node t m e h n =
       record {
-        low = number_low (verse_part (label_of (some e) (take (number_size e l) l))) (label_of (some e) (take (number_size e l) l)) refl;
+        low = number_low (verse_part (label_of (Some e) (take (number_size e l) l))) (label_of (Some e) (take (number_size e l) l)) refl;
         whole = rw (n, name-same (number_size e l) (number-le e) (number-edge e)) (go (ltb e.name.len (length (name_of l))) refl);
       }
     where

@@ -5,7 +5,7 @@ use native.Mathlib.Omega.{arith}
 use mathlib.Core.Path.{◌≡◌, refl, ◌∙◌}
 use mathlib.Core.Bool.{false, ◌&&◌}
 use mathlib.Core.List.{List, [], ◌∷◌}
-use mathlib.Core.Option.{none}
+use Rattle.std.specs.Prelude.{None}
 use lib.ListN.{length, take, drop}
 use borrow.Author.Tests.{le-ltb}
 use Rattle.text.proofs.WellFormed.{boundary-le}
@@ -145,7 +145,7 @@ label-by t s (closes m a n) link at o = refl
 label-by t s (ends m a) link at o = refl
 
 module _ (table s t : List ℕ) where
-  pub kinds-none : (n : ℕ) (is : List ReadNode) → AllHave t (suc n) is → first_bad bad_node_kind (bad_kind t) (suc n) (length is) ≡ none
+  pub kinds-none : (n : ℕ) (is : List ReadNode) → AllHave t (suc n) is → first_bad bad_node_kind (bad_kind t) (suc n) (length is) ≡ None
   unfolding first_bad AllHave
   kinds-none n [] h = refl
   kinds-none n (i ∷ is) h = rw (h.0.kind, (row_is i (first_or0 (awaited (suc (suc n)) is))).good) (kinds-none (suc n) is h.1)
@@ -156,7 +156,7 @@ module _ (table s t : List ℕ) where
       let l : len_at t n ≡ len_of i = h.len ∙ (row_is i link).len in
       rw (a, l, le-ltb (length s) (at + len_of i) (boundary-le s (at + len_of i) o.last), o.first, o.last)
 
-  pub spans-none : (n : ℕ) (is : List ReadNode) (at d : ℕ) → AllHave t n is → Good table s is at d → first_bad bad_node_span (bad_span s t) n (length is) ≡ none
+  pub spans-none : (n : ℕ) (is : List ReadNode) (at d : ℕ) → AllHave t n is → Good table s is at d → first_bad bad_node_span (bad_span s t) n (length is) ≡ None
   unfolding first_bad AllHave Good
   spans-none n [] at d h g = refl
   spans-none n (i ∷ is) at d h g =
@@ -167,7 +167,7 @@ module _ (table s t : List ℕ) where
   unfolding info_at
   label-none n i link at h o = rw (h.kind, h.marker, h.start, h.len) (label-by table s i link at o)
 
-  pub labels-none : (n : ℕ) (is : List ReadNode) (at d : ℕ) → AllHave t n is → Good table s is at d → first_bad split_label (bad_label table s t) n (length is) ≡ none
+  pub labels-none : (n : ℕ) (is : List ReadNode) (at d : ℕ) → AllHave t n is → Good table s is at d → first_bad split_label (bad_label table s t) n (length is) ≡ None
   unfolding first_bad AllHave Good
   labels-none n [] at d h g = refl
   labels-none n (i ∷ is) at d h g =

@@ -7,7 +7,7 @@ use mathlib.Core.Path.{◌≡◌, refl, sym, ap, subst, ◌∙◌}
 use mathlib.Core.Bool.{Bool, true, false}
 use mathlib.Core.List.{List, [], ◌∷◌}
 use mathlib.Core.Logic.{◌↔◌, ◌⊎◌, inl, inr}
-use mathlib.Core.Option.{Option, some, none}
+use Rattle.std.specs.Prelude.{Option, Some, None}
 use lib.Dec.{ltb}
 use lib.ListN.{length, drop, length-drop}
 use borrow.Author.Tests.{ltb-true, ltb-false, lt-ltb, le-ltb}
@@ -19,7 +19,7 @@ use Rattle.refusals.specs.Refusal.{Refusal, refuse, only_if, or_else, bad_table_
 use Rattle.tape.specs.Nodes.{count}
 use Rattle.table.specs.Lines.{bad_table}
 use Rattle.table.proofs.NumberOne.{one-number-1, number-1-one}
-use Rattle.definition.specs.Outcome.{at_place}
+use Rattle.refusals.specs.Refusal.{at_place}
 use Rattle.reader_spec.specs.Pieces.{backslash, byte_is, size_of, piece_at}
 use Rattle.reader_spec.specs.Pass.{ReadNode, OpenMarker, ReadState, nothing_open, PieceStep, goes, stops, piece_step, PassOutcome, passed, faulty, with_nodes, pass_on, pass_end, outcome}
 use Rattle.reader_spec.specs.Rows.{node_count}
@@ -32,12 +32,12 @@ use Rattle.reader_spec.proofs.Faults.{stop_of, step-number}
 use Rattle.reader_spec.proofs.Steps.{here-some, here-inside, here-made, pass_step, pass-end}
 
 -- which of two numbers it is
-which-number : (k : ℕ) (x y : Bool) → some k ≡ pick x (some unknown_marker) (pick y (some unmatched_marker) none) → ((k ≡ unknown_marker) × (x ≡ true)) ⊎ ((k ≡ unmatched_marker) × (x ≡ false) × (y ≡ true))
+which-number : (k : ℕ) (x y : Bool) → Some k ≡ pick x (Some unknown_marker) (pick y (Some unmatched_marker) None) → ((k ≡ unknown_marker) × (x ≡ true)) ⊎ ((k ≡ unmatched_marker) × (x ≡ false) × (y ≡ true))
 which-number k true y e = let z : k ≡ unknown_marker = cc in inl (z, refl)
 which-number k false true e = let z : k ≡ unmatched_marker = cc in inr (z, refl, refl)
 which-number k false false e = let z : ◌≡◌ {A = ℕ} 0 1 = cc in absurd (omega arith)
 
-stop_is : (x : PieceStep) (k : ℕ) → stop_of x ≡ some k → x ≡ stops k
+stop_is : (x : PieceStep) (k : ℕ) → stop_of x ≡ Some k → x ≡ stops k
 stop_is (goes ns st) k e = let z : ◌≡◌ {A = ℕ} 0 1 = cc in absurd (omega arith)
 stop_is (stops n) k e = let z : n ≡ k = cc in ap stops z
 
@@ -104,7 +104,7 @@ module _ (t s : List ℕ) (legible : Legible t s) where
   back k p (next {at} {to} {st} {st'} {ns} r i q z) e =
       back k p r (pass_step t s at legible.table (reach-made r) i st ∙ rw (q, ← z, e))
 
-  stop-back : (k p : ℕ) (st : ReadState) → PassReaches t s p st → byte_is backslash (drop p s) 0 ≡ true → stop_of (piece_step st.block st.opened p (piece_at t (drop p s))) ≡ some k → outcome t s ≡ faulty k p
+  stop-back : (k p : ℕ) (st : ReadState) → PassReaches t s p st → byte_is backslash (drop p s) 0 ≡ true → stop_of (piece_step st.block st.opened p (piece_at t (drop p s))) ≡ Some k → outcome t s ≡ faulty k p
   stop-back k p st r b e =
       let i = (byte-there backslash (drop p s) 0 (omega arith) b).inside in
       let inside : p < length s = omega (arith, length-drop p s) in
@@ -141,17 +141,17 @@ module _ (t s nodes : List ℕ) where
           room true e = by18 xs l q (ltb-true (count nodes) (node_count xs) e)
           room false e = by_none xs l q (ltb-false (count nodes) (node_count xs) e)
 
-      third : bad_table t ≡ none → length s ≤ 1048576 → (x : Option ℕ) → first_ill_formed s ≡ x → GivenRead t s nodes (or_else (at_place source_not_utf8 x) (pass_refusal (count nodes) (outcome t s)))
-      third g h (some p) e = by3 p g h ((utf8-place s p).0 e)
-      third g h none e = fourth (record { table = g; short = h; utf8 = e }) (outcome t s) refl
+      third : bad_table t ≡ None → length s ≤ 1048576 → (x : Option ℕ) → first_ill_formed s ≡ x → GivenRead t s nodes (or_else (at_place source_not_utf8 x) (pass_refusal (count nodes) (outcome t s)))
+      third g h (Some p) e = by3 p g h ((utf8-place s p).0 e)
+      third g h None e = fourth (record { table = g; short = h; utf8 = e }) (outcome t s) refl
 
-      second : bad_table t ≡ none → (x : Bool) → ltb 1048576 (length s) ≡ x → GivenRead t s nodes (or_else (only_if x (refuse source_too_long 0)) (or_else (at_place source_not_utf8 (first_ill_formed s)) (pass_refusal (count nodes) (outcome t s))))
+      second : bad_table t ≡ None → (x : Bool) → ltb 1048576 (length s) ≡ x → GivenRead t s nodes (or_else (only_if x (refuse source_too_long 0)) (or_else (at_place source_not_utf8 (first_ill_formed s)) (pass_refusal (count nodes) (outcome t s))))
       second g true e = by2 g (ltb-true 1048576 (length s) e)
       second g false e = third g (ltb-false 1048576 (length s) e) (first_ill_formed s) refl
 
       first : (x : Option ℕ) → bad_table t ≡ x → GivenRead t s nodes (or_else (at_place bad_table_layout x) (or_else (only_if (ltb 1048576 (length s)) (refuse source_too_long 0)) (or_else (at_place source_not_utf8 (first_ill_formed s)) (pass_refusal (count nodes) (outcome t s)))))
-      first (some p) e = by1 p (one-number-1 t p e)
-      first none e = second e (ltb 1048576 (length s)) refl
+      first (Some p) e = by1 p (one-number-1 t p e)
+      first None e = second e (ltb 1048576 (length s)) refl
 
   past_three : Legible t s → read_refusal t s nodes ≡ pass_refusal (count nodes) (outcome t s)
   unfolding read_refusal

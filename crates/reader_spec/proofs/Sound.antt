@@ -6,7 +6,7 @@ use native.Mathlib.Omega.{arith}
 use mathlib.Core.Path.{◌≡◌, refl, ◌∙◌}
 use mathlib.Core.Bool.{Bool, true, false}
 use mathlib.Core.List.{List, [], ◌∷◌, ◌++◌}
-use mathlib.Core.Option.{Option, some, none}
+use Rattle.std.specs.Prelude.{Option, Some, None}
 use lib.ListN.{length, take, drop}
 use Rattle.text.specs.Characters.{is_boundary}
 use Rattle.text.proofs.WellFormed.{boundary-on}
@@ -80,7 +80,7 @@ Fair t l (close name n) = 1 ≤ n
 Fair t l (block m n) = (2 ≤ n) × (m < 65536)
 Fair t l (chapter m n k) = (1 ≤ n) × (m < 65536) × Numbered t m k (take n l)
 Fair t l (verse m n k) = (1 ≤ n) × (m < 65536) × Numbered t m k (take n l)
-Fair t l (inline m name n) = (2 ≤ n) × (m < 65536) × (name ≡ name_of l) × (looked_up t (name_of l) ≡ some m)
+Fair t l (inline m name n) = (2 ≤ n) × (m < 65536) × (name ≡ name_of l) × (looked_up t (name_of l) ≡ Some m)
 Fair t l (milestone m n x y) = (2 ≤ n) × (m < 65536) × Edge l n × Edge l (n + x) × Edge l (n + x + y)
 Fair t l (fault k n) = 1 ≤ n
 
@@ -91,8 +91,8 @@ Laid t s at (p ∷ ps) = Edge s at × Edge s (at + size_of p) × Fair t (drop at
 
 -- the markers that the state holds are numbers of two bytes
 abbrev pub LowBlock : Option ℕ → Type 0
-LowBlock none = Unit {0}
-LowBlock (some m) = m < 65536
+LowBlock None = Unit {0}
+LowBlock (Some m) = m < 65536
 
 abbrev pub LowOpened : List OpenMarker → Type 0
 LowOpened [] = Unit {0}
@@ -100,8 +100,8 @@ LowOpened (o ∷ os) = (o.marker < 65536) × LowOpened os
 
 -- how many opens the state holds
 abbrev pub depth_block : Option ℕ → ℕ
-depth_block none = 0
-depth_block (some m) = 1
+depth_block None = 0
+depth_block (Some m) = 1
 
 abbrev pub depth_of : Option ℕ → List OpenMarker → ℕ
 depth_of b [] = depth_block b
@@ -125,8 +125,8 @@ module _ (t s : List ℕ) where
 
   ended-good : (b : Option ℕ) (at : ℕ) (is : List ReadNode) → LowBlock b → Edge s at → Good t s is at 0 → Good t s (with_block_end b at is) at (depth_block b)
   unfolding Good
-  ended-good none at is l e g = g
-  ended-good (some m) at is l e g = (record { starts-at = refl; filled = tt; first = e; last = rw (add-zero at) e; low = l; number = tt }, rw (add-zero at) g)
+  ended-good None at is l e g = g
+  ended-good (Some m) at is l e g = (record { starts-at = refl; filled = tt; first = e; last = rw (add-zero at) e; low = l; number = tt }, rw (add-zero at) g)
 
   -- a piece gives its nodes before any that are good after it
   Onward : Option ℕ → List OpenMarker → ℕ → ℕ → PieceStep → Type 0
@@ -142,8 +142,8 @@ module _ (t s : List ℕ) where
   attribute-append at (suc x) is js = refl
 
   ended-append : (b : Option ℕ) (at : ℕ) (is js : List ReadNode) → with_block_end b at is ++ js ≡ with_block_end b at (is ++ js)
-  ended-append none at is js = refl
-  ended-append (some m) at is js = refl
+  ended-append None at is js = refl
+  ended-append (Some m) at is js = refl
 
   step-onward : (b : Option ℕ) (os : List OpenMarker) (at : ℕ) (p : Piece) → LowBlock b → LowOpened os → Edge s at → Edge s (at + size_of p) → Fair t (drop at s) p → Onward b os at (at + size_of p) (piece_step b os at p)
   unfolding piece_step Onward Good

@@ -5,7 +5,7 @@ use native.Mathlib.Nat.{add_assoc}
 use native.Mathlib.Omega.{arith}
 use mathlib.Core.Path.{◌≡◌, refl, sym, ap, ◌∙◌}
 use mathlib.Core.List.{List, ◌∷◌, ◌++◌}
-use mathlib.Core.Option.{none}
+use Rattle.std.specs.Prelude.{None}
 use lib.ListN.{length, drop, length-drop, length-append, drop_of_length-le}
 use lib.Seq.{drop-drop}
 use Rattle.text.specs.Utf8.{Made}
@@ -19,7 +19,7 @@ use Rattle.reader_spec.specs.InnerSteps.{pass_at, PlacedOpens, nodes, fault_at, 
 use Rattle.reader_spec.proofs.Cuts.{Cut, piece_cut, some_bytes, pieces_none, next-pieces}
 
 -- at a place inside the text
-module _ (t s : List ℕ) (at : ℕ) (sound : bad_table t ≡ none) (made : Made (drop at s)) (inside : at < length s) where
+module _ (t s : List ℕ) (at : ℕ) (sound : bad_table t ≡ None) (made : Made (drop at s)) (inside : at < length s) where
   left : 0 < length (drop at s)
   left = rw length-drop (omega arith)
 

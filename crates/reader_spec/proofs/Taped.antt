@@ -5,7 +5,7 @@ use native.Mathlib.Omega.{arith}
 use mathlib.Core.Path.{◌≡◌, refl, ◌∙◌}
 use mathlib.Core.Bool.{true, false}
 use mathlib.Core.List.{List, [], ◌∷◌}
-use mathlib.Core.Option.{none}
+use Rattle.std.specs.Prelude.{None}
 use lib.ListN.{length, drop}
 use borrow.Author.Tests.{eq-eqb, ne_eqb, lt-ltb, le-ltb}
 use Rattle.refusals.specs.Refusal.{refuse, first_bad, bad_tape_length, bad_node_kind, bad_node_span}
@@ -59,11 +59,11 @@ module _ (t s : List ℕ) (is : List ReadNode) (short : length s ≤ 1048576) (g
         let m : length T % 16 ≡ 0 = rw long (omega arith) in
         rw (ne_eqb (length T) 0 (λ e. omega (arith, long)), m, counted_on, le-ltb 65535 (suc (length is)) few)
 
-    kinds : first_bad bad_node_kind (bad_kind T) 0 (count T) ≡ none
+    kinds : first_bad bad_node_kind (bad_kind T) 0 (count T) ≡ None
     unfolding first_bad
     kinds = rw (counted_on, root.kind) (kinds-none t s T 0 is have)
 
-    spans : first_bad bad_node_span (bad_span s T) 1 (count T - 1) ≡ none
+    spans : first_bad bad_node_span (bad_span s T) 1 (count T - 1) ≡ None
     spans =
         let e : count T - 1 ≡ length is = omega (arith, counted_on) in
         rw e (spans-none t s T 1 is 0 0 have good)
@@ -87,7 +87,7 @@ module _ (t s : List ℕ) (is : List ReadNode) (short : length s ≤ 1048576) (g
     unfolding tape_refusal
     passes = rw (sized, kinds, spans, rooted) nests
 
-    labels : label_refusal t s T ≡ none
+    labels : label_refusal t s T ≡ None
     unfolding label_refusal
     labels =
         let e : count T - 1 ≡ length is = omega (arith, counted_on) in

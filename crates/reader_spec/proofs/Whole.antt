@@ -3,7 +3,7 @@
 use Prim.Native.Nat.{ℕ, ◌*◌, ◌≤◌}
 use mathlib.Core.Path.{◌≡◌, refl, sym, ap, ◌∙◌}
 use mathlib.Core.List.{List}
-use mathlib.Core.Option.{none}
+use Rattle.std.specs.Prelude.{None}
 use lib.Dec.{ltb}
 use lib.ListN.{length, drop}
 use lib.Seq.{take-append_seam}
@@ -18,7 +18,8 @@ use Rattle.tape.specs.Forest.{Accepted}
 use Rattle.tape.proofs.OneNumber.{accepted}
 use Rattle.table.specs.Lines.{bad_table}
 use Rattle.definition.specs.declared.OpenStart.{OpenStart}
-use Rattle.definition.specs.Outcome.{at_place, refusal}
+use Rattle.definition.specs.Outcome.{refusal}
+use Rattle.refusals.specs.Refusal.{at_place}
 use Rattle.definition.specs.Examples.{tape_of}
 use Rattle.reader_spec.specs.Pieces.{pieces}
 use Rattle.reader_spec.specs.Pass.{ReadNode, PassOutcome, passed, faulty, nothing_open, outcome}
@@ -57,7 +58,7 @@ pub record WasRead (t s nodes : List ℕ) : Type 0 where
   pub passes : outcome t s ≡ passed (nodes_read t s)
   pub room : node_count (nodes_read t s) ≤ count nodes
 
-pub was_read : (t s nodes : List ℕ) → read_refusal t s nodes ≡ none → WasRead t s nodes
+pub was_read : (t s nodes : List ℕ) → read_refusal t s nodes ≡ None → WasRead t s nodes
 unfolding read_refusal
 was_read t s nodes e =
     let a = neither (at_place bad_table_layout (bad_table t)) _ e in
@@ -66,14 +67,14 @@ was_read t s nodes e =
     let legible : Legible t s = record { table = no_place bad_table_layout (bad_table t) a.0; short = ltb-false 1048576 (length s) (only-not (ltb 1048576 (length s)) source_too_long 0 b.0); utf8 = no_place source_not_utf8 (first_ill_formed s) c.0 } in
     go (outcome t s) refl legible c.1
   where
-    go : (o : PassOutcome) → outcome t s ≡ o → Legible t s → pass_refusal (count nodes) o ≡ none → WasRead t s nodes
+    go : (o : PassOutcome) → outcome t s ≡ o → Legible t s → pass_refusal (count nodes) o ≡ None → WasRead t s nodes
     go (faulty number place) q l e = refused _ e
     go (passed xs) q l e =
         let is : nodes_read t s ≡ xs = ap nodes_of q in
         record { legible = l; passes = q ∙ ap passed (sym is); room = rw is (ltb-false (count nodes) (node_count xs) (only-not (ltb (count nodes) (node_count xs)) _ _ e)) }
 
 -- and what the check answers for a text's own tape
-module _ (t s nodes seen : List ℕ) (starts : List OpenStart) (list : List ℕ) (none-given : read_refusal t s nodes ≡ none) where
+module _ (t s nodes seen : List ℕ) (starts : List OpenStart) (list : List ℕ) (none-given : read_refusal t s nodes ≡ None) where
   r : WasRead t s nodes
   r = was_read t s nodes none-given
 

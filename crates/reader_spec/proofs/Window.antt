@@ -5,7 +5,7 @@ use native.Mathlib.Omega.{arith}
 use mathlib.Core.Path.{◌≡◌, refl, ap, ◌∙◌}
 use mathlib.Core.Bool.{Bool, true, false}
 use mathlib.Core.List.{List, [], ◌∷◌}
-use mathlib.Core.Option.{Option, none}
+use Rattle.std.specs.Prelude.{Option, None}
 use lib.ListN.{length, get_or, set, drop, length-drop}
 use lib.Seq.{drop-drop, get_or-set_same, get_or-set_other}
 use borrow.Author.Tests.{le-leb, lt-leb}
@@ -52,7 +52,7 @@ open-there to at [] os h = refl
 open-there to at (p ∷ ps) os h = rw (le-leb to at h)
 
 module _ (t s : List ℕ) (to at : ℕ) (os : List ℕ) where
-  pub open_step : bad_table t ≡ none → Made (drop at s) → at < length s → at < to → open_from t s to at os ≡ open_from t s to (at + size_of (piece_at t (drop at s))) (places_after (piece_at t (drop at s)) at os)
+  pub open_step : bad_table t ≡ None → Made (drop at s) → at < length s → at < to → open_from t s to at os ≡ open_from t s to (at + size_of (piece_at t (drop at s))) (places_after (piece_at t (drop at s)) at os)
   unfolding open_to
   open_step sound made inside below =
       let left : 0 < length (drop at s) = rw length-drop (omega arith) in
@@ -73,7 +73,7 @@ module _ (t s : List ℕ) (at : ℕ) (ps : List ℕ) (r : Reached t s at ps) whe
   pub reached-here : open_from t s at 0 [] ≡ ps
   reached-here = r at (omega arith) ∙ open-here t s at at ps (omega arith)
 
-  pub reached-next : bad_table t ≡ none → Made (drop at s) → at < length s → Reached t s (at + size_of (piece_at t (drop at s))) (places_after (piece_at t (drop at s)) at ps)
+  pub reached-next : bad_table t ≡ None → Made (drop at s) → at < length s → Reached t s (at + size_of (piece_at t (drop at s))) (places_after (piece_at t (drop at s)) at ps)
   reached-next sound made inside to h =
       let some = here-some t s at sound made inside in
       r to (omega arith) ∙ open_step t s to at ps sound made inside (omega arith)

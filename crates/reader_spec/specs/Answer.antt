@@ -1,11 +1,12 @@
 -- Document 02, K5: the refusals of the reader in checking order, its answer, and what it leaves in the lent list of nodes.
 use Rattle.std.specs.Prelude.{ℕ, ◌*◌, List, [], ◌++◌, ltb, length, drop}
-use Rattle.std.proofs.Math.Option.{Option, some, none}
+use Rattle.std.specs.Prelude.{Option, Some, None}
 use Rattle.text.specs.Utf8.{first_ill_formed}
 use Rattle.refusals.specs.Refusal.{Refusal, refuse, only_if, or_else, bad_table_layout, source_too_long, source_not_utf8, node_list_too_short}
 use Rattle.tape.specs.Nodes.{count}
 use Rattle.table.specs.Lines.{bad_table}
-use Rattle.definition.specs.Outcome.{at_place, words_by}
+use Rattle.definition.specs.Outcome.{words_by}
+use Rattle.refusals.specs.Refusal.{at_place}
 use Rattle.definition.specs.Examples.{Row, tape_of}
 use Rattle.reader_spec.specs.Pass.{ReadNode, PassOutcome, passed, faulty, outcome}
 use Rattle.reader_spec.specs.Rows.{node_count, rows_of}
@@ -43,8 +44,8 @@ pub data ReadAnswer : Type 0 where
   read : ℕ → ReadAnswer
 
 abbrev pub read_answer_by : Option Refusal → ℕ → ReadAnswer
-read_answer_by (some r) n = refused r
-read_answer_by none n = read n
+read_answer_by (Some r) n = refused r
+read_answer_by None n = read n
 
 abbrev pub read_answer : List ℕ → List ℕ → List ℕ → ReadAnswer
 read_answer t s nodes = read_answer_by (read_refusal t s nodes) (node_count (nodes_read t s))

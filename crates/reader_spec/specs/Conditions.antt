@@ -1,6 +1,6 @@
 -- Document 02, K5, "Answers": when each number of the reader is given, and with which place. The conditions of 16 and 17 are read off the text at a place, and off the open characters and notes that the pass has there.
 use Rattle.std.specs.Prelude.{ℕ, ◌+◌, ◌<◌, ◌≤◌, ◌≡◌, Bool, true, false, not, ◌&&◌, ◌||◌, List, [], ◌∷◌, ◌⊎◌, eqb, length, drop}
-use Rattle.std.proofs.Math.Option.{Option, some, none}
+use Rattle.std.specs.Prelude.{Option, Some, None}
 use Rattle.text.specs.Bytes.{equal}
 use Rattle.text.specs.Utf8.{FirstIllFormed}
 use Rattle.refusals.specs.Refusal.{Refusal, refuse, bad_table_layout, source_too_long, source_not_utf8, unknown_marker, unmatched_marker, node_list_too_short}
@@ -18,21 +18,21 @@ use Rattle.reader_spec.specs.Promise.{Legible}
 
 -- the entry of the marker that the list begins with: "Markers are found by `lookup`."
 abbrev pub entry_at : List ℕ → Option ℕ → Option Entry
-entry_at t none = none
-entry_at t (some m) = nth (entries t) m
+entry_at t None = None
+entry_at t (Some m) = nth (entries t) m
 
 abbrev pub entry_found : List ℕ → List ℕ → Option Entry
 entry_found t l = entry_at t (looked_up t (name_of l))
 
 -- it has an entry of the category
 abbrev pub of_category : ℕ → Option Entry → Bool
-of_category c none = false
-of_category c (some e) = eqb (category_of (category_at e.category)) c
+of_category c None = false
+of_category c (Some e) = eqb (category_of (category_at e.category)) c
 
 -- it has none, or one of category other
 abbrev pub none_or_other : Option Entry → Bool
-none_or_other none = true
-none_or_other (some e) = of_category other_category (some e)
+none_or_other None = true
+none_or_other (Some e) = of_category other_category (Some e)
 
 -- 16: "an unknown marker (`\*` is a close, no marker) or one of category other"
 abbrev pub is_unknown : List ℕ → List ℕ → Bool
@@ -92,9 +92,9 @@ pub record EndsOpen (t s : List ℕ) (place : ℕ) : Type 0 where
 -- of these conditions just one holds: `read_number` in proofs/OneNumber.antt
 pub data GivenRead (t s nodes : List ℕ) : Option Refusal → Type 0 where
   by1 : (place : ℕ) → NumberOne t place → GivenRead t s nodes (refuse bad_table_layout place)
-  by2 : bad_table t ≡ none → 1048576 < length s → GivenRead t s nodes (refuse source_too_long 0)
-  by3 : (place : ℕ) → bad_table t ≡ none → length s ≤ 1048576 → FirstIllFormed s place → GivenRead t s nodes (refuse source_not_utf8 place)
+  by2 : bad_table t ≡ None → 1048576 < length s → GivenRead t s nodes (refuse source_too_long 0)
+  by3 : (place : ℕ) → bad_table t ≡ None → length s ≤ 1048576 → FirstIllFormed s place → GivenRead t s nodes (refuse source_not_utf8 place)
   by16 : (place : ℕ) → Legible t s → UnknownAt t s place → GivenRead t s nodes (refuse unknown_marker place)
   by17 : (place : ℕ) → Legible t s → UnmatchedAt t s place ⊎ EndsOpen t s place → GivenRead t s nodes (refuse unmatched_marker place)
   by18 : (xs : List ReadNode) → Legible t s → outcome t s ≡ passed xs → count nodes < node_count xs → GivenRead t s nodes (refuse node_list_too_short (node_count xs))
-  by_none : (xs : List ReadNode) → Legible t s → outcome t s ≡ passed xs → node_count xs ≤ count nodes → GivenRead t s nodes none
+  by_none : (xs : List ReadNode) → Legible t s → outcome t s ≡ passed xs → node_count xs ≤ count nodes → GivenRead t s nodes None

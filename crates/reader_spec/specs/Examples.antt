@@ -1,6 +1,6 @@
 -- Worked examples of document 02, K5: texts under one small table, and what the reader gives for them.
 use Rattle.std.specs.Prelude.{ℕ, List, [], ◌∷◌, ◌++◌}
-use Rattle.std.proofs.Math.Option.{Option, some, none}
+use Rattle.std.specs.Prelude.{Option, Some, None}
 use Rattle.text.specs.Literal.{ascii}
 use Rattle.refusals.specs.Refusal.{Refusal, bad_table_layout, source_not_utf8, unknown_marker, unmatched_marker, node_list_too_short}
 use Rattle.tape.specs.Nodes.{root_kind, marker_open_kind, marker_close_kind, chapter_kind, verse_kind, text_kind, attribute_kind, block_end_kind}
@@ -14,8 +14,8 @@ pub data ReadResult : Type 0 where
   number : ℕ → ℕ → ReadResult
 
 abbrev pub result_by : Option Refusal → List Row → ReadResult
-result_by (some r) rs = number r.number r.place
-result_by none rs = rows rs
+result_by (Some r) rs = number r.number r.place
+result_by None rs = rows rs
 
 pub record ReadExample : Type 0 where
   pub table : List ℕ

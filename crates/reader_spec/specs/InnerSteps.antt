@@ -1,6 +1,6 @@
 -- What the code's first pass keeps: the pass from a place on, the count of nodes, and the places of the open characters and notes.
 use Rattle.std.specs.Prelude.{ℕ, ◌+◌, ◌%◌, ◌<◌, ◌≤◌, ◌≡◌, List, [], ◌∷◌, leb, length, get_or, drop}
-use Rattle.std.proofs.Math.Option.{some}
+use Rattle.std.specs.Prelude.{Some}
 use Rattle.text.specs.Pick.{pick}
 use Rattle.table.specs.Names.{looked_up}
 use Rattle.cursor.specs.Names.{name_of}
@@ -27,7 +27,7 @@ unfoldable pub PlacedOpens : List ℕ → List ℕ → List ℕ → List OpenMar
 PlacedOpens t s [] [] = Unit {0}
 PlacedOpens t s [] (o ∷ os) = ⊥
 PlacedOpens t s (p ∷ ps) [] = ⊥
-PlacedOpens t s (p ∷ ps) (o ∷ os) = (p < length s) × (o.name ≡ name_of (drop p s)) × (looked_up t (name_of (drop p s)) ≡ some o.marker) × PlacedOpens t s ps os
+PlacedOpens t s (p ∷ ps) (o ∷ os) = (p < length s) × (o.name ≡ name_of (drop p s)) × (looked_up t (name_of (drop p s)) ≡ Some o.marker) × PlacedOpens t s ps os
 
 -- the places after a piece at a place: neither names nor a state are needed for them
 abbrev pub places_after : Piece → ℕ → List ℕ → List ℕ

@@ -1,6 +1,6 @@
 -- What the code's second pass writes: rows laid over a lent list, and links that wait for their closes.
 use Rattle.std.specs.Prelude.{ℕ, suc, ◌+◌, ◌*◌, ◌<◌, ◌≤◌, ◌≡◌, List, [], ◌∷◌}
-use Rattle.std.proofs.Math.Option.{Option, some, none}
+use Rattle.std.specs.Prelude.{Option, Some, None}
 use Rattle.std.proofs.lemmas.List.Edits.{sets}
 use Rattle.tape.specs.Nodes.{marker_at, link_at}
 use Rattle.definition.specs.Examples.{Row, four, tape_of}
@@ -40,8 +40,8 @@ OpensWait w n top (o ∷ os) = (top ≡ o) × (1 ≤ o) × (o < n) × OpensWait 
 
 -- the markers of all that is open, the innermost first: the characters and notes, then the block
 abbrev pub block_marker : Option ℕ → List ℕ
-block_marker none = []
-block_marker (some m) = m ∷ []
+block_marker None = []
+block_marker (Some m) = m ∷ []
 
 abbrev pub markers_of : Option ℕ → List OpenMarker → List ℕ
 markers_of b [] = block_marker b

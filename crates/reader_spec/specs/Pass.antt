@@ -1,6 +1,6 @@
 -- Document 02, K5: one pass over the pieces, which keeps the open block and the open characters and notes, and gives the nodes in their order or the first fault.
 use Rattle.std.specs.Prelude.{ℕ, zero, suc, ◌+◌, List, [], ◌∷◌, ◌++◌}
-use Rattle.std.proofs.Math.Option.{Option, some, none}
+use Rattle.std.specs.Prelude.{Option, Some, None}
 use Rattle.text.specs.Pick.{pick}
 use Rattle.text.specs.Bytes.{equal}
 use Rattle.refusals.specs.Refusal.{unmatched_marker}
@@ -35,7 +35,7 @@ state_with b os = record { block = b; opened = os }
 
 -- at the start of the text nothing is open
 abbrev pub nothing_open : ReadState
-nothing_open = state_with none []
+nothing_open = state_with None []
 
 -- what a piece does: nodes and a state after it, or a number with the place where the piece begins
 pub data PieceStep : Type 0 where
@@ -58,8 +58,8 @@ run_nodes (o ∷ os) at x y = with_text at x (with_attribute (at + x) y [])
 
 -- "the next such marker, a Chapter or the end closes it by BlockEnd. BlockEnd is empty, at the byte where the block stops"
 abbrev pub with_block_end : Option ℕ → ℕ → List ReadNode → List ReadNode
-with_block_end none at ns = ns
-with_block_end (some m) at ns = ends m at ∷ ns
+with_block_end None at ns = ns
+with_block_end (Some m) at ns = ends m at ∷ ns
 
 -- "milestones [close] by `\*` directly after the name, or after attributes that only blanks part from it": Text over the blanks, Attribute from `|` on
 abbrev pub milestone_nodes : ℕ → ℕ → ℕ → ℕ → ℕ → List ReadNode
@@ -72,7 +72,7 @@ piece_step b os at (run x y) = goes (run_nodes os at x y) (state_with b os)
 piece_step b [] at (close name n) = stops unmatched_marker
 piece_step b (o ∷ os) at (close name n) = pick (equal o.name name) (goes (closes o.marker at n ∷ []) (state_with b os)) (stops unmatched_marker)
 -- "A paragraph or identification marker opens a block; the next such marker, a Chapter or the end closes it by BlockEnd."; 17 for "a block marker, Chapter or text's end met with a character or note marker open"
-piece_step b [] at (block m n) = goes (with_block_end b at (opens m at n ∷ [])) (state_with (some m) [])
+piece_step b [] at (block m n) = goes (with_block_end b at (opens m at n ∷ [])) (state_with (Some m) [])
 piece_step b (o ∷ os) at (block m n) = stops unmatched_marker
 piece_step b [] at (chapter m n link) = goes (with_block_end b at (chapter_at m at n link ∷ [])) nothing_open
 piece_step b (o ∷ os) at (chapter m n link) = stops unmatched_marker

@@ -1,6 +1,6 @@
 -- Document 02, K5: the pieces of a text. How far a piece reaches depends on the text and the table alone, never on what is open around it.
 use Rattle.std.specs.Prelude.{ℕ, zero, suc, pred, ◌+◌, ◌-◌, Bool, ◌&&◌, ◌||◌, List, [], ◌∷◌, eqb, length, get_or, take, drop}
-use Rattle.std.proofs.Math.Option.{Option, some, none}
+use Rattle.std.specs.Prelude.{Option, Some, None}
 use Rattle.text.specs.Pick.{pick, end}
 use Rattle.text.specs.Blank.{blank}
 use Rattle.text.specs.Characters.{find, find_byte}
@@ -81,7 +81,7 @@ with_word at (suc k) l = at + suc k + find ends_word (drop (at + suc k) l)
 
 -- "A Chapter or Verse is one node with its marker, the blanks after it and, where there are any, its number word ..; a glued one ends with its name."
 unfoldable pub number_size : Entry → List ℕ → ℕ
-number_size e l = pick (is_glued (some e) (name_of l)) (name_end l) (with_word (name_end l) (blanks_at l (name_end l)) l)
+number_size e l = pick (is_glued (Some e) (name_of l)) (name_end l) (with_word (name_end l) (blanks_at l (name_end l)) l)
 
 abbrev pub number_or0 : PartReading → ℕ
 number_or0 (position p) = p.number
@@ -90,7 +90,7 @@ number_or0 too_large = 0
 
 -- "Its link is the label's leading number, or 0 if none can be read.": of the label that the check reads off the node's text
 unfoldable pub number_link : Entry → List ℕ → ℕ
-number_link e l = number_or0 (verse_part (label_of (some e) (take (number_size e l) l)))
+number_link e l = number_or0 (verse_part (label_of (Some e) (take (number_size e l) l)))
 
 -- "to the next backslash": how many bytes from a place on
 abbrev pub to_backslash : List ℕ → ℕ → ℕ
@@ -130,13 +130,13 @@ known_piece category.Milestone m e l = unless_star l (milestone_piece m l)
 known_piece category.Other m e l = fault unknown_marker (length l)
 
 abbrev pub entry_piece : ℕ → Option Entry → List ℕ → Piece
-entry_piece m none l = fault unknown_marker (length l)
-entry_piece m (some e) l = known_piece (category_at e.category) m e l
+entry_piece m None l = fault unknown_marker (length l)
+entry_piece m (Some e) l = known_piece (category_at e.category) m e l
 
 -- "Markers are found by `lookup`."; "16 for an unknown marker"
 abbrev pub found_piece : List ℕ → Option ℕ → List ℕ → Piece
-found_piece t none l = fault unknown_marker (length l)
-found_piece t (some m) l = entry_piece m (nth (entries t) m) l
+found_piece t None l = fault unknown_marker (length l)
+found_piece t (Some m) l = entry_piece m (nth (entries t) m) l
 
 unfoldable pub marker_piece : List ℕ → List ℕ → Piece
 marker_piece t l = found_piece t (looked_up t (name_of l)) l

@@ -1,6 +1,6 @@
 -- Document 02, K5: "Every tape it yields is one that numbers 4 to 9 don't turn back, unless it is too deep or over 65,535 nodes." What that says, of the nodes that the pass gives and of what the check answers.
 use Rattle.std.specs.Prelude.{ℕ, suc, pred, ◌+◌, ◌*◌, ◌<◌, ◌≤◌, max, ◌≡◌, List, [], ◌∷◌, length, take}
-use Rattle.std.proofs.Math.Option.{none}
+use Rattle.std.specs.Prelude.{None}
 use Rattle.text.specs.Utf8.{first_ill_formed}
 use Rattle.refusals.specs.Refusal.{refuse, bad_tape_length, too_deep}
 use Rattle.tape.specs.Nodes.{block_end_kind}
@@ -16,9 +16,9 @@ use Rattle.reader_spec.specs.Answer.{nodes_read, tape_read, nodes_after}
 
 -- what 1 to 3 leave to the reader
 pub record Legible (t s : List ℕ) : Type 0 where
-  pub table : bad_table t ≡ none
+  pub table : bad_table t ≡ None
   pub short : length s ≤ 1048576
-  pub utf8 : first_ill_formed s ≡ none
+  pub utf8 : first_ill_formed s ≡ None
 
 -- the rows lie end to end from one place to another, and just the BlockEnds among them are empty
 unfoldable pub Tiles : ℕ → List Row → ℕ → Type 0
@@ -41,8 +41,8 @@ pub record Yields (t s : List ℕ) (xs : List ReadNode) : Type 0 where
   pub few : node_count xs ≤ length s + 1
   pub over : 65535 < node_count xs → tape_refusal s (tape_of (rows_of s xs)) ≡ refuse bad_tape_length 0
   pub deep : node_count xs ≤ 65535 → 64 < deepest xs 0 → (place : ℕ) × (tape_refusal s (tape_of (rows_of s xs)) ≡ refuse too_deep place)
-  pub passes : node_count xs ≤ 65535 → deepest xs 0 ≤ 64 → tape_refusal s (tape_of (rows_of s xs)) ≡ none
-  pub labels : node_count xs ≤ 65535 → label_refusal t s (tape_of (rows_of s xs)) ≡ none
+  pub passes : node_count xs ≤ 65535 → deepest xs 0 ≤ 64 → tape_refusal s (tape_of (rows_of s xs)) ≡ None
+  pub labels : node_count xs ≤ 65535 → label_refusal t s (tape_of (rows_of s xs)) ≡ None
 
 -- a text's own tape lent to the check, with any working lists and any list of findings
 abbrev pub own_tape : List ℕ → List ℕ → List ℕ → List OpenStart → List ℕ → Lent

@@ -7,39 +7,39 @@ use native.Mathlib.Omega.{arith}
 use mathlib.Core.Path.{◌≡◌, refl, sym, ap, ◌∙◌}
 use mathlib.Core.Bool.{Bool, true, false}
 use mathlib.Core.Logic.{◌⊎◌, inl, inr}
-use mathlib.Core.Option.{Option, some, none}
+use Rattle.std.specs.Prelude.{Option, Some, None}
 use Rattle.refusals.specs.Refusal.{Refusal, refuse, only_if, or_else, first_bad, AllGood, First}
 
 -- a refusal is none
-pub refused : {A : Type 0} (r : Refusal) → some r ≡ none → A
+pub refused : {A : Type 0} (r : Refusal) → Some r ≡ None → A
 refused r e = let z : ◌≡◌ {A = ℕ} 0 1 = cc in absurd (omega arith)
 
 -- a refusal that comes from the first part, or else from the rest
-pub which : (x y : Option Refusal) (r : Refusal) → or_else x y ≡ some r → (x ≡ some r) ⊎ ((x ≡ none) × (y ≡ some r))
-which none y r e = inr (refl, e)
-which (some q) y r e = inl e
+pub which : (x y : Option Refusal) (r : Refusal) → or_else x y ≡ Some r → (x ≡ Some r) ⊎ ((x ≡ None) × (y ≡ Some r))
+which None y r e = inr (refl, e)
+which (Some q) y r e = inl e
 
-pub neither : (x y : Option Refusal) → or_else x y ≡ none → (x ≡ none) × (y ≡ none)
-neither none y e = (refl, e)
-neither (some q) y e = refused q e
+pub neither : (x y : Option Refusal) → or_else x y ≡ None → (x ≡ None) × (y ≡ None)
+neither None y e = (refl, e)
+neither (Some q) y e = refused q e
 
 -- a refusal by one test
-pub only : (b : Bool) (number place : ℕ) (r : Refusal) → only_if b (refuse number place) ≡ some r → (b ≡ true) × (r.number ≡ number) × (r.place ≡ place)
+pub only : (b : Bool) (number place : ℕ) (r : Refusal) → only_if b (refuse number place) ≡ Some r → (b ≡ true) × (r.number ≡ number) × (r.place ≡ place)
 only true number place r e = let z : record { number = number; place = place } ≡ r = cc in (refl, ap (λ (q : Refusal). q.number) (sym z), ap (λ (q : Refusal). q.place) (sym z))
 only false number place r e = refused r (sym e)
 
-pub only-not : (b : Bool) (number place : ℕ) → only_if b (refuse number place) ≡ none → b ≡ false
+pub only-not : (b : Bool) (number place : ℕ) → only_if b (refuse number place) ≡ None → b ≡ false
 only-not true number place e = refused _ e
 only-not false number place e = refl
 
 -- the first bad node
 module _ (number : ℕ) (bad : ℕ → Bool) where
-  pub first_of : (n a : ℕ) (r : Refusal) → first_bad number bad a n ≡ some r → (r.number ≡ number) × First bad a (a + n) r.place
+  pub first_of : (n a : ℕ) (r : Refusal) → first_bad number bad a n ≡ Some r → (r.number ≡ number) × First bad a (a + n) r.place
   unfolding first_bad
   first_of zero a r e = refused r (sym e)
   first_of (suc n) a r e = go (bad a) refl (which (only_if (bad a) (refuse number a)) (first_bad number bad (suc a) n) r e) (first_of n (suc a) r)
     where
-      go : (b : Bool) → bad a ≡ b → (only_if (bad a) (refuse number a) ≡ some r) ⊎ ((only_if (bad a) (refuse number a) ≡ none) × (first_bad number bad (suc a) n ≡ some r)) → (first_bad number bad (suc a) n ≡ some r → (r.number ≡ number) × First bad (suc a) (suc a + n) r.place) → (r.number ≡ number) × First bad a (a + suc n) r.place
+      go : (b : Bool) → bad a ≡ b → (only_if (bad a) (refuse number a) ≡ Some r) ⊎ ((only_if (bad a) (refuse number a) ≡ None) × (first_bad number bad (suc a) n ≡ Some r)) → (first_bad number bad (suc a) n ≡ Some r → (r.number ≡ number) × First bad (suc a) (suc a + n) r.place) → (r.number ≡ number) × First bad a (a + suc n) r.place
       go b q (inl h) later =
           let o = only (bad a) number a r h in
           let z = o.2 in
@@ -59,7 +59,7 @@ module _ (number : ℕ) (bad : ℕ → Bool) where
               choose (yes z) = rw z here
               choose (no z) = good i (omega arith) l
 
-  pub none_of : (n a : ℕ) → first_bad number bad a n ≡ none → AllGood bad a (a + n)
+  pub none_of : (n a : ℕ) → first_bad number bad a n ≡ None → AllGood bad a (a + n)
   unfolding first_bad
   none_of zero a e i g l = absurd (omega arith)
   none_of (suc n) a e i g l =
@@ -70,7 +70,7 @@ module _ (number : ℕ) (bad : ℕ → Bool) where
       choose (yes z) here good = rw z here
       choose (no z) here good = good i (omega arith) (omega arith)
 
-  pub all_none : (n a : ℕ) → AllGood bad a (a + n) → first_bad number bad a n ≡ none
+  pub all_none : (n a : ℕ) → AllGood bad a (a + n) → first_bad number bad a n ≡ None
   unfolding first_bad
   all_none zero a h = refl
   all_none (suc n) a h = rw (h a (omega arith) (omega arith)) (all_none n (suc a) (λ i g l. h i (omega arith) (omega arith)))
@@ -101,6 +101,6 @@ module _ (number : ℕ) (bad : ℕ → Bool) (n i : ℕ) where
   pub first-hit : i < n → bad i ≡ true → first_bad number bad i (n - i) ≡ refuse number i
   first-hit h e = first_step h ∙ rw e
 
-  pub first-end : n ≤ i → first_bad number bad i (n - i) ≡ none
+  pub first-end : n ≤ i → first_bad number bad i (n - i) ≡ None
   unfolding first_bad
   first-end h = let e : n - i ≡ 0 = omega arith in rw e

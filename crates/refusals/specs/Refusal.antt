@@ -1,6 +1,6 @@
 -- Document 01, "Turned back, in checking order", and the numbers that document 02 adds: "Each gives number and place and writes nothing. Of several nodes the first counts."
 use Rattle.std.specs.Prelude.{ℕ, zero, suc, ◌<◌, ◌≤◌, ◌≡◌, Bool, true, false}
-use Rattle.std.proofs.Math.Option.{Option, some, none}
+use Rattle.std.specs.Prelude.{Option, Some, None}
 
 -- "The table text breaks its layout"
 abbrev pub bad_table_layout : ℕ
@@ -83,25 +83,30 @@ pub record Refusal : Type 0 where
   pub place : ℕ
 
 abbrev pub refuse : ℕ → ℕ → Option Refusal
-refuse number place = some (record { number = number; place = place })
+refuse number place = Some (record { number = number; place = place })
+
+-- a number with a place, if there is one
+abbrev pub at_place : ℕ → Option ℕ → Option Refusal
+at_place number None = None
+at_place number (Some place) = refuse number place
 
 abbrev pub only_if : Bool → Option Refusal → Option Refusal
 only_if true r = r
-only_if false r = none
+only_if false r = None
 
 -- a number that is tried before others
 abbrev pub or_else : Option Refusal → Option Refusal → Option Refusal
-or_else (some r) later = some r
-or_else none later = later
+or_else (Some r) later = Some r
+or_else None later = later
 
 -- the first of the n nodes from node a on that is bad, with the number
 unfoldable pub first_bad : ℕ → (ℕ → Bool) → ℕ → ℕ → Option Refusal
-first_bad number bad a zero = none
+first_bad number bad a zero = None
 first_bad number bad a (suc n) = or_else (only_if (bad a) (refuse number a)) (first_bad number bad (suc a) n)
 
 abbrev pub is_none : Option Refusal → Bool
-is_none none = true
-is_none (some r) = false
+is_none None = true
+is_none (Some r) = false
 
 -- no node from a on and before b is bad
 abbrev pub AllGood : (ℕ → Bool) → ℕ → ℕ → Type 0

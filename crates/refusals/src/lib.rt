@@ -1,58 +1,91 @@
-// The numbers that a caller is turned back with: document 01, "Turned back, in checking order".
+// Why and where a caller is turned back: document 01, "Turned back, in checking order".
 #![tactic(auto)]
 
-// "The table text breaks its layout."
-pub const BAD_TABLE_LAYOUT: u64 = 1;
+ghost use Rattle.std.specs.Prelude.{◌≡◌};
+ghost use Rattle.refusals.specs.Reasons.{number_of};
 
-// "The source is too long."
-pub const SOURCE_TOO_LONG: u64 = 2;
+// The reasons, each with its number.
+#[derive(Clone, Copy, PartialEq, Eq)]
+pub enum Reason {
+    // "The table text breaks its layout."
+    BadTableLayout = 1,
 
-// "The source isn't UTF-8."
-pub const SOURCE_NOT_UTF8: u64 = 3;
+    // "The source is too long."
+    SourceTooLong = 2,
 
-// "The tape's length is 0, no multiple of 16, or over 65,535 nodes."
-pub const BAD_TAPE_LENGTH: u64 = 4;
+    // "The source isn't UTF-8."
+    SourceNotUtf8 = 3,
 
-// "A kind is over 8, or Root is missing at 0 or present elsewhere."
-pub const BAD_NODE_KIND: u64 = 5;
+    // "The tape's length is 0, no multiple of 16, or over 65,535 nodes."
+    BadTapeLength = 4,
 
-// "A span from node 1 on leaves the source or splits a character."
-pub const BAD_NODE_SPAN: u64 = 6;
+    // "A kind is over 8, or Root is missing at 0 or present elsewhere."
+    BadNodeKind = 5,
 
-// "The links break module 2's reading."
-pub const BROKEN_LINKS: u64 = 7;
+    // "A span from node 1 on leaves the source or splits a character."
+    BadNodeSpan = 6,
 
-// "A 65th open nests inside 64."
-pub const TOO_DEEP: u64 = 8;
+    // "The links break module 2's reading."
+    BrokenLinks = 7,
 
-// "A Chapter or Verse name is longer than its table name and the cut splits a character."
-pub const SPLIT_LABEL: u64 = 9;
+    // "A 65th open nests inside 64."
+    TooDeep = 8,
 
-// "A working list has fewer than n entries."
-pub const WORKING_LIST_TOO_SHORT: u64 = 10;
+    // "A Chapter or Verse name is longer than its table name and the cut splits a character."
+    SplitLabel = 9,
 
-// "Tally: length no multiple of 8, severity over 2 or code over 34."; document 02, K6: "number 11 starts above code 35".
-pub const BAD_TALLY_LIST: u64 = 11;
+    // "A working list has fewer than n entries."
+    WorkingListTooShort = 10,
 
-// "Message (after 1 to 9): code and form unknown to validate.rs, .. or the node lacks what the text needs."; document 02, K6: "number 12
-// knows both forms".
-pub const NO_MESSAGE: u64 = 12;
+    // "Tally: length no multiple of 8, severity over 2 or code over 34."; document 02, K6: "number 11 starts above code 35".
+    BadTallyList = 11,
 
-// "Message list too short."
-pub const MESSAGE_LIST_TOO_SHORT: u64 = 13;
+    // "Message (after 1 to 9): code and form unknown to validate.rs, .. or the node lacks what the text needs."; document 02, K6: "number 12
+    // knows both forms".
+    NoMessage = 12,
 
-// Document 02, K1: "14 when any of the three counts is over 1,000,000."
-pub const COUNT_TOO_LARGE: u64 = 14;
+    // "Message list too short."
+    MessageListTooShort = 13,
 
-// "15 when verses is 0."
-pub const NO_VERSES: u64 = 15;
+    // Document 02, K1: "14 when any of the three counts is over 1,000,000."
+    CountTooLarge = 14,
 
-// Document 02, K5: "16 for an unknown marker .. or one of category other".
-pub const UNKNOWN_MARKER: u64 = 16;
+    // "15 when verses is 0."
+    NoVerses = 15,
 
-// "17 for a close without its open innermost, a milestone not closed as above, or a block marker, Chapter or text's end met with a
-// character or note marker open".
-pub const UNMATCHED_MARKER: u64 = 17;
+    // Document 02, K5: "16 for an unknown marker .. or one of category other".
+    UnknownMarker = 16,
 
-// "18 when the node list is too short".
-pub const NODE_LIST_TOO_SHORT: u64 = 18;
+    // "17 for a close without its open innermost, a milestone not closed as above, or a block marker, Chapter or text's end met with a
+    // character or note marker open".
+    UnmatchedMarker = 17,
+
+    // "18 when the node list is too short".
+    NodeListTooShort = 18,
+}
+
+// A reason, with the place that its number's rule names.
+#[derive(Clone, Copy, PartialEq, Eq)]
+pub struct Refusal {
+    pub reason: Reason,
+    pub place: usize,
+}
+
+impl Reason {
+    // Document 01's number.
+    pub fn number(self) -> u64
+        ensures { result ≡ number_of self }
+    {
+        self as u64
+    }
+
+    // The refusal for this reason at a place.
+    pub fn at(self, place: usize) -> Refusal
+        ensures { result ≡ record { reason = self; place = place } }
+    {
+        Refusal {
+            reason: self,
+            place,
+        }
+    }
+}

@@ -3,7 +3,7 @@
 use mathlib.Core.Path.{◌≡◌, refl, sym, ap, ◌∙◌}
 use mathlib.Core.Bool.{Bool, true, false, not}
 use mathlib.Core.List.{List, ◌++◌}
-use mathlib.Core.Option.{Option, some, none}
+use Rattle.std.specs.Prelude.{Option, Some, None}
 use Prim.Native.Nat.{ℕ, ◌+◌, ◌<◌, ◌≤◌}
 use lib.Dec.{eqb}
 use borrow.Author.Tests.{eq-eqb, ne_eqb}
@@ -25,7 +25,7 @@ use Rattle.findings.specs.Inner.{Wrote, Room}
 
 -- the columns of a node by the tests that the code takes
 module _ (s t : List ℕ) (i k : ℕ) (is-kind : k ≡ kind_at t i) where
-  pub no-open : (k ≡ 1 → ⊥) → none ≡ cell_in (node_at s t i)
+  pub no-open : (k ≡ 1 → ⊥) → None ≡ cell_in (node_at s t i)
   no-open h = rw (← is-kind, ne_eqb k 1 h)
 
   pub opened : (name : List ℕ) (r : Option ColumnRange) → k ≡ 1 → name ≡ name_of (cut (span t i) s) → r ≡ cell_columns name → r ≡ cell_in (node_at s t i)
@@ -56,11 +56,11 @@ module _ {s t : List ℕ} {b : ℕ} {fs₀ : List Finding} {l₀ : List ℕ} {c�
     at = rw (row_at s t i b e g.run more) at g.left
 
     -- past a node without columns
-    pub skipped : (n : ℕ) (r : Option ColumnRange) → n ≡ past_node t i → r ≡ cell_in (node_at s t i) → r ≡ none → Going s t b fs₀ l₀ c₀ l c e n
+    pub skipped : (n : ℕ) (r : Option ColumnRange) → n ≡ past_node t i → r ≡ cell_in (node_at s t i) → r ≡ None → Going s t b fs₀ l₀ c₀ l c e n
     skipped n r p q z =
         rw p (record { run = run-next s t i b g.run more; left = rw (sym q ∙ z) at at; room = g.room })
 
-    module _ (r : ColumnRange) (is : cell_in (node_at s t i) ≡ some r) (f : Finding) (f-is : f ≡ out_of_order (node_at s t i) e r.start) where
+    module _ (r : ColumnRange) (is : cell_in (node_at s t i) ≡ Some r) (f : Finding) (f-is : f ≡ out_of_order (node_at s t i) e r.start) where
       left-now : Left fs₀ l₀ c₀ (only (not (eqb r.start e)) f ++ row_from (r.end + 1) (forest s t (past_node t i) b)) l c
       left-now = rw f-is (rw is at at)
 

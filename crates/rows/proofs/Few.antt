@@ -5,7 +5,7 @@ use native.Mathlib.Omega.{arith}
 use native.Mathlib.Nat.{le_refl}
 use mathlib.Core.Bool.{Bool, true, false, not}
 use mathlib.Core.List.{List}
-use mathlib.Core.Option.{Option, some, none}
+use Rattle.std.specs.Prelude.{Option, Some, None}
 use lib.Dec.{eqb}
 use lib.ListN.{length, length-append}
 use Rattle.tape.specs.Nodes.{Node}
@@ -21,8 +21,8 @@ only-few true f = omega arith
 only-few false f = omega arith
 
 few : (r : Option ColumnRange) (x : Node) (e b : ℕ) (after : ℕ → List Finding) → ((k : ℕ) → length (after k) ≤ b) → length (by_columns r x e after) ≤ amount x + b
-few none x e b after h = let l = h e in omega arith
-few (some r) x e b after h =
+few None x e b after h = let l = h e in omega arith
+few (Some r) x e b after h =
     let l = h (r.end + 1) in
     let o = only-few (not (eqb r.start e)) (out_of_order x e r.start) in
     rw (length-append (only (not (eqb r.start e)) (out_of_order x e r.start)) (after (r.end + 1))) (omega arith)

@@ -4,14 +4,12 @@ use Prim.Native.Nat.{ℕ, ◌+◌, ◌-◌, ◌<◌, ◌≤◌}
 use mathlib.Core.Path.{◌≡◌, refl, sym, ap, ap₂, ◌∙◌}
 use mathlib.Core.Bool.{Bool, true, false, not, false≢true, ◌||◌}
 use mathlib.Core.List.{List, [], ◌∷◌}
-use mathlib.Core.Option.{Option, some, none}
+use Rattle.std.specs.Prelude.{Option, Some, None}
 use native.Mathlib.Omega.{arith}
 use borrow.Author.Tests.{lt-ltb, le-ltb, not-true, not-false}
 use lib.ListN.{length, take, drop}
 use Rattle.text.specs.Pick.{pick}
-use Rattle.text.specs.Number.{parsed, number_of}
-use Rattle.text.specs.declared.Parsed.{Parsed}
-use Rattle.text.specs.declared.Parsed.TheVariants.{Value}
+use Rattle.text.specs.Number.{parsed}
 use Rattle.text.proofs.Cuts.{rest_all}
 use Rattle.text.proofs.Blocks.{starts-long}
 use Rattle.rows.specs.Cells.{ColumnRange, is_cell, is_aligned, after_letters, pair, hyphen, columns_in, cell_columns}
@@ -42,20 +40,20 @@ cell-long s h = go (starting (0x74 ∷ 0x68 ∷ []) s) refl h
     go true e g = omega (arith, starts-long (0x74 ∷ 0x68 ∷ []) s e)
     go false e g = omega (arith, starts-long (0x74 ∷ 0x63 ∷ []) s g)
 
-pub both-numbers : (a b : Parsed) (m n : ℕ) → a ≡ Value m → b ≡ Value n → some (record { start = m; end = n }) ≡ pair (number_of a) (number_of b)
+pub both-numbers : (a b : Option ℕ) (m n : ℕ) → a ≡ Some m → b ≡ Some n → Some (record { start = m; end = n }) ≡ pair a b
 both-numbers a b m n p q = rw p (rw q refl)
 
 module _ (s : List ℕ) (at : ℕ) (is : at ≡ hyphen s) where
-  pub two-columns : (a b : Parsed) (x : Option ColumnRange) → at < length s → number_of a ≡ parsed (take at s) → number_of b ≡ parsed (take (length s - (at + 1)) (drop (at + 1) s)) → x ≡ pair (number_of a) (number_of b) → x ≡ columns_in s
+  pub two-columns : (a b : Option ℕ) (x : Option ColumnRange) → at < length s → a ≡ parsed (take at s) → b ≡ parsed (take (length s - (at + 1)) (drop (at + 1) s)) → x ≡ pair a b → x ≡ columns_in s
   unfolding columns_in
   two-columns a b x l p q h = rw (← is) (rw (lt-ltb at (length s) l) (h ∙ ap₂ pair p (q ∙ ap parsed (rest_all s (at + 1)))))
 
-  pub one-column : (a b : Parsed) (x : Option ColumnRange) → length s ≤ at → number_of a ≡ parsed s → number_of b ≡ parsed s → x ≡ pair (number_of a) (number_of b) → x ≡ columns_in s
+  pub one-column : (a b : Option ℕ) (x : Option ColumnRange) → length s ≤ at → a ≡ parsed s → b ≡ parsed s → x ≡ pair a b → x ≡ columns_in s
   unfolding columns_in
   one-column a b x l p q h = rw (← is) (rw (le-ltb at (length s) l) (h ∙ ap₂ pair p q))
 
 module _ (s : List ℕ) (x : Bool) (is : x ≡ is_cell s) where
-  pub no_cell : not x ≡ true → none ≡ cell_columns s
+  pub no_cell : not x ≡ true → None ≡ cell_columns s
   unfolding cell_columns
   no_cell h = let n : is_cell s ≡ false = sym is ∙ not-true x h in rw n
 

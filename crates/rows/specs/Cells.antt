@@ -1,12 +1,10 @@
 -- Document 01, module 6: "`table_cell_columns`".
 use Rattle.std.specs.Prelude.{ℕ, ◌+◌, Bool, ◌||◌, List, eqb, ltb, length, get_or, take, drop}
-use Rattle.std.proofs.Math.Option.{Option, some, none}
+use Rattle.std.specs.Prelude.{Option, Some, None}
 use Rattle.text.specs.Pick.{pick}
 use Rattle.text.specs.Characters.{find_byte}
 use Rattle.text.specs.Number.{parsed}
 use Rattle.rows.specs.declared.Columns.{Columns}
-use Rattle.rows.specs.declared.Cell.{Cell}
-use Rattle.rows.specs.declared.Cell.TheVariants as cell
 use Rattle.text.specs.Literal.{ascii}
 use Rattle.text.specs.Bytes.{starting}
 
@@ -28,9 +26,9 @@ abbrev pub after_letters : List ℕ → List ℕ
 after_letters name = drop (pick (is_aligned name) 3 2) name
 
 abbrev pub pair : Option ℕ → Option ℕ → Option ColumnRange
-pair none b = none
-pair (some a) none = none
-pair (some a) (some b) = some (record { start = a; end = b })
+pair None b = None
+pair (Some a) None = None
+pair (Some a) (Some b) = Some (record { start = a; end = b })
 
 -- where the first `-` stands, or the length
 abbrev pub hyphen : List ℕ → ℕ
@@ -42,12 +40,12 @@ columns_in s = pick (ltb (hyphen s) (length s)) (pair (parsed (take (hyphen s) s
 
 -- "`None` if it isn't a numbered table cell"
 unfoldable pub cell_columns : List ℕ → Option ColumnRange
-cell_columns name = pick (is_cell name) (columns_in (after_letters name)) none
+cell_columns name = pick (is_cell name) (columns_in (after_letters name)) None
 
 -- what the answer says
 abbrev pub range_of : Columns → ColumnRange
 range_of c = record { start = c.start; end = c.end }
 
-abbrev pub cell_of : Cell → Option ColumnRange
-cell_of (cell.At c) = some (range_of c)
-cell_of cell.NoColumns = none
+abbrev pub cell_of : Option Columns → Option ColumnRange
+cell_of (Some c) = Some (range_of c)
+cell_of None = None

@@ -1,6 +1,6 @@
 -- Document 01, module 6: "a cell without columns is skipped and the expected column kept; afterwards expected = end + 1."
 use Rattle.std.specs.Prelude.{ℕ, ◌+◌, not, List, [], ◌++◌, eqb}
-use Rattle.std.proofs.Math.Option.{Option, some, none}
+use Rattle.std.specs.Prelude.{Option, Some, None}
 use Rattle.tape.specs.Nodes.{Node, is_open}
 use Rattle.tape.specs.Forest.{Forest, end, leaf, node}
 use Rattle.cursor.specs.Names.{name_of}
@@ -26,12 +26,12 @@ out_of_order x expected found =
 
 -- the columns of a node: of a marker, by its name as written
 abbrev pub cell_in : Node → Option ColumnRange
-cell_in x = pick (is_open x.kind) (cell_columns (name_of x.text)) none
+cell_in x = pick (is_open x.kind) (cell_columns (name_of x.text)) None
 
 -- what is found of a cell, and of the cells after it, by the column that is expected there
 abbrev pub by_columns : Option ColumnRange → Node → ℕ → (ℕ → List Finding) → List Finding
-by_columns none x expected after = after expected
-by_columns (some r) x expected after = only (not (eqb r.start expected)) (out_of_order x expected r.start) ++ after (r.end + 1)
+by_columns None x expected after = after expected
+by_columns (Some r) x expected after = only (not (eqb r.start expected)) (out_of_order x expected r.start) ++ after (r.end + 1)
 
 -- the children of a row
 unfoldable pub row_from : ℕ → Forest → List Finding

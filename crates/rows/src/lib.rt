@@ -2,7 +2,6 @@
 #![tactic(auto)]
 
 ghost use Rattle.std.specs.Prelude.{◌≡◌, ◌<◌, ◌≤◌, [], length};
-ghost use Rattle.text.specs.Number.{number_of};
 ghost use Rattle.tape.specs.Nodes.{node_at, count};
 ghost use Rattle.tape.specs.Forest.{forest};
 ghost use Rattle.cursor.specs.Inner.{Run, Spanned};
@@ -11,20 +10,14 @@ ghost use Rattle.rows.specs.Row.{cell_in, out_of_order, row_findings};
 ghost use Rattle.rows.specs.Cells.{is_cell, is_aligned, after_letters, pair, columns_in, cell_columns, cell_of};
 ghost use Rattle.findings.specs.Inner.{Wrote, Room};
 
+use cursor::Siblings;
 use findings::{Counts, Finding, Severity};
-use text::Parsed;
 
 // The first and the last column of a cell.
 #[derive(Clone, Copy)]
 pub struct Columns {
     pub start: u32,
     pub end: u32,
-}
-
-#[derive(Clone, Copy)]
-pub enum Cell {
-    At(Columns),
-    NoColumns,
 }
 
 fn is_cell(name: &[u8]) -> bool
@@ -59,22 +52,17 @@ fn after_letters(name: &[u8]) -> &[u8]
     }
 }
 
-fn both_read(a: Parsed, b: Parsed) -> Cell
-    ensures { cell_of result ≡ pair (number_of a) (number_of b) }
+// The columns of two numbers, if both are read.
+fn both_read(start: Option<u32>, end: Option<u32>) -> Option<Columns>
+    ensures { cell_of result ≡ pair start end }
 {
-    match a {
-        Parsed::NotANumber => Cell::NoColumns,
-        Parsed::Value(start) => match b {
-            Parsed::NotANumber => Cell::NoColumns,
-            Parsed::Value(end) => Cell::At(Columns {
-                start: start,
-                end: end,
-            }),
-        },
-    }
+    Some(Columns {
+        start: start?,
+        end: end?,
+    })
 }
 
-fn columns_in(s: &[u8]) -> Cell
+fn columns_in(s: &[u8]) -> Option<Columns>
     ensures { cell_of result ≡ columns_in s.now }
 {
     let at = text::find_byte(s, b'-');
@@ -84,22 +72,22 @@ fn columns_in(s: &[u8]) -> Cell
     both_read(text::parse(s), text::parse(s))
 }
 
-pub fn table_cell_columns(name: &[u8]) -> Cell
+pub fn table_cell_columns(name: &[u8]) -> Option<Columns>
     ensures { cell_of result ≡ cell_columns name.now }
 {
     if !is_cell(name) {
-        return Cell::NoColumns;
+        return None;
     }
     columns_in(after_letters(name))
 }
 
 // The columns of a node, if it is a cell.
-fn cell_at(source: &[u8], tape: &[u8], i: usize) -> Cell
+fn cell_at(source: &[u8], tape: &[u8], i: usize) -> Option<Columns>
     requires { Spanned source.now tape.now i }
     ensures { cell_of result ≡ cell_in (node_at source.now tape.now i) }
 {
     if tape::kind_at(tape, i) != tape::MARKER_OPEN {
-        return Cell::NoColumns;
+        return None;
     }
     table_cell_columns(cursor::marker_name(source, tape, i))
 }
@@ -135,18 +123,14 @@ pub fn validate_table_row(
 {
     let mut c = counts;
     let mut expected: u64 = 1;
-    let mut i = from;
-    while i < to {
-        let next = cursor::past_node(tape, i);
-        let Cell::At(columns) = cell_at(source, tape, i) else {
-            i = next;
+    for i in Siblings::new(tape, from, to) {
+        let Some(columns) = cell_at(source, tape, i) else {
             continue;
         };
         let found = columns.start;
         let f = out_of_order(tape, i, expected, found);
         c = findings::push_if(list, c, found as u64 != expected, f);
         expected = columns.end as u64 + 1;
-        i = next;
     }
     c
 }

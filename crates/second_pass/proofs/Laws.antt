@@ -12,6 +12,7 @@ use Rattle.text.specs.Pick.{pick}
 use Rattle.text.specs.Characters.{find_byte}
 use Rattle.text.proofs.Chars.{byte_le}
 use Rattle.tape.specs.Nodes.{marker_open_kind, marker_close_kind, chapter_kind, verse_kind}
+use Rattle.refusals.specs.declared.Reason.{Reason}
 use Rattle.table.specs.Entries.{entries, nth}
 use Rattle.definition.specs.Examples.{row}
 use Rattle.reader_spec.specs.Pieces.{bar}
@@ -168,5 +169,5 @@ module _ (tb t : List ℕ) (w : Written) (depth at : ℕ) (l : List ℕ) (p : Pi
     pub milestone-stored : (t' : List ℕ) (r : Written) → (t' ≡ laid t w.next (rows_from w.next (milestone_nodes m at n x y))) × (r ≡ written (w.next + length (milestone_nodes m at n x y)) w.top) → (t' ≡ piece_laid tb t w depth at l p) × (r ≡ after_piece t w depth at l p)
     milestone-stored t' r e = rw is e
 
-  pub fault-stored : (k : ℕ) → p ≡ found.Fault k → (t ≡ piece_laid tb t w depth at l p) × (w ≡ after_piece t w depth at l p)
+  pub fault-stored : (k : Reason) → p ≡ found.Fault k → (t ≡ piece_laid tb t w depth at l p) × (w ≡ after_piece t w depth at l p)
   fault-stored k is = rw is (refl, refl)

@@ -5,7 +5,7 @@ use native.Mathlib.Omega.{arith}
 use mathlib.Core.Path.{◌≡◌, refl, sym}
 use mathlib.Core.Bool.{Bool, true, false}
 use mathlib.Core.List.{List, [], ◌∷◌, ◌++◌}
-use mathlib.Core.Option.{Option, some, none}
+use Rattle.std.specs.Prelude.{Option, Some, None}
 use lib.Dec.{eqb}
 use lib.ListN.{length, take, length-append}
 use borrow.Author.Tests.{eq-eqb, ne_eqb}
@@ -14,6 +14,7 @@ use Rattle.text.specs.Bytes.{equal}
 use Rattle.text.specs.Characters.{find_byte}
 use Rattle.text.proofs.Chars.{byte_le}
 use Rattle.refusals.specs.Refusal.{unmatched_marker}
+use Rattle.refusals.specs.Reasons.{number_of}
 use Rattle.table.specs.Entries.{entries, nth}
 use Rattle.reader_spec.specs.Pieces.{bar}
 use Rattle.reader_spec.specs.Pieces as pieces
@@ -94,10 +95,10 @@ module _ (whole tb t : List ℕ) (w : Written) (at : ℕ) where
   -- a block's end is a node where a block is open
   ends-count : (b : Option ℕ) (waiting : List ℕ) (i : ReadNode) → OpensWait t w.next w.top waiting → Marked t waiting (block_marker b) → length (with_block_end b at (i ∷ [])) ≡ block_ends w + 1
   unfolding OpensWait Marked
-  ends-count none [] i c m = rw (eq-eqb w.top 0 c)
-  ends-count none (o ∷ os) i c m = absurd m
-  ends-count (some x) [] i c m = absurd m
-  ends-count (some x) (o ∷ os) i c m =
+  ends-count None [] i c m = rw (eq-eqb w.top 0 c)
+  ends-count None (o ∷ os) i c m = absurd m
+  ends-count (Some x) [] i c m = absurd m
+  ends-count (Some x) (o ∷ os) i c m =
       let a = c.0 in
       let b = c.1 in
       rw (ne_eqb w.top 0 (λ z. omega arith))
@@ -185,7 +186,7 @@ module _ (whole tb t : List ℕ) (w : Written) (at : ℕ) where
           block-step low (o ∷ os) waiting h e = stopped unmatched_marker at rest js e
           block-step low [] waiting h e =
               let i = opens m at n in
-              gone 0 (found.Block m n) own waiting (block_marker b) (with_block_end b at (i ∷ [])) (state_with (some m) []) (ends-count b waiting i h.chain h.marks) refl ((after_block t w).next ∷ [])
+              gone 0 (found.Block m n) own waiting (block_marker b) (with_block_end b at (i ∷ [])) (state_with (Some m) []) (ends-count b waiting i h.chain h.marks) refl ((after_block t w).next ∷ [])
               (λ ks a. after_open whole (ended_block t w at) (after_block t w).next (after_block t w).top [] [] ks _ (after_piece t w 0 at l (found.Block m n)) m at n low (refl, refl) (after-block-end whole t w.next w.top at (i ∷ ks) (ended_block t w at) (after_block t w) (refl, refl) b waiting (rw (block-end-then b at (i ∷ []) ks) at a)))
               h e
 
@@ -233,4 +234,4 @@ module _ (whole tb t : List ℕ) (w : Written) (at : ℕ) where
     piece-step (found.Verse m n) fair own near e = verse-step (take n on) near rest js few b n own m os waiting h e
     piece-step (found.Inline m n) fair own near e = inline-step (take n on) near rest js few b n own m fair.1 _ os waiting h e
     piece-step (found.Milestone m n x y) fair own near e = milestone-step (take (n + x + y + 2) on) near rest js few b m n x y fair.1 own os waiting h e
-    piece-step (found.Fault k) fair own near e = stopped k at rest js e
+    piece-step (found.Fault k) fair own near e = stopped (number_of k) at rest js e

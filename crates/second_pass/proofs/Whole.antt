@@ -6,7 +6,7 @@ use native.Mathlib.Omega.{arith}
 use mathlib.Core.Path.{◌≡◌, refl, sym, ap, ◌∙◌}
 use mathlib.Core.Bool.{false}
 use mathlib.Core.List.{List, [], ◌∷◌, ◌++◌}
-use mathlib.Core.Option.{Option}
+use Rattle.std.specs.Prelude.{Option}
 use lib.ListN.{length, take, drop}
 use lib.Seq.{length-take-le}
 use Rattle.text.specs.Utf8.{Made}
@@ -29,7 +29,7 @@ use Rattle.pieces.specs.Depth.{depth_after}
 use Rattle.pieces.specs.Closes.{is_fault}
 use Rattle.pieces.specs.declared.Piece.{Piece}
 use Rattle.pieces.specs.declared.Piece.TheVariants as found
-use Rattle.pieces.proofs.Places.{rest-is, rest-length, found_here, here-size, goes_on, next-inside, within-rest, next-made}
+use Rattle.pieces.proofs.Places.{rest_is, rest-length, found_here, here-size, goes_on, next-inside, within-rest, next-made}
 use Rattle.node_writer.specs.declared.Written.{Written}
 use Rattle.node_writer.specs.Written.{written, text_limit, node_limit, Ready, block_ends, ended_block, after_block}
 use Rattle.node_writer.proofs.Steps.{ready-for-block-end, after-block-end}
@@ -116,7 +116,7 @@ module _ (whole tb s t : List ℕ) (w : Written) (at depth : ℕ) (legible : Leg
   -- the piece there is no fault
   pub fair-here : at < length s → is_fault (piece_at tb (take (length s - at) (drop at s))) ≡ false
   fair-here here =
-      rw (rest-is s at)
+      rw (rest_is s at)
       (passed-fair g.state.block g.state.opened at (pass_at tb s (at + size_of (piece_at tb (drop at s)))) g.left (piece_at tb (drop at s)) (sym (pass_step tb s at legible.table g.made here g.state) ∙ g.passes))
 
   -- the piece p with n bytes, as the code finds them

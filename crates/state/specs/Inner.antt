@@ -1,6 +1,6 @@
 -- What the code's values mean in the definition: the record, the context, and the anchor.
 use Rattle.std.specs.Prelude.{ℕ, zero, suc, ◌<◌, ◌≤◌, ◌≡◌, List, [], ◌∷◌, length, get_or}
-use Rattle.std.proofs.Math.Option.{Option, some, none}
+use Rattle.std.specs.Prelude.{Option, Some, None}
 use Rattle.tape.specs.Nodes.{Node, node_at, kind_at}
 use Rattle.tape.specs.Forest.{Forest, followed, forest}
 use Rattle.cursor.specs.Inner.{Spanned}
@@ -54,8 +54,8 @@ with_counts r c = put_errors c.errors (put_warnings c.warnings (put_infos c.info
 
 -- the anchor that a node's number means to the siblings from a place on; 0 for none
 abbrev pub anchor_of : List ℕ → List ℕ → ℕ → ℕ → Option state.Anchor
-anchor_of s t zero at = none
-anchor_of s t (suc n) at = some (record { kind = kind_at t (suc n); passed = forest s t (past_node t (suc n)) at })
+anchor_of s t zero at = None
+anchor_of s t (suc n) at = Some (record { kind = kind_at t (suc n); passed = forest s t (past_node t (suc n)) at })
 
 -- the first k entries of the open starts are nodes of the tape with the lengths of their bases
 pub record Opens (s t : List ℕ) (opens : List OpenStart) (k : ℕ) : Type 0 where
@@ -65,8 +65,8 @@ pub record Opens (s t : List ℕ) (opens : List OpenStart) (k : ℕ) : Type 0 wh
 
 -- the start offsets of the numbers attached to an anchor, of the siblings passed since and those from here on
 abbrev pub starts_for : Option state.Anchor → Forest → List ℕ
-starts_for none f = []
-starts_for (some a) f = attached.start_offsets (attached_numbers a.kind (followed a.passed f))
+starts_for None f = []
+starts_for (Some a) f = attached.start_offsets (attached_numbers a.kind (followed a.passed f))
 
 -- what holds of the running record in every step: the expected verse is one that a label can lead to
 abbrev pub VerseBounded : State → Type 0

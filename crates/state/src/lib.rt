@@ -55,11 +55,12 @@ pub fn counts(r: State) -> Counts
 pub fn with_counts(r: State, c: Counts) -> State
     ensures { result ≡ with_counts r c }
 {
-    let mut q = r;
-    q.errors = c.errors;
-    q.warnings = c.warnings;
-    q.infos = c.infos;
-    q
+    State {
+        errors: c.errors,
+        warnings: c.warnings,
+        infos: c.infos,
+        ..r
+    }
 }
 
 // A finding with the span of a node.
@@ -76,14 +77,14 @@ pub fn about(
     ensures { finding_of result ≡ Checks.about (node_at [] tape.now i) (severity_of severity) code form first second }
 {
     Finding {
-        severity: severity,
-        code: code,
+        severity,
+        code,
         start: tape::start_at(tape, i) as u64,
         len: tape::len_at(tape, i) as u64,
         node: i as u64,
-        form: form,
-        first: first,
-        second: second,
+        form,
+        first,
+        second,
     }
 }
 
@@ -91,41 +92,21 @@ pub fn about(
 pub fn with_anchor(r: State, n: usize) -> State
     ensures { result ≡ with_anchor r n }
 {
-    let mut q = r;
-    q.anchor = n;
-    q
+    State { anchor: n, ..r }
 }
 
 // Whether an entry is of the category, by its number.
 pub fn is_of(m: MarkerInfo, category: u64) -> bool
     ensures { result ≡ eqb (entry_of_info m).category category }
 {
-    let c = m.category;
-    table::category_number(c) == category
+    table::category_number(m.category) == category
 }
 
 // Whether an entry is a paragraph that can hold verse text.
 pub fn is_body(m: MarkerInfo) -> bool
     ensures { result ≡ is_body (entry_of_info m) }
 {
-    let role = m.text_role;
-    if is_of(m, table::PARAGRAPH) {
-        table::role_number(role) == table::BOUNDARY
-    } else {
-        false
-    }
-}
-
-pub fn or(a: bool, b: bool) -> bool
-    ensures { result ≡ (a || b) }
-{
-    if a { true } else { b }
-}
-
-pub fn and(a: bool, b: bool) -> bool
-    ensures { result ≡ (a && b) }
-{
-    if a { b } else { false }
+    is_of(m, table::PARAGRAPH) && table::role_number(m.text_role) == table::BOUNDARY
 }
 
 // The context of a marker's children.
@@ -133,8 +114,8 @@ pub fn inside(o: Context, m: MarkerInfo) -> Context
     ensures { context_of result ≡ Walk.inside (context_of o) (entry_of_info m) }
 {
     Context {
-        in_body_para: or(o.in_body_para, is_body(m)),
-        in_note: or(o.in_note, is_of(m, table::NOTE)),
-        in_char: or(o.in_char, is_of(m, table::CHARACTER)),
+        in_body_para: o.in_body_para || is_body(m),
+        in_note: o.in_note || is_of(m, table::NOTE),
+        in_char: o.in_char || is_of(m, table::CHARACTER),
     }
 }

@@ -3,7 +3,7 @@
 use mathlib.Core.Path.{◌≡◌, refl, sym, ap, subst, ◌∙◌}
 use mathlib.Core.Bool.{Bool, true, false}
 use mathlib.Core.List.{List, [], ◌∷◌}
-use mathlib.Core.Option.{Option, some, none}
+use Rattle.std.specs.Prelude.{Option, Some, None}
 use Prim.Native.Nat.{ℕ, zero, suc, ◌+◌, ◌-◌, ◌*◌, ◌/◌, ◌%◌, ◌<◌, ◌≤◌}
 use native.Mathlib.Numerals.{add-one}
 use native.Mathlib.Omega.{arith}
@@ -40,11 +40,11 @@ other-bucket a s n = go (equal a s) refl
     go false e = e
 
 module _ (t : List ℕ) where
-  pub first-none : (h j : ℕ) → length (entries t) ≤ j → first_from t h j ≡ none
+  pub first-none : (h j : ℕ) → length (entries t) ≤ j → first_from t h j ≡ None
   unfolding bucket_from
   first-none h j l = rw (drop_of_length-le (entries t) l)
 
-  named_none : (s : List ℕ) (j : ℕ) → length (entries t) ≤ j → named_from t j (drop j (entries t)) s ≡ none
+  named_none : (s : List ℕ) (j : ℕ) → length (entries t) ≤ j → named_from t j (drop j (entries t)) s ≡ None
   unfolding named_from
   named_none s j l = rw (drop_of_length-le (entries t) l)
 
@@ -52,7 +52,7 @@ module _ (t : List ℕ) where
     abbrev name : List ℕ
     name = cut th.entry.name t
 
-    pub first-hit : (h : ℕ) → bucket_of name ≡ h → first_from t h j ≡ some j
+    pub first-hit : (h : ℕ) → bucket_of name ≡ h → first_from t h j ≡ Some j
     unfolding bucket_from
     first-hit h e = rw (th.onward, eq-eqb (bucket_of name) h e)
 
@@ -60,7 +60,7 @@ module _ (t : List ℕ) where
     unfolding bucket_from
     first-miss h n = rw (th.onward, ne_eqb (bucket_of name) h n, add-one)
 
-    named-hit : (s : List ℕ) → equal name s ≡ true → named_from t j (drop j (entries t)) s ≡ some j
+    named-hit : (s : List ℕ) → equal name s ≡ true → named_from t j (drop j (entries t)) s ≡ Some j
     unfolding named_from
     named-hit s e = rw (th.onward, e)
 
@@ -78,13 +78,13 @@ pub record Reached (t s : List ℕ) (j k : ℕ) : Type 0 where
 
 -- what the first entry of the bucket from j on says of the name: where there is none, no entry from j on has it
 abbrev Ahead : List ℕ → List ℕ → ℕ → Option ℕ → Type 0
-Ahead t s j none = named_from t j (drop j (entries t)) s ≡ none
-Ahead t s j (some k) = Reached t s j k
+Ahead t s j None = named_from t j (drop j (entries t)) s ≡ None
+Ahead t s j (Some k) = Reached t s j k
 
 module _ (t s : List ℕ) where
   widen : (j : ℕ) → named_from t j (drop j (entries t)) s ≡ named_from t (j + 1) (drop (j + 1) (entries t)) s → (o : Option ℕ) → Ahead t s (j + 1) o → Ahead t s j o
-  widen j m none r = m ∙ r
-  widen j m (some k) r = record { on = let l = r.on in omega arith; inside = r.inside; there = r.there; shared = r.shared; same = m ∙ r.same }
+  widen j m None r = m ∙ r
+  widen j m (Some k) r = record { on = let l = r.on in omega arith; inside = r.inside; there = r.there; shared = r.shared; same = m ∙ r.same }
 
   -- an entry of another bucket is passed
   pass : (j : ℕ) → j < length (entries t) → There (entries t) j → Ahead t s (j + 1) (first_from t (bucket_of s) (j + 1)) → Ahead t s j (first_from t (bucket_of s) j)
@@ -132,20 +132,20 @@ module _ (t ix c s : List ℕ) (n : ℕ) (x : Indexed t ix n) (h : Chained t c) 
   chain-start = record { from = 0; is = h.heads (bucket_of s) (bucket-low s); same = refl }
 
   module _ (link : ℕ) (o : OnChain t s link) where
-    pub chain-end : link ≤ 0 → none ≡ entry_named t s
+    pub chain-end : link ≤ 0 → None ≡ entry_named t s
     chain-end l = sym (o.same ∙ go (first_from t (bucket_of s) o.from) o.is (ahead t s o.from))
       where
-        go : (f : Option ℕ) → link ≡ link_of f → Ahead t s o.from f → named_from t o.from (drop o.from (entries t)) s ≡ none
-        go none e a = a
-        go (some k) e a = absurd (omega arith)
+        go : (f : Option ℕ) → link ≡ link_of f → Ahead t s o.from f → named_from t o.from (drop o.from (entries t)) s ≡ None
+        go None e a = a
+        go (Some k) e a = absurd (omega arith)
 
     module _ (l : 0 < link) where
       reached : Reached t s o.from (link - 1)
       reached = go (first_from t (bucket_of s) o.from) o.is (ahead t s o.from)
         where
           go : (f : Option ℕ) → link ≡ link_of f → Ahead t s o.from f → Reached t s o.from (link - 1)
-          go none e a = absurd (omega arith)
-          go (some k) e a = let z : link - 1 ≡ k = omega arith in rw z a
+          go None e a = absurd (omega arith)
+          go (Some k) e a = let z : link - 1 ≡ k = omega arith in rw z a
 
       pub chain-low : link - 1 < n
       chain-low = omega (arith, reached.inside, x.count)
@@ -157,7 +157,7 @@ module _ (t ix c s : List ℕ) (n : ℕ) (x : Indexed t ix n) (h : Chained t c) 
       next-is = rw (← reached.shared) (h.nexts (link - 1) reached.there.entry reached.there.is)
 
       module _ (p : List ℕ) (is : p ≡ cut (name_in (get_or ix (link - 1) 0)) t) where
-        pub chain-hit : equal p s ≡ true → some (link - 1) ≡ entry_named t s
+        pub chain-hit : equal p s ≡ true → Some (link - 1) ≡ entry_named t s
         chain-hit e = sym (o.same ∙ reached.same ∙ named-hit t (link - 1) reached.there s (rw (← named, ← is) e))
 
         pub chain-on : equal p s ≡ false → OnChain t s (get_or c (256 + (link - 1)) 0)
@@ -172,7 +172,7 @@ module _ (t ix c s : List ℕ) (n : ℕ) (x : Indexed t ix n) (h : Chained t c) 
       chain-less = rw (next-is, left_is n link l) (go (first_from t (bucket_of s) (link - 1 + 1)) (ahead t s (link - 1 + 1)))
         where
           go : (f : Option ℕ) → Ahead t s (link - 1 + 1) f → left_of n (link_of f) < n - (link - 1)
-          go none a = omega (arith, chain-low)
-          go (some k) a =
+          go None a = omega (arith, chain-low)
+          go (Some k) a =
               let e : k + 1 - 1 ≡ k = omega arith in
               rw (left_is n (k + 1) (omega arith), e) (omega (arith, a.on, a.inside, x.count, chain-low))

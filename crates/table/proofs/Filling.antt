@@ -3,7 +3,7 @@
 use mathlib.Core.Path.{◌≡◌, refl, sym, ap, ◌∙◌}
 use mathlib.Core.Bool.{Bool, true, false}
 use mathlib.Core.List.{List}
-use mathlib.Core.Option.{some, none}
+use Rattle.std.specs.Prelude.{Some, None}
 use Prim.Native.Nat.{ℕ, suc, ◌+◌, ◌*◌, ◌%◌, ◌<◌, ◌≤◌}
 use native.Mathlib.Nat.{zero-add, add-zero}
 use native.Mathlib.Omega.{arith}
@@ -26,8 +26,8 @@ pub record Going (t ix : List ℕ) (at k : ℕ) : Type 0 where
   pub bad : bad_from (length t) (3 * k) (lines at (drop at t)) ≡ bad_table t
   pub count : length (entries t) ≡ k + length (entries_of (lines at (drop at t)))
   pub rest : (j : ℕ) → nth (entries t) (k + j) ≡ nth (entries_of (lines at (drop at t))) j
-  pub each : (j : ℕ) (e : Entry) → j < k → nth (entries t) j ≡ some e → get_or ix j 0 ≡ pack e
-  pub sound : (j : ℕ) (e : Entry) → j < k → nth (entries t) j ≡ some e → Sound t e
+  pub each : (j : ℕ) (e : Entry) → j < k → nth (entries t) j ≡ Some e → get_or ix j 0 ≡ pack e
+  pub sound : (j : ℕ) (e : Entry) → j < k → nth (entries t) j ≡ Some e → Sound t e
 
 pub starts : (t ix : List ℕ) → 512 ≤ length ix → Going t ix 0 0
 unfolding bad_table entries
@@ -47,7 +47,7 @@ starts t ix h =
 module _ (t ix : List ℕ) (at k : ℕ) (g : Going t ix at k) where
   module _ (l : k < 512) (w next : ℕ) (p : LinesGood t at w next) where
     -- the entry that the marker gives is the next of the table
-    here : nth (entries t) k ≡ some p.entry
+    here : nth (entries t) k ≡ Some p.entry
     unfolding nth
     here = rw (add-zero k) at (g.rest 0) ∙ ap (λ (es : List Entry). nth es 0) p.first
 
@@ -61,7 +61,7 @@ module _ (t ix : List ℕ) (at k : ℕ) (g : Going t ix at k) where
     more = let e = ap length p.first in omega (arith, g.count)
 
     -- an entry that is read is one of those before, or the marker's
-    split : (P : Entry → Type 0) (j : ℕ) (e : Entry) → j < k + 1 → nth (entries t) j ≡ some e → (j < k → P e) → (j ≡ k → P p.entry) → P e
+    split : (P : Entry → Type 0) (j : ℕ) (e : Entry) → j < k + 1 → nth (entries t) j ≡ Some e → (j < k → P e) → (j ≡ k → P p.entry) → P e
     split P j e h is f h' = go (ltb j k) refl
       where
         go : (b : Bool) → ltb j k ≡ b → P e
@@ -69,7 +69,7 @@ module _ (t ix : List ℕ) (at k : ℕ) (g : Going t ix at k) where
         go false z =
             let u = ltb-false j k z in
             let same : j ≡ k = omega arith in
-            let there : some e ≡ some p.entry = sym is ∙ rw same here in
+            let there : Some e ≡ Some p.entry = sym is ∙ rw same here in
             let entry : p.entry ≡ e = cc in
             rw entry at (h' same)
 
@@ -91,12 +91,12 @@ module _ (t ix : List ℕ) (at k : ℕ) (g : Going t ix at k) where
         }
 
   -- a marker past the 512th, and the end of the text
-  pub full : k ≡ 512 → at < length t → some at ≡ bad_table t
+  pub full : k ≡ 512 → at < length t → Some at ≡ bad_table t
   unfolding bad_from
   full e h = sym (sym g.bad ∙ rw (e, line-there t at h))
 
   module _ (h : length t ≤ at) where
-    pub ends-well : none ≡ bad_table t
+    pub ends-well : None ≡ bad_table t
     unfolding bad_from
     ends-well =
         let z : (3 * k) % 3 ≡ 0 = omega arith in
@@ -106,7 +106,7 @@ module _ (t ix : List ℕ) (at k : ℕ) (g : Going t ix at k) where
     unfolding entries_of
     all = g.count ∙ rw (line-none t at h) (add-zero k)
 
-    read : (j : ℕ) (e : Entry) → nth (entries t) j ≡ some e → j < k
+    read : (j : ℕ) (e : Entry) → nth (entries t) j ≡ Some e → j < k
     read j e is = go (ltb j k) refl
       where
         go : (b : Bool) → ltb j k ≡ b → j < k

@@ -3,7 +3,7 @@
 use mathlib.Core.Path.{◌≡◌, refl, sym, ap, ◌∙◌}
 use mathlib.Core.Bool.{Bool, true, false, not, false≢true, ◌&&◌, and-false}
 use mathlib.Core.List.{List, [], ◌∷◌, ◌++◌}
-use mathlib.Core.Option.{Option, some, none}
+use Rattle.std.specs.Prelude.{Option, Some, None}
 use Prim.Native.Nat.{ℕ, suc, ◌+◌, ◌<◌, ◌≤◌}
 use native.Mathlib.Nat.{add-zero, zero-add}
 use native.Mathlib.Omega.{arith}
@@ -15,7 +15,6 @@ use Rattle.text.specs.Pick.{within, pick}
 use Rattle.text.specs.Characters.{find_byte}
 use Rattle.text.specs.Inner.{eight_bytes}
 use Rattle.text.proofs.Chars.{byte_le}
-use Rattle.table.specs.declared.Step.TheVariants as step
 use Rattle.table.specs.Lines.{name_byte}
 use Rattle.table.specs.Books.{code_from}
 use Rattle.table.specs.Inner.{name_length, keyed, step_by, step_with, behind_key}
@@ -26,7 +25,7 @@ use Rattle.table.proofs.HeadBytes.{eight, HeadIs}
 use Rattle.text.proofs.Bool.{and_left, and_right}
 use Rattle.text.specs.Bytes.{equal, all, starting}
 
-step-none : (t : Bool) (next : ℕ) → step_by t none next ≡ step.Bad
+step-none : (t : Bool) (next : ℕ) → step_by t None next ≡ None
 step-none true next = refl
 step-none false next = refl
 
@@ -116,12 +115,12 @@ module _ (n : ℕ) (l : List ℕ) where
   unfolding code_from
   word-past k w ws h e = go (ltb (width l) (length l)) (equal w (take (width l) l)) (word-fills w l h ∙ e)
     where
-      go : (t u : Bool) → (t && u) ≡ false → step_by t (pick u (some k) (code_from (suc k) ws (take (width l) l))) (n + width l + 1) ≡ step_by t (code_from (suc k) ws (take (width l) l)) (n + width l + 1)
+      go : (t u : Bool) → (t && u) ≡ false → step_by t (pick u (Some k) (code_from (suc k) ws (take (width l) l))) (n + width l + 1) ≡ step_by t (code_from (suc k) ws (take (width l) l)) (n + width l + 1)
       go true true f = absurd (false≢true (sym f))
       go true false f = refl
       go false u f = refl
 
-  pub words-absent : (k : ℕ) (ws : List (List ℕ)) → every plain ws ≡ true → every (absent l) ws ≡ true → step.Bad ≡ step_with (code_from k ws) n l
+  pub words-absent : (k : ℕ) (ws : List (List ℕ)) → every plain ws ≡ true → every (absent l) ws ≡ true → None ≡ step_with (code_from k ws) n l
   unfolding code_from every
   words-absent k [] h e = sym (step-none (ltb (width l) (length l)) (n + width l + 1))
   words-absent k (w ∷ ws) h e =
@@ -133,7 +132,7 @@ module _ (n : ℕ) (ws : List (List ℕ)) (l : List ℕ) (r k : ℕ) where
   abbrev w : List ℕ
   w = get_or ws k []
 
-  pub front-there : every plain ws ≡ true → plain w ≡ true → eight (front w) ≡ true → code_from 0 ws w ≡ some k → ((m : List ℕ) → starting (back w) m ≡ false → every (absent (front w ++ m)) ws ≡ true) → HeadIs l r → r ≡ eight_bytes (front w) 0 → step_by (starting (back w) (drop 8 l)) (some k) (n + length w + 1) ≡ step_with (code_from 0 ws) n l
+  pub front-there : every plain ws ≡ true → plain w ≡ true → eight (front w) ≡ true → code_from 0 ws w ≡ Some k → ((m : List ℕ) → starting (back w) m ≡ false → every (absent (front w ++ m)) ws ≡ true) → HeadIs l r → r ≡ eight_bytes (front w) 0 → step_by (starting (back w) (drop 8 l)) (Some k) (n + length w + 1) ≡ step_with (code_from 0 ws) n l
   front-there hs h long is alone head_of f = go (starting (back w) (drop 8 l)) refl
     where
       there : starting (front w) l ≡ true
@@ -144,7 +143,7 @@ module _ (n : ℕ) (ws : List (List ℕ)) (l : List ℕ) (r k : ℕ) where
           let size : length (front w) ≡ 8 = eqb-true (length (front w)) 8 (and_left _ _ long) in
           ap (λ (x : List ℕ). x ++ drop 8 l) (equal-true (front w) (take 8 l) (rw size at there)) ∙ take-append-drop 8 l
 
-      go : (t : Bool) → starting (back w) (drop 8 l) ≡ t → step_by t (some k) (n + length w + 1) ≡ step_with (code_from 0 ws) n l
+      go : (t : Bool) → starting (back w) (drop 8 l) ≡ t → step_by t (Some k) (n + length w + 1) ≡ step_with (code_from 0 ws) n l
       go true e = rw is at (line-there n l (code_from 0 ws) w h (parts 8 (line w) l ∙ rw (there, e)))
       go false e = words-absent n l 0 ws hs (rw split at (alone (drop 8 l) e))
 
@@ -171,23 +170,23 @@ name-fills (b ∷ l) = go (eqb 10 b) (name_byte b) refl refl (name-fills l)
 
 -- the tests of a text whose first r bytes, and no more of them, are name bytes
 module _ (l : List ℕ) (r : ℕ) (is : r ≡ find_byte unnamed l) where
-  name-not : eqb (get_or l r 0) 10 ≡ false → step.Bad ≡ step_with name_length 5 l
+  name-not : eqb (get_or l r 0) 10 ≡ false → None ≡ step_with name_length 5 l
   name-not e = go (ltb (width l) (length l)) (within 1 16 (length (take (width l) l))) (all name_byte (take (width l) l)) ((name-fills l).0 ∙ rw is at e)
     where
-      go : (t u v : Bool) → (t && v) ≡ false → step.Bad ≡ step_by t (pick (u && v) (some (length (take (width l) l))) none) (5 + width l + 1)
+      go : (t u v : Bool) → (t && v) ≡ false → None ≡ step_by t (pick (u && v) (Some (length (take (width l) l))) None) (5 + width l + 1)
       go true true true f = absurd (false≢true (sym f))
       go true false v f = refl
       go true true false f = refl
       go false u v f = refl
 
-  pub name-open : r ≡ length l → step.Bad ≡ step_with name_length 5 l
+  pub name-open : r ≡ length l → None ≡ step_with name_length 5 l
   name-open h = let z : length l ≤ r = omega arith in name-not (rw (get_or-eq_default l 0 z))
 
-  pub name-other : (get_or l r 0 ≡ 10 → ⊥) → step.Bad ≡ step_with name_length 5 l
+  pub name-other : (get_or l r 0 ≡ 10 → ⊥) → None ≡ step_with name_length 5 l
   name-other h = name-not (ne_eqb (get_or l r 0) 10 h)
 
   module _ (h : get_or l r 0 ≡ 10) where
-    name-there : (t : Bool) → within 1 16 r ≡ t → step_by true (pick t (some r) none) (r + 6) ≡ step_with name_length 5 l
+    name-there : (t : Bool) → within 1 16 r ≡ t → step_by true (pick t (Some r) None) (r + 6) ≡ step_with name_length 5 l
     name-there t e =
         let f : eqb (get_or l (find_byte unnamed l) 0) 10 ≡ true = rw is at (eq-eqb (get_or l r 0) 10 h) in
         let g = (name-fills l).0 ∙ f in
@@ -198,15 +197,15 @@ module _ (l : List ℕ) (r : ℕ) (is : r ≡ find_byte unnamed l) where
         let next : 5 + r + 1 ≡ r + 6 = omega arith in
         rw (ends, named, size, wide, next, e) (go t)
       where
-        go : (t : Bool) → step_by true (pick t (some r) none) (r + 6) ≡ step_by true (pick (t && true) (some r) none) (r + 6)
+        go : (t : Bool) → step_by true (pick t (Some r) None) (r + 6) ≡ step_by true (pick (t && true) (Some r) None) (r + 6)
         go true = refl
         go false = refl
 
-    pub name-good : 1 ≤ r → r < 17 → step.Good r (r + 6) ≡ step_with name_length 5 l
+    pub name-good : 1 ≤ r → r < 17 → Some (r, (r + 6)) ≡ step_with name_length 5 l
     name-good a b = name-there true (rw (le-leb 1 r a, le-leb r 16 (omega arith)))
 
-    pub name-empty : r < 1 → step.Bad ≡ step_with name_length 5 l
+    pub name-empty : r < 1 → None ≡ step_with name_length 5 l
     name-empty a = name-there false (rw (lt-leb 1 r a))
 
-    pub name-long : 17 ≤ r → step.Bad ≡ step_with name_length 5 l
+    pub name-long : 17 ≤ r → None ≡ step_with name_length 5 l
     name-long a = name-there false (rw (lt-leb r 16 (omega arith)) (and-false (leb 1 r)))

@@ -3,7 +3,7 @@
 use mathlib.Core.Path.{◌≡◌, refl, sym, ap, ◌∙◌}
 use mathlib.Core.Bool.{Bool, true, false}
 use mathlib.Core.List.{List}
-use mathlib.Core.Option.{some, none}
+use Rattle.std.specs.Prelude.{Some, None}
 use Prim.Native.Nat.{ℕ, ◌+◌, ◌-◌, ◌<◌, ◌≤◌}
 use native.Mathlib.Omega.{arith}
 use lib.Dec.{eqb}
@@ -28,7 +28,7 @@ clear-on c h l z j b = go (eqb j h) refl
 pub record Linked (t c : List ℕ) (k : ℕ) : Type 0 where
   pub room : 768 ≤ length c
   pub heads : (h : ℕ) → h < 256 → get_or c h 0 ≡ link_of (first_from t h k)
-  pub nexts : (j : ℕ) (e : Entry) → k ≤ j → nth (entries t) j ≡ some e → get_or c (256 + j) 0 ≡ link_of (first_from t (bucket_of (cut e.name t)) (j + 1))
+  pub nexts : (j : ℕ) (e : Entry) → k ≤ j → nth (entries t) j ≡ Some e → get_or c (256 + j) 0 ≡ link_of (first_from t (bucket_of (cut e.name t)) (j + 1))
 
 module _ (t ix : List ℕ) (n : ℕ) (x : Indexed t ix n) (c : List ℕ) where
   pub link_start : 768 ≤ length c → Cleared 256 c → Linked t c n
@@ -39,7 +39,7 @@ module _ (t ix : List ℕ) (n : ℕ) (x : Indexed t ix n) (c : List ℕ) where
         nexts = λ j e l is. absurd (none-some (sym (info-past (entries t) j (omega (arith, x.count))) ∙ is));
       }
     where
-      none-some : {e : Entry} → none ≡ some e → ⊥
+      none-some : {e : Entry} → None ≡ Some e → ⊥
       none-some p = let q : ◌≡◌ {A = ℕ} 0 1 = cc in omega arith
 
   module _ (k : ℕ) (g : Linked t c k) where
@@ -88,14 +88,14 @@ module _ (t ix : List ℕ) (n : ℕ) (x : Indexed t ix n) (c : List ℕ) where
               ∙ g.heads j b
               ∙ ap link_of (sym (first-miss t i th j (λ w. n (sym w ∙ bucket)) ∙ ap (first_from t j) back))
 
-      nexts-on : (j : ℕ) (e : Entry) → i ≤ j → nth (entries t) j ≡ some e → get_or linked (256 + j) 0 ≡ link_of (first_from t (bucket_of (cut e.name t)) (j + 1))
+      nexts-on : (j : ℕ) (e : Entry) → i ≤ j → nth (entries t) j ≡ Some e → get_or linked (256 + j) 0 ≡ link_of (first_from t (bucket_of (cut e.name t)) (j + 1))
       nexts-on j e b there-is =
           get_or-set_other (set c (256 + i) (get_or c h 0)) h (256 + j) k 0 (λ w. omega (arith, head-low)) ∙ go (eqb j i) refl
         where
           go : (q : Bool) → eqb j i ≡ q → get_or (set c (256 + i) (get_or c h 0)) (256 + j) 0 ≡ link_of (first_from t (bucket_of (cut e.name t)) (j + 1))
           go true z =
               let same = eqb-true j i z in
-              let entry : some th.entry ≡ some e = sym th.is ∙ sym (ap (nth (entries t)) same) ∙ there-is in
+              let entry : Some th.entry ≡ Some e = sym th.is ∙ sym (ap (nth (entries t)) same) ∙ there-is in
               let e-is : th.entry ≡ e = cc in
               rw (same, back, ← e-is, bucket) (get_or-set_same c (256 + i) (get_or c h 0) 0 (omega (arith, x.few, g.room)) ∙ g.heads h head-low)
           go false z =

@@ -3,7 +3,7 @@
 use mathlib.Core.Path.{◌≡◌, refl, sym, ap, ◌∙◌}
 use mathlib.Core.Bool.{Bool, true, false}
 use mathlib.Core.List.{List, [], ◌∷◌}
-use mathlib.Core.Option.{some, none}
+use Rattle.std.specs.Prelude.{Some, None}
 use Prim.Native.Nat.{ℕ, suc, ◌+◌, ◌-◌, ◌<◌, ◌≤◌}
 use native.Mathlib.Nat.{not-suc-le-zero}
 use native.Mathlib.Omega.{arith}
@@ -62,9 +62,9 @@ lines_cons at (b ∷ s) h = rw (flip b 10) (go (eqb 10 b) (in-front at b s (line
 module _ (t : List ℕ) (at : ℕ) where
   pub line-there : at < length t → lines at (drop at t) ≡ first at (drop at t) ∷ lines (at + width (drop at t) + 1) (drop (at + width (drop at t) + 1) t)
   line-there h =
-      let some : 0 < length (drop at t) = rw length-drop (omega arith) in
+      let longer : 0 < length (drop at t) = rw length-drop (omega arith) in
       let e : at + (width (drop at t) + 1) ≡ at + width (drop at t) + 1 = omega arith in
-      lines_cons at (drop at t) some ∙ ap (λ (l : List ℕ). first at (drop at t) ∷ lines (at + width (drop at t) + 1) l) (drop-drop (width (drop at t) + 1) at t ∙ ap (λ (n : ℕ). drop n t) e)
+      lines_cons at (drop at t) longer ∙ ap (λ (l : List ℕ). first at (drop at t) ∷ lines (at + width (drop at t) + 1) l) (drop-drop (width (drop at t) + 1) at t ∙ ap (λ (n : ℕ). drop n t) e)
 
   pub line-none : length t ≤ at → lines at (drop at t) ≡ []
   unfolding lines
@@ -108,12 +108,12 @@ module _ (l s : List ℕ) (k at n : ℕ) (is : n ≡ width (take (length l - at)
       let g : at ≤ length l = omega arith in
       rw (line-there l at h, rest_all l at, break-at l at n is g)
 
-  pub word-hit : at < length l → equal (take n rest) s ≡ true → code_from k (bodies (lines at (drop at l))) s ≡ some k
+  pub word-hit : at < length l → equal (take n rest) s ≡ true → code_from k (bodies (lines at (drop at l))) s ≡ Some k
   word-hit h e = code-hit k s _ _ _ (word-there h) e
 
   pub word-miss : at < length l → equal (take n rest) s ≡ false → code_from k (bodies (lines at (drop at l))) s ≡ code_from (k + 1) (bodies (lines (at + n + 1) (drop (at + n + 1) l))) s
   word-miss h e = code-miss k s _ _ _ (word-there h) e
 
-pub word_end : (l s : List ℕ) (k at : ℕ) → length l ≤ at → code_from k (bodies (lines at (drop at l))) s ≡ none
+pub word_end : (l s : List ℕ) (k at : ℕ) → length l ≤ at → code_from k (bodies (lines at (drop at l))) s ≡ None
 unfolding bodies
 word_end l s k at h = code-none k s _ (ap bodies (line-none l at h))

@@ -3,7 +3,7 @@
 use mathlib.Core.Path.{◌≡◌, refl}
 use mathlib.Core.Bool.{Bool, true, false, ◌||◌}
 use mathlib.Core.List.{List, [], ◌∷◌}
-use mathlib.Core.Option.{some, none}
+use Rattle.std.specs.Prelude.{Some, None}
 use Prim.Native.Nat.{ℕ, zero, suc, ◌<◌, ◌≤◌}
 use native.Mathlib.Omega.{arith}
 use Rattle.table.specs.declared.Category.TheVariants.{Other}
@@ -70,9 +70,9 @@ unfoldable pub owners : List (List ℕ)
 owners = (119 ∷ []) ∷ (119 ∷ 97 ∷ []) ∷ (119 ∷ 103 ∷ []) ∷ (119 ∷ 104 ∷ []) ∷ rb ∷ xt ∷ ref ∷ jmp ∷ periph ∷ []
 
 default-by : (a b c d e f g h i q : Bool) →
-    attribute_name (attribute_by (pick a (some 0) (pick b (some 1) (pick c (some 2) (pick d (some 3) (pick e (some 4) (pick f (some 5) (pick g (some 6) (pick h (some 7) (pick i (some 8) none))))))))) q) ≡
-    pick (a || (b || (c || (d || false)))) (some (ascii "lemma"))
-    (pick e (some (ascii "gloss")) (pick f (some (ascii "href")) (pick g (some (ascii "loc")) (pick h (some (ascii "link-href")) (pick i (some (ascii "id")) (pick q (some (ascii "who")) none))))))
+    attribute_name (attribute_by (pick a (Some 0) (pick b (Some 1) (pick c (Some 2) (pick d (Some 3) (pick e (Some 4) (pick f (Some 5) (pick g (Some 6) (pick h (Some 7) (pick i (Some 8) None))))))))) q) ≡
+    pick (a || (b || (c || (d || false)))) (Some (ascii "lemma"))
+    (pick e (Some (ascii "gloss")) (pick f (Some (ascii "href")) (pick g (Some (ascii "loc")) (pick h (Some (ascii "link-href")) (pick i (Some (ascii "id")) (pick q (Some (ascii "who")) None))))))
 default-by true b c d e f g h i q = refl
 default-by false true c d e f g h i q = refl
 default-by false false true d e f g h i q = refl

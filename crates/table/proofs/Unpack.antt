@@ -2,7 +2,7 @@
 -- Assumes nothing.
 use mathlib.Core.Path.{◌≡◌, refl, sym, ap, ◌∙◌}
 use mathlib.Core.List.{List, [], ◌∷◌}
-use mathlib.Core.Option.{some, none}
+use Rattle.std.specs.Prelude.{Some, None}
 use Prim.Native.Nat.{ℕ, zero, suc, ◌+◌, ◌/◌, ◌%◌, ◌<◌, ◌≤◌}
 use native.Mathlib.Nat.{not-suc-le-zero, le_of_suc-le-suc}
 use native.Mathlib.Omega.{arith}
@@ -16,7 +16,7 @@ use Rattle.table.specs.Inner.{category_at, role_at, pack, Sound, Indexed, name_i
 use Rattle.table.proofs.Positions.{category-back, role-back}
 
 -- past the last entry, and before its end
-pub info-past : (es : List Entry) (k : ℕ) → length es ≤ k → nth es k ≡ none
+pub info-past : (es : List Entry) (k : ℕ) → length es ≤ k → nth es k ≡ None
 unfolding nth
 info-past [] k h = refl
 info-past (e ∷ es) zero h = absurd (not-suc-le-zero h)
@@ -24,7 +24,7 @@ info-past (e ∷ es) (suc k) h = info-past es k (le_of_suc-le-suc h)
 
 pub record There (es : List Entry) (k : ℕ) : Type 0 where
   pub entry : Entry
-  pub is : nth es k ≡ some entry
+  pub is : nth es k ≡ Some entry
   pub onward : drop k es ≡ entry ∷ drop (suc k) es
 
 pub info-there : (es : List Entry) (k : ℕ) → k < length es → There es k
@@ -45,14 +45,14 @@ unpacked t w e is s = record { start = omega arith; len = omega arith; category 
 
 module _ (t ix : List ℕ) (n : ℕ) (h : Indexed t ix n) (k : ℕ) where
   -- what `name` asks of an entry that `info` gave
-  pub name-inside : (m : MarkerInfo) → some (entry_of_info m) ≡ nth (entries t) k → m.name_start + m.name_len ≤ length t
+  pub name-inside : (m : MarkerInfo) → Some (entry_of_info m) ≡ nth (entries t) k → m.name_start + m.name_len ≤ length t
   name-inside m e = (h.sound k (entry_of_info m) (sym e)).inside
 
   -- the word of an entry has its name
-  pub word-name : (e : Entry) → nth (entries t) k ≡ some e → cut (name_in (get_or ix k 0)) t ≡ cut e.name t
+  pub word-name : (e : Entry) → nth (entries t) k ≡ Some e → cut (name_in (get_or ix k 0)) t ≡ cut e.name t
   word-name e is = let u = unpacked t (get_or ix k 0) e (h.each k e is) (h.sound k e is) in rw (u.start, u.len)
 
-  pub past : n ≤ k → none ≡ nth (entries t) k
+  pub past : n ≤ k → None ≡ nth (entries t) k
   past l = sym (info-past (entries t) k (omega arith))
 
   module _ (l : k < n) where
@@ -72,7 +72,7 @@ module _ (t ix : List ℕ) (n : ℕ) (h : Indexed t ix n) (k : ℕ) where
     inside = rw (parts.start, parts.len) sound.inside
 
     pub info-known : (c : Category) (r : TextRole) → c ≡ category_at (w / 2097152 % 8) → r ≡ role_at (w / 16777216) →
-        some (entry_of_info (record { name_start = w % 65536; name_len = w / 65536 % 32; category = c; text_role = r })) ≡ nth (entries t) k
+        Some (entry_of_info (record { name_start = w % 65536; name_len = w / 65536 % 32; category = c; text_role = r })) ≡ nth (entries t) k
     info-known c r e f =
         let g : category_of c ≡ there.entry.category = ap category_of e ∙ category-back (w / 2097152 % 8) (rw parts.category sound.category_low) ∙ parts.category in
         let i : role_of r ≡ there.entry.role = ap role_of f ∙ role-back (w / 16777216) (rw parts.role sound.role_low) ∙ parts.role in

@@ -3,7 +3,7 @@
 use mathlib.Core.Path.{◌≡◌, refl, sym, ◌∙◌}
 use mathlib.Core.Bool.{Bool, true, false, false≢true, ◌&&◌, ◌||◌}
 use mathlib.Core.List.{List, [], ◌∷◌}
-use mathlib.Core.Option.{some, none}
+use Rattle.std.specs.Prelude.{Some, None}
 use Prim.Native.Nat.{ℕ, suc, ◌+◌, ◌-◌, ◌*◌, ◌/◌, ◌<◌, ◌≤◌}
 use native.Mathlib.Numerals.{add-one}
 use native.Mathlib.Omega.{arith}
@@ -23,7 +23,7 @@ use Rattle.text.specs.Bytes.{equal, one_of}
 
 -- the first word that equals the list, and the words before it
 module _ (k : ℕ) (s : List ℕ) where
-  pub code-hit : (w : List ℕ) (ws l : List (List ℕ)) → l ≡ w ∷ ws → equal w s ≡ true → code_from k l s ≡ some k
+  pub code-hit : (w : List ℕ) (ws l : List (List ℕ)) → l ≡ w ∷ ws → equal w s ≡ true → code_from k l s ≡ Some k
   unfolding code_from
   code-hit w ws l f e = rw (f, e)
 
@@ -31,7 +31,7 @@ module _ (k : ℕ) (s : List ℕ) where
   unfolding code_from
   code-miss w ws l f e = rw (f, e, add-one)
 
-  pub code-none : (l : List (List ℕ)) → l ≡ [] → code_from k l s ≡ none
+  pub code-none : (l : List (List ℕ)) → l ≡ [] → code_from k l s ≡ None
   unfolding code_from
   code-none l f = rw f
 
@@ -40,7 +40,7 @@ unfolding one_of code_from
 one-of [] s k = refl
 one-of (w ∷ ws) s k = go (equal w s) (one-of ws s (suc k))
   where
-    go : (t : Bool) → one_of ws s ≡ known (code_from (suc k) ws s) → (t || one_of ws s) ≡ known (pick t (some k) (code_from (suc k) ws s))
+    go : (t : Bool) → one_of ws s ≡ known (code_from (suc k) ws s) → (t || one_of ws s) ≡ known (pick t (Some k) (code_from (suc k) ws s))
     go true e = refl
     go false e = e
 
@@ -73,12 +73,12 @@ pub record At (ws : List (List ℕ)) (s : List ℕ) (k p : ℕ) : Type 0 where
   pub inside : p < k + length ws
   pub there : one_of ws s ≡ true
 
-pub found : (ws : List (List ℕ)) (s : List ℕ) (k p : ℕ) → code_from k ws s ≡ some p → At ws s k p
+pub found : (ws : List (List ℕ)) (s : List ℕ) (k p : ℕ) → code_from k ws s ≡ Some p → At ws s k p
 unfolding one_of code_from position
 found [] s k p e = let z : ◌≡◌ {A = ℕ} 0 1 = cc in absurd (omega arith)
 found (w ∷ ws) s k p e = let g = go (equal w s) e (found ws s (suc k) p) in record { is = g.0; inside = g.1; there = g.2 }
   where
-    go : (t : Bool) → pick t (some k) (code_from (suc k) ws s) ≡ some p → (code_from (suc k) ws s ≡ some p → At ws s (suc k) p) →
+    go : (t : Bool) → pick t (Some k) (code_from (suc k) ws s) ≡ Some p → (code_from (suc k) ws s ≡ Some p → At ws s (suc k) p) →
         (p ≡ k + pick t 0 (suc (position ws s))) × (p < k + suc (length ws)) × ((t || one_of ws s) ≡ true)
     go true e ih = let z : k ≡ p = cc in (omega arith, omega arith, refl)
     go false e ih = let a = ih e in (omega arith, omega arith, a.there)

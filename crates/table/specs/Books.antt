@@ -1,8 +1,7 @@
 -- USFM's book identifiers, in the order of the Rust's `BOOK_CODES`, and `BookId::from_code`: a code's position, case-sensitive.
 use Rattle.std.specs.Prelude.{ℕ, suc, List, [], ◌∷◌}
-use Rattle.std.proofs.Math.Option.{Option, some, none}
-use Rattle.table.specs.declared.Book.{Book}
-use Rattle.table.specs.declared.Book.TheVariants as book
+use Rattle.std.specs.Prelude.{Option, Some, None}
+use Rattle.table.specs.declared.BookId.{BookId}
 use Rattle.text.specs.Pick.{pick}
 use Rattle.text.specs.Literal.{ascii}
 use Rattle.text.specs.Bytes.{equal}
@@ -138,12 +137,12 @@ book_codes =
 
 -- the position of the first code that equals the list, counted from k
 unfoldable pub code_from : ℕ → List (List ℕ) → List ℕ → Option ℕ
-code_from k [] s = none
-code_from k (c ∷ cs) s = pick (equal c s) (some k) (code_from (suc k) cs s)
+code_from k [] s = None
+code_from k (c ∷ cs) s = pick (equal c s) (Some k) (code_from (suc k) cs s)
 
 unfoldable pub book_of : List ℕ → Option ℕ
 book_of s = code_from 0 book_codes s
 
-abbrev pub id_of : Book → Option ℕ
-id_of (book.Known b) = some b.0
-id_of book.Unknown = none
+abbrev pub id_of : Option BookId → Option ℕ
+id_of (Some b) = Some b.0
+id_of None = None

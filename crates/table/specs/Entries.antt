@@ -1,17 +1,13 @@
 -- The entries of a table: "marker k is the k-th from 0".
 use Rattle.std.specs.Prelude.{ℕ, zero, suc, ◌+◌, ◌-◌, List, [], ◌∷◌, length}
-use Rattle.std.proofs.Math.Option.{Option, some, none}
+use Rattle.std.specs.Prelude.{Option, Some, None}
 use Rattle.text.specs.Pick.{Part, pick}
 use Rattle.table.specs.Lines.{Line, lines, categories, roles, category_key, role_key}
 use Rattle.table.specs.declared.Category.{Category}
 use Rattle.table.specs.declared.Category.TheVariants.{Identification, Chapter, Verse, Paragraph, Character, Note, Milestone, Other}
 use Rattle.table.specs.declared.TextRole.{TextRole}
 use Rattle.table.specs.declared.TextRole.TheVariants.{Content, Excluded, Boundary}
-use Rattle.table.specs.declared.Info.{Info}
-use Rattle.table.specs.declared.Info.TheVariants as info
 use Rattle.table.specs.declared.MarkerInfo.{MarkerInfo}
-use Rattle.table.specs.declared.Layout.{Layout}
-use Rattle.table.specs.declared.Layout.TheVariants as layout
 use Rattle.text.specs.Bytes.{equal, beyond}
 
 -- how many words stand before the first that equals the list
@@ -44,8 +40,8 @@ entries t = entries_of (lines 0 t)
 
 -- the k-th of a list, or none
 unfoldable pub nth : List Entry → ℕ → Option Entry
-nth [] k = none
-nth (e ∷ es) zero = some e
+nth [] k = None
+nth (e ∷ es) zero = Some e
 nth (e ∷ es) (suc k) = nth es k
 
 -- "`category=` (identification, chapter, verse, paragraph, character, note, milestone, other)"
@@ -103,11 +99,6 @@ abbrev pub entry_of_info : MarkerInfo → Entry
 entry_of_info m = record { name = record { start = m.name_start; len = m.name_len }; category = category_of m.category; role = role_of m.text_role }
 
 -- what `info` says: an entry, or that the number is past the table
-abbrev pub info_of : Info → Option Entry
-info_of (info.Known m) = some (entry_of_info m)
-info_of info.Missing = none
-
--- what the check of the layout says: number 1's place, or none
-abbrev pub layout_place : Layout → Option ℕ
-layout_place (layout.Good n) = none
-layout_place (layout.Bad at) = some at
+abbrev pub info_of : Option MarkerInfo → Option Entry
+info_of (Some m) = Some (entry_of_info m)
+info_of None = None

@@ -1,27 +1,22 @@
 -- What the functions inside the crate promise.
 use Rattle.std.specs.Prelude.{ℕ, zero, suc, ◌+◌, ◌*◌, ◌/◌, ◌%◌, ◌<◌, ◌≤◌, ◌-◌, ◌≡◌, Bool, true, false, ◌&&◌, List, [], ◌∷◌, eqb, ltb, length, take, drop, get_or}
-use Rattle.std.proofs.Math.Option.{Option, some, none}
+use Rattle.std.specs.Prelude.{Option, Some, None, Result, Ok, Err}
+use Rattle.refusals.specs.Refusal.{at_place, bad_table_layout}
+use Rattle.refusals.specs.declared.Refusal as code
+use Rattle.refusals.specs.Reasons.{refusal_of}
 use Rattle.text.specs.Pick.{Part, within, pick, cut}
 use Rattle.text.specs.Inner.{eight_bytes}
 use Rattle.text.specs.Characters.{find_byte}
 use Rattle.table.specs.Lines.{lines, name_key, category_key, role_key, categories, roles, name_byte, bad_from}
 use Rattle.table.specs.Entries.{Entry, entries_of, entries, nth}
-use Rattle.table.specs.declared.Value.{Value}
-use Rattle.table.specs.declared.Value.TheVariants as value
-use Rattle.table.specs.declared.Step.{Step}
-use Rattle.table.specs.declared.Step.TheVariants as step
-use Rattle.table.specs.declared.Marker.{Marker}
-use Rattle.table.specs.declared.Marker.TheVariants as marker
 use Rattle.table.specs.declared.DefaultAttribute.{DefaultAttribute}
-use Rattle.table.specs.declared.DefaultAttribute.TheVariants.{Lemma, Gloss, Href, Loc, LinkHref, Id, Who, NoDefault}
+use Rattle.table.specs.declared.DefaultAttribute.TheVariants.{Lemma, Gloss, Href, Loc, LinkHref, Id, Who}
 use Rattle.table.specs.declared.Category.{Category}
 use Rattle.table.specs.declared.Category.TheVariants.{Identification, Chapter, Verse, Paragraph, Character, Note, Milestone, Other}
 use Rattle.table.specs.declared.TextRole.{TextRole}
 use Rattle.table.specs.declared.TextRole.TheVariants.{Content, Excluded, Boundary}
 use Rattle.table.specs.Names.{stripped_length, glued_digit, entry_named}
 use Rattle.table.specs.Books.{code_from}
-use Rattle.table.specs.declared.Layout.{Layout}
-use Rattle.table.specs.declared.Layout.TheVariants as layout
 use Rattle.text.specs.Bytes.{all, starting, beyond}
 
 -- the words of a list in which byte 10 ends each
@@ -43,26 +38,26 @@ triples (a ∷ b ∷ c ∷ l) = (a ∷ b ∷ c ∷ []) ∷ triples l
 
 -- what a good line says behind its key: the name's length, or the position of the word among the words
 abbrev pub name_length : List ℕ → Option ℕ
-name_length s = pick (within 1 16 (length s) && all name_byte s) (some (length s)) none
+name_length s = pick (within 1 16 (length s) && all name_byte s) (Some (length s)) None
 
 -- what a line says that begins with a key
 abbrev pub keyed : List ℕ → (List ℕ → Option ℕ) → List ℕ → Option ℕ
-keyed key value s = pick (starting key s) (value (beyond key s)) none
+keyed key value s = pick (starting key s) (value (beyond key s)) None
 
 abbrev pub line_value : ℕ → List ℕ → Option ℕ
 line_value zero s = keyed name_key name_length s
 line_value (suc zero) s = keyed category_key (code_from 0 categories) s
 line_value (suc (suc j)) s = keyed role_key (code_from 0 roles) s
 
-abbrev pub value_of : Value → Option ℕ
-value_of (value.Known n) = some n
-value_of value.Unknown = none
+-- what a good line says: its value, and the place past it
+abbrev pub Step : Type 0
+Step = Option (ℕ × ℕ)
 
 -- the line at the head of a text: its value and the place past it, if byte 10 ends it and it is good
 abbrev pub step_by : Bool → Option ℕ → ℕ → Step
-step_by true (some v) next = step.Good v next
-step_by true none next = step.Bad
-step_by false o next = step.Bad
+step_by true (Some v) next = Some (v, next)
+step_by true None next = None
+step_by false o next = None
 
 abbrev pub step_with : (List ℕ → Option ℕ) → ℕ → List ℕ → Step
 step_with value at l = step_by (ltb (find_byte (eqb 10) l) (length l)) (value (take (find_byte (eqb 10) l) l)) (at + find_byte (eqb 10) l + 1)
@@ -72,13 +67,13 @@ step_of j at l = step_with (line_value j) at l
 
 -- the step of a line at a place, its end counted from the start of the table
 abbrev pub further : ℕ → Step → Step
-further at (step.Good v n) = step.Good v (at + n)
-further at step.Bad = step.Bad
+further at (Some (v, n)) = Some (v, at + n)
+further at None = None
 
 -- the end that a step counts
 abbrev pub past_of : Step → ℕ
-past_of (step.Good v n) = n
-past_of step.Bad = 0
+past_of (Some (v, n)) = n
+past_of None = 0
 
 -- the first eight bytes as a number, or 0 where there are fewer
 abbrev pub head_of : List ℕ → ℕ
@@ -116,9 +111,9 @@ pub record LinesGood (t : List ℕ) (at : ℕ) (w next : ℕ) : Type 0 where
   pub good : (m : ℕ) → m < 512 → bad_from (length t) (3 * m) (lines at (drop at t)) ≡ bad_from (length t) (3 * (m + 1)) (lines next (drop next t))
   pub first : entries_of (lines at (drop at t)) ≡ entry ∷ entries_of (lines next (drop next t))
 
-abbrev pub LinesRead : List ℕ → ℕ → Marker → Type 0
-LinesRead t at (marker.Good w next) = LinesGood t at w next
-LinesRead t at (marker.Bad p) = (m : ℕ) → m < 512 → bad_from (length t) (3 * m) (lines at (drop at t)) ≡ some p
+abbrev pub LinesRead : List ℕ → ℕ → Result (ℕ × ℕ) code.Refusal → Type 0
+LinesRead t at (Ok p) = LinesGood t at p.0 p.1
+LinesRead t at (Err r) = (m : ℕ) → m < 512 → at_place bad_table_layout (bad_from (length t) (3 * m) (lines at (drop at t))) ≡ Some (refusal_of r)
 
 -- the attribute of w, wa, wg, wh, rb, xt, ref, jmp, periph, by the name's position
 abbrev pub attribute_at : ℕ → DefaultAttribute
@@ -132,9 +127,9 @@ attribute_at (suc (suc (suc (suc (suc (suc zero)))))) = Loc
 attribute_at (suc (suc (suc (suc (suc (suc (suc zero))))))) = LinkHref
 attribute_at (suc (suc (suc (suc (suc (suc (suc (suc k)))))))) = Id
 
-abbrev pub attribute_by : Option ℕ → Bool → DefaultAttribute
-attribute_by (some p) q = attribute_at p
-attribute_by none q = pick q Who NoDefault
+abbrev pub attribute_by : Option ℕ → Bool → Option DefaultAttribute
+attribute_by (Some p) q = Some (attribute_at p)
+attribute_by None q = pick q (Some Who) None
 
 -- the category and the role at a position of their lists
 abbrev pub category_at : ℕ → Category
@@ -154,23 +149,23 @@ role_at (suc (suc k)) = Boundary
 
 -- the second and the third way to look a name up
 abbrev pub stripped : List ℕ → List ℕ → Option ℕ
-stripped t s = pick (ltb (stripped_length s) (length s)) (entry_named t (take (stripped_length s) s)) none
+stripped t s = pick (ltb (stripped_length s) (length s)) (entry_named t (take (stripped_length s) s)) None
 
 abbrev pub unglued : List ℕ → List ℕ → Option ℕ
-unglued t s = pick (glued_digit s) (entry_named t (take 1 s)) none
+unglued t s = pick (glued_digit s) (entry_named t (take 1 s)) None
 
 -- the first n words of the index are the table's entries, in order, and there are no others
 pub record Indexed (t ix : List ℕ) (n : ℕ) : Type 0 where
   pub count : n ≡ length (entries t)
   pub few : n ≤ 512
   pub room : n ≤ length ix
-  pub each : (k : ℕ) (e : Entry) → nth (entries t) k ≡ some e → get_or ix k 0 ≡ pack e
-  pub sound : (k : ℕ) (e : Entry) → nth (entries t) k ≡ some e → Sound t e
+  pub each : (k : ℕ) (e : Entry) → nth (entries t) k ≡ Some e → get_or ix k 0 ≡ pack e
+  pub sound : (k : ℕ) (e : Entry) → nth (entries t) k ≡ Some e → Sound t e
 
 -- what it leaves in the index where there is none
-abbrev pub leaves : List ℕ → List ℕ → Layout → Type 0
-leaves t ix (layout.Good n) = Indexed t ix n
-leaves t ix (layout.Bad at) = Unit {0}
+abbrev pub leaves : List ℕ → List ℕ → Result ℕ code.Refusal → Type 0
+leaves t ix (Ok n) = Indexed t ix n
+leaves t ix (Err r) = Unit {0}
 
 -- where the name stands that an entry's word holds
 abbrev pub name_in : ℕ → Part
@@ -182,8 +177,8 @@ bucket_of s = (5 * get_or s 0 0 + get_or s (length s / 2) 0 + 8 * get_or s (leng
 
 -- the number of the first entry whose name has the bucket, counted from k
 unfoldable pub bucket_from : List ℕ → ℕ → List Entry → ℕ → Option ℕ
-bucket_from t k [] h = none
-bucket_from t k (e ∷ es) h = pick (eqb (bucket_of (cut e.name t)) h) (some k) (bucket_from t (suc k) es h)
+bucket_from t k [] h = None
+bucket_from t k (e ∷ es) h = pick (eqb (bucket_of (cut e.name t)) h) (Some k) (bucket_from t (suc k) es h)
 
 -- the first entry, from number j on, whose name has bucket h
 abbrev pub first_from : List ℕ → ℕ → ℕ → Option ℕ
@@ -191,8 +186,8 @@ first_from t h j = bucket_from t j (drop j (entries t)) h
 
 -- an entry or none as one number
 abbrev pub link_of : Option ℕ → ℕ
-link_of none = 0
-link_of (some k) = k + 1
+link_of None = 0
+link_of (Some k) = k + 1
 
 -- the first n numbers are 0
 abbrev pub Cleared : ℕ → List ℕ → Type 0
@@ -202,4 +197,4 @@ Cleared n l = (h : ℕ) → h < n → get_or l h 0 ≡ 0
 pub record Chained (t chains : List ℕ) : Type 0 where
   pub room : 768 ≤ length chains
   pub heads : (h : ℕ) → h < 256 → get_or chains h 0 ≡ link_of (first_from t h 0)
-  pub nexts : (k : ℕ) (e : Entry) → nth (entries t) k ≡ some e → get_or chains (256 + k) 0 ≡ link_of (first_from t (bucket_of (cut e.name t)) (k + 1))
+  pub nexts : (k : ℕ) (e : Entry) → nth (entries t) k ≡ Some e → get_or chains (256 + k) 0 ≡ link_of (first_from t (bucket_of (cut e.name t)) (k + 1))

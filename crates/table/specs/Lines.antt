@@ -1,7 +1,7 @@
 -- Document 01, "Lent lists": "Table: per marker three lines, each ended by byte 10, in this order: `name=` (1 to 16 ASCII letters, digits, hyphens), `category=` (identification, chapter, verse, paragraph, character, note, milestone, other), `role=` (content, excluded, boundary); at most 512 markers, the 513th's first line and a line without its byte 10 counting as bad".
 -- Number 1: "The table text breaks its layout; place: first byte of the first bad line, or the text's length if a triple is unfinished."
 use Rattle.std.specs.Prelude.{ℕ, zero, suc, ◌%◌, Bool, true, false, ◌&&◌, ◌||◌, List, [], ◌∷◌, eqb, ltb, length}
-use Rattle.std.proofs.Math.Option.{Option, some, none}
+use Rattle.std.specs.Prelude.{Option, Some, None}
 use Rattle.text.specs.Pick.{within, pick}
 use Rattle.text.specs.Literal.{ascii}
 use Rattle.text.specs.Bytes.{all, one_of, starting, beyond}
@@ -83,8 +83,8 @@ good_line k l = ltb k 1536 && (l.ended && good_body (k % 3) l.body)
 
 -- the place of the first bad line from line number k on; where there is none, the end of the text if a triple is unfinished
 unfoldable pub bad_from : ℕ → ℕ → List Line → Option ℕ
-bad_from end k [] = pick (eqb (k % 3) 0) none (some end)
-bad_from end k (l ∷ ls) = pick (good_line k l) (bad_from end (suc k) ls) (some l.at)
+bad_from end k [] = pick (eqb (k % 3) 0) None (Some end)
+bad_from end k (l ∷ ls) = pick (good_line k l) (bad_from end (suc k) ls) (Some l.at)
 
 -- number 1's place, or none
 unfoldable pub bad_table : List ℕ → Option ℕ

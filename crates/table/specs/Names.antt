@@ -1,21 +1,20 @@
 -- `lookup`, `strip_level_suffix`, `default_attribute`, and the names that some checks test for.
 -- Document 01, module 3: "`lookup`: exact name; else without `strip_level_suffix`; else `v` or `c` before a digit. First equal name counts."
 use Rattle.std.specs.Prelude.{ℕ, zero, suc, ◌-◌, Bool, ◌&&◌, ◌||◌, List, [], ◌∷◌, eqb, ltb, length, get_or, take}
-use Rattle.std.proofs.Math.Option.{Option, some, none}
+use Rattle.std.specs.Prelude.{Option, Some, None}
 use Rattle.text.specs.Pick.{cut, pick}
 use Rattle.text.specs.Number.{digit}
 use Rattle.table.specs.Entries.{Entry, entries}
-use Rattle.table.specs.declared.Lookup.{Lookup}
-use Rattle.table.specs.declared.Lookup.TheVariants as lookup
+use Rattle.table.specs.declared.MarkerId.{MarkerId}
 use Rattle.table.specs.declared.DefaultAttribute.{DefaultAttribute}
-use Rattle.table.specs.declared.DefaultAttribute.TheVariants.{Lemma, Gloss, Href, Loc, LinkHref, Id, Who, NoDefault}
+use Rattle.table.specs.declared.DefaultAttribute.TheVariants.{Lemma, Gloss, Href, Loc, LinkHref, Id, Who}
 use Rattle.text.specs.Literal.{ascii}
 use Rattle.text.specs.Bytes.{equal, one_of, starting}
 
 -- the number of the first entry that has the name, counted from k
 unfoldable pub named_from : List ℕ → ℕ → List Entry → List ℕ → Option ℕ
-named_from t k [] s = none
-named_from t k (e ∷ es) s = pick (equal (cut e.name t) s) (some k) (named_from t (suc k) es s)
+named_from t k [] s = None
+named_from t k (e ∷ es) s = pick (equal (cut e.name t) s) (Some k) (named_from t (suc k) es s)
 
 abbrev pub entry_named : List ℕ → List ℕ → Option ℕ
 entry_named t s = named_from t 0 (entries t) s
@@ -43,8 +42,8 @@ unfoldable pub stripped_length : List ℕ → ℕ
 stripped_length s = stripped_by (undigited (take (tail_off s) s)) (tail_off s) (length s)
 
 abbrev pub first_known : Option ℕ → Option ℕ → Option ℕ
-first_known (some n) other = some n
-first_known none other = other
+first_known (Some n) other = Some n
+first_known None other = other
 
 -- `v` or `c`, and a digit after it
 abbrev pub glued_digit : List ℕ → Bool
@@ -53,12 +52,12 @@ glued_digit s = ltb 1 (length s) && ((eqb (get_or s 0 0) 118 || eqb (get_or s 0 
 unfoldable pub looked_up : List ℕ → List ℕ → Option ℕ
 looked_up t s =
     first_known (entry_named t s)
-    (first_known (pick (ltb (stripped_length s) (length s)) (entry_named t (take (stripped_length s) s)) none)
-    (pick (glued_digit s) (entry_named t (take 1 s)) none))
+    (first_known (pick (ltb (stripped_length s) (length s)) (entry_named t (take (stripped_length s) s)) None)
+    (pick (glued_digit s) (entry_named t (take 1 s)) None))
 
-abbrev pub found_of : Lookup → Option ℕ
-found_of (lookup.Found m) = some m.0
-found_of lookup.Unknown = none
+abbrev pub found_of : Option MarkerId → Option ℕ
+found_of (Some m) = Some m.0
+found_of None = None
 
 -- w, wa, wg, wh
 unfoldable pub lemma_names : List (List ℕ)
@@ -90,24 +89,24 @@ qt = ascii "qt"
 -- the Rust's `default_attribute`: the name of the attribute that a marker's bare value sets, if there is one
 unfoldable pub default_name : List ℕ → Option (List ℕ)
 default_name s =
-    pick (one_of lemma_names s) (some (ascii "lemma"))
-    (pick (equal rb s) (some (ascii "gloss"))
-    (pick (equal xt s) (some (ascii "href"))
-    (pick (equal ref s) (some (ascii "loc"))
-    (pick (equal jmp s) (some (ascii "link-href"))
-    (pick (equal periph s) (some (ascii "id"))
-    (pick (starting qt s) (some (ascii "who")) none))))))
+    pick (one_of lemma_names s) (Some (ascii "lemma"))
+    (pick (equal rb s) (Some (ascii "gloss"))
+    (pick (equal xt s) (Some (ascii "href"))
+    (pick (equal ref s) (Some (ascii "loc"))
+    (pick (equal jmp s) (Some (ascii "link-href"))
+    (pick (equal periph s) (Some (ascii "id"))
+    (pick (starting qt s) (Some (ascii "who")) None))))))
 
 -- what the answer says
-abbrev pub attribute_name : DefaultAttribute → Option (List ℕ)
-attribute_name Lemma = some (ascii "lemma")
-attribute_name Gloss = some (ascii "gloss")
-attribute_name Href = some (ascii "href")
-attribute_name Loc = some (ascii "loc")
-attribute_name LinkHref = some (ascii "link-href")
-attribute_name Id = some (ascii "id")
-attribute_name Who = some (ascii "who")
-attribute_name NoDefault = none
+abbrev pub attribute_name : Option DefaultAttribute → Option (List ℕ)
+attribute_name (Some Lemma) = Some (ascii "lemma")
+attribute_name (Some Gloss) = Some (ascii "gloss")
+attribute_name (Some Href) = Some (ascii "href")
+attribute_name (Some Loc) = Some (ascii "loc")
+attribute_name (Some LinkHref) = Some (ascii "link-href")
+attribute_name (Some Id) = Some (ascii "id")
+attribute_name (Some Who) = Some (ascii "who")
+attribute_name None = None
 
 -- FRT, INT, BAK, OTH, CNC, GLO, TDX, NDX: the Rust's `is_front_matter_code`
 unfoldable pub front_matter : List (List ℕ)

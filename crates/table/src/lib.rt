@@ -2,17 +2,21 @@
 #![tactic(auto)]
 
 ghost use Rattle.std.specs.Prelude.{◌≡◌, ◌+◌, ◌^◌, ◌<◌, ◌≤◌, not, length, drop, take};
-ghost use Rattle.std.proofs.Math.Option.{some};
+ghost use Rattle.std.specs.Prelude.{Some};
 ghost use Rattle.text.specs.Pick;
-ghost use Rattle.text.specs.Pick.{cut, known};
+ghost use Rattle.text.specs.Pick.{cut};
 ghost use Rattle.text.specs.Characters.{find_byte};
 ghost use Rattle.table.specs.Lines.{name_byte, categories, roles, bad_table};
 ghost use Rattle.table.specs.Entries;
-ghost use Rattle.table.specs.Entries.{nth, info_of, entry_of_info, layout_place, category_of, role_of};
+ghost use Rattle.table.specs.Entries.{nth, info_of, entry_of_info, category_of, role_of};
 ghost use Rattle.table.specs.Names.{undigited, stripped_length, tail_off, entry_named, looked_up, found_of, default_name, attribute_name, front_matter, note_only, glued_digit};
 ghost use Rattle.table.specs.Books.{code_from, book_of, id_of};
-ghost use Rattle.table.specs.Inner.{lines_of, triples, name_length, value_of, step_by, step_with, behind_key, step_of, head_of, further, past_of, LinesRead, attribute_at, category_at, role_at, stripped, unglued, Indexed, leaves, name_in, bucket_of, Cleared, Chained};
+ghost use Rattle.table.specs.Inner.{lines_of, triples, name_length, step_by, step_with, behind_key, step_of, head_of, further, past_of, LinesRead, attribute_at, category_at, role_at, stripped, unglued, Indexed, leaves, name_in, bucket_of, Cleared, Chained};
 ghost use Rattle.text.specs.Bytes.{one_of, starting};
+ghost use Rattle.refusals.specs.Refusal.{at_place, bad_table_layout};
+ghost use Rattle.refusals.specs.Reasons.{refusal_in};
+
+use refusals::{Reason, Refusal};
 
 // A place in the marker table.
 #[derive(Clone, Copy)]
@@ -73,32 +77,6 @@ pub struct MarkerInfo {
     pub text_role: TextRole,
 }
 
-// What a marker number stands for.
-#[derive(Clone, Copy)]
-pub enum Info {
-    Known(MarkerInfo),
-    Missing,
-}
-
-// What the check of the layout finds: the number of entries, or the place of number 1.
-#[derive(Clone, Copy)]
-pub enum Layout {
-    Good(usize),
-    Bad(usize),
-}
-
-#[derive(Clone, Copy)]
-pub enum Lookup {
-    Found(MarkerId),
-    Unknown,
-}
-
-#[derive(Clone, Copy)]
-pub enum Book {
-    Known(BookId),
-    Unknown,
-}
-
 // The attribute that a marker's bare value sets.
 #[derive(Clone, Copy)]
 pub enum DefaultAttribute {
@@ -109,28 +87,6 @@ pub enum DefaultAttribute {
     LinkHref,
     Id,
     Who,
-    NoDefault,
-}
-
-// The position of a word in a list, or a name's length, if there is one.
-#[derive(Clone, Copy)]
-enum Value {
-    Known(usize),
-    Unknown,
-}
-
-// A good line's value and the place of the next line.
-#[derive(Clone, Copy)]
-enum Step {
-    Good(usize, usize),
-    Bad,
-}
-
-// An entry in one word and the place of the next marker, or the place of a bad line.
-#[derive(Clone, Copy)]
-enum Marker {
-    Good(u64, usize),
-    Bad(usize),
 }
 
 const BOOK_CODES: [u8; 348] =
@@ -157,18 +113,9 @@ const EXCLUDED_WORD: u64 = 7234298831932979301;
 
 const BOUNDARY_WORD: u64 = 8751164109912108898;
 
-fn is_known(v: Value) -> bool
-    ensures { result ≡ known (value_of v) }
-{
-    match v {
-        Value::Known(k) => true,
-        Value::Unknown => false,
-    }
-}
-
 // The position in a list of codes, each of three bytes.
-fn code_in(codes: &[u8], s: &[u8]) -> Value
-    ensures { value_of result ≡ code_from 0 (triples codes.now) s.now }
+fn code_in(codes: &[u8], s: &[u8]) -> Option<usize>
+    ensures { result ≡ code_from 0 (triples codes.now) s.now }
 {
     let n = codes.len() / 3;
     let mut k: usize = 0;
@@ -176,16 +123,16 @@ fn code_in(codes: &[u8], s: &[u8]) -> Value
         let at = 3 * k;
         let end = at + 3;
         if text::equal(&codes[at..end], s) {
-            return Value::Known(k);
+            return Some(k);
         }
         k += 1;
     }
-    Value::Unknown
+    None
 }
 
 // The position in a list of words, each ended by byte 10.
-fn word_in(words: &[u8], s: &[u8]) -> Value
-    ensures { value_of result ≡ code_from 0 (lines_of words.now) s.now }
+fn word_in(words: &[u8], s: &[u8]) -> Option<usize>
+    ensures { result ≡ code_from 0 (lines_of words.now) s.now }
 {
     let mut at: usize = 0;
     let mut k: usize = 0;
@@ -193,30 +140,28 @@ fn word_in(words: &[u8], s: &[u8]) -> Value
         let rest = &words[at..];
         let n = text::find_byte(rest, 10);
         if text::equal(&rest[..n], s) {
-            return Value::Known(k);
+            return Some(k);
         }
         at = at + n + 1;
         k += 1;
     }
-    Value::Unknown
+    None
 }
 
 impl BookId {
     // The book that a code stands for.
-    pub fn from_code(code: &[u8]) -> Book
+    pub fn from_code(code: &[u8]) -> Option<BookId>
         ensures { id_of result ≡ book_of code.now }
     {
-        match code_in(&BOOK_CODES, code) {
-            Value::Known(k) => Book::Known(BookId(k as u8)),
-            Value::Unknown => Book::Unknown,
-        }
+        let k = code_in(&BOOK_CODES, code)?;
+        Some(BookId(k as u8))
     }
 }
 
 pub fn is_front_matter_code(code: &[u8]) -> bool
     ensures { result ≡ one_of front_matter code.now }
 {
-    is_known(code_in(b"FRTINTBAKOTHCNCGLOTDXNDX", code))
+    code_in(b"FRTINTBAKOTHCNCGLOTDXNDX", code).is_some()
 }
 
 pub fn is_note_only_marker(name: &[u8]) -> bool
@@ -232,10 +177,11 @@ pub fn is_note_only_marker(name: &[u8]) -> bool
             return false;
         }
     }
-    is_known(word_in(
+    word_in(
         b"fr\nft\nfk\nfq\nfqa\nfl\nfw\nfp\nfv\nfdc\nxop\nxot\nxnt\nxdc\n",
         name,
-    ))
+    )
+    .is_some()
 }
 
 fn attribute(p: usize) -> DefaultAttribute
@@ -251,15 +197,15 @@ fn attribute(p: usize) -> DefaultAttribute
     }
 }
 
-pub fn default_attribute(name: &[u8]) -> DefaultAttribute
+pub fn default_attribute(name: &[u8]) -> Option<DefaultAttribute>
     ensures { attribute_name result ≡ default_name name.now }
 {
     match word_in(b"w\nwa\nwg\nwh\nrb\nxt\nref\njmp\nperiph\n", name) {
-        Value::Known(p) => attribute(p),
-        Value::Unknown => if text::starts_with(name, b"qt") {
-            DefaultAttribute::Who
+        Some(p) => Some(attribute(p)),
+        None => if text::starts_with(name, b"qt") {
+            Some(DefaultAttribute::Who)
         } else {
-            DefaultAttribute::NoDefault
+            None
         },
     }
 }
@@ -349,36 +295,36 @@ fn head(s: &[u8]) -> u64
 }
 
 // What a line says whose first eight bytes are a word's, if the word's other bytes stand behind them.
-fn tail_step(s: &[u8], tail: &[u8], value: usize, next: usize) -> Step
+fn tail_step(s: &[u8], tail: &[u8], value: usize, next: usize) -> Option<(usize, usize)>
     requires { 8 ≤ length s.now }
-    ensures { result ≡ step_by (starting tail.now (drop 8 s.now)) (some value) next }
+    ensures { result ≡ step_by (starting tail.now (drop 8 s.now)) (Some value) next }
 {
     if text::starts_with(&s[8..], tail) {
-        return Step::Good(value, next);
+        return Some((value, next));
     }
-    Step::Bad
+    None
 }
 
 // What a name's line says, from behind its key on. No name byte is byte 10, so that the search for the end of the name finds the end of the line.
-fn name_step(s: &[u8]) -> Step
+fn name_step(s: &[u8]) -> Option<(usize, usize)>
     ensures { result ≡ step_with name_length 5 s.now }
 {
     let n = name_len(s);
     if n == s.len() {
-        return Step::Bad;
+        return None;
     }
     if s[n] != 10 {
-        return Step::Bad;
+        return None;
     }
     match n {
-        1..=16 => Step::Good(n, n + 6),
-        _ => Step::Bad,
+        1..=16 => Some((n, n + 6)),
+        _ => None,
     }
 }
 
 // The same of a category's. The second number counts the key, the word and byte 10.
 // Compared with byte 10 behind it, a word needs no search for the end of the line. The first eight bytes, as one number, distinguish most words.
-fn category_step(s: &[u8]) -> Step
+fn category_step(s: &[u8]) -> Option<(usize, usize)>
     ensures { result ≡ step_with (code_from 0 categories) 9 s.now }
 {
     let w = head(s);
@@ -395,27 +341,27 @@ fn category_step(s: &[u8]) -> Step
         return tail_step(s, b"cation\n", 0, 24);
     }
     if w == CHAPTER_WORD {
-        return Step::Good(1, 17);
+        return Some((1, 17));
     }
     if text::starts_with(s, b"verse\n") {
-        return Step::Good(2, 15);
+        return Some((2, 15));
     }
     if text::starts_with(s, b"note\n") {
-        return Step::Good(5, 14);
+        return Some((5, 14));
     }
     if text::starts_with(s, b"other\n") {
-        return Step::Good(7, 15);
+        return Some((7, 15));
     }
-    Step::Bad
+    None
 }
 
 // The same of a role's.
-fn role_step(s: &[u8]) -> Step
+fn role_step(s: &[u8]) -> Option<(usize, usize)>
     ensures { result ≡ step_with (code_from 0 roles) 5 s.now }
 {
     let w = head(s);
     if w == CONTENT_WORD {
-        return Step::Good(0, 13);
+        return Some((0, 13));
     }
     if w == EXCLUDED_WORD {
         return tail_step(s, b"\n", 1, 14);
@@ -423,7 +369,7 @@ fn role_step(s: &[u8]) -> Step
     if w == BOUNDARY_WORD {
         return tail_step(s, b"\n", 2, 14);
     }
-    Step::Bad
+    None
 }
 
 // What follows a key, or nothing where the text does not begin with it, since an empty text has no good line.
@@ -438,18 +384,18 @@ fn behind<'a>(s: &'a [u8], key: &[u8]) -> &'a [u8]
 }
 
 // What a line at a place says, its end counted from the start of the table.
-fn moved(at: usize, step: Step) -> Step
+fn moved(at: usize, step: Option<(usize, usize)>) -> Option<(usize, usize)>
     requires { at + past_of step < 2 ^ 64 }
     ensures { result ≡ further at step }
 {
     match step {
-        Step::Good(v, n) => Step::Good(v, at + n),
-        Step::Bad => Step::Bad,
+        Some((v, n)) => Some((v, at + n)),
+        None => None,
     }
 }
 
 // The first line of a marker, at a place of the table. Each line has its own function, so that the compiler knows what it is compared with.
-fn name_line(table: &[u8], at: usize) -> Step
+fn name_line(table: &[u8], at: usize) -> Option<(usize, usize)>
     requires { at ≤ length table.now }
     ensures { result ≡ step_of 0 at (drop at table.now) }
 {
@@ -457,7 +403,7 @@ fn name_line(table: &[u8], at: usize) -> Step
 }
 
 // The second.
-fn category_line(table: &[u8], at: usize) -> Step
+fn category_line(table: &[u8], at: usize) -> Option<(usize, usize)>
     requires { at ≤ length table.now }
     ensures { result ≡ step_of 1 at (drop at table.now) }
 {
@@ -465,7 +411,7 @@ fn category_line(table: &[u8], at: usize) -> Step
 }
 
 // The third.
-fn role_line(table: &[u8], at: usize) -> Step
+fn role_line(table: &[u8], at: usize) -> Option<(usize, usize)>
     requires { at ≤ length table.now }
     ensures { result ≡ step_of 2 at (drop at table.now) }
 {
@@ -474,48 +420,39 @@ fn role_line(table: &[u8], at: usize) -> Step
 
 // A text that ends within a marker has its next line at its end, where no byte 10 follows.
 // The place is low enough that the start of the name takes 16 bits of the word.
-fn marker_at(table: &[u8], at: usize) -> Marker
+fn marker_at(table: &[u8], at: usize) -> Result<(u64, usize), Refusal>
     requires { (at < length table.now) × (at < 65000) }
     ensures { LinesRead table.now at result }
 {
-    let Step::Good(len, second) = name_line(table, at) else {
-        return Marker::Bad(at);
-    };
-    let Step::Good(category, third) = category_line(table, second) else {
-        return Marker::Bad(second);
-    };
-    let Step::Good(role, next) = role_line(table, third) else {
-        return Marker::Bad(third);
-    };
+    let reason = Reason::BadTableLayout;
+    let (len, second) = name_line(table, at).ok_or(reason.at(at))?;
+    let (category, third) = category_line(table, second).ok_or(reason.at(second))?;
+    let (role, next) = role_line(table, third).ok_or(reason.at(third))?;
     let start = (at + 5) as u64;
-    Marker::Good(
+    Ok((
         start + 65536 * (len as u64 + 32 * (category as u64 + 8 * role as u64)),
         next,
-    )
+    ))
 }
 
-// Checks the layout of a table and writes its entries to the index, a word each.
-pub fn index(table: &[u8], index: &mut [u64]) -> Layout
+// Number 1: checks the layout of a table and writes its entries to the index, a word each. Gives how many entries it has.
+pub fn index(table: &[u8], index: &mut [u64]) -> Result<usize, Refusal>
     requires { 512 ≤ length index.old }
-    ensures place { layout_place result ≡ bad_table table.now }
+    ensures refusal { refusal_in result ≡ at_place bad_table_layout (bad_table table.now) }
     ensures entries { leaves table.now index.new result }
 {
     let mut at: usize = 0;
     let mut k: usize = 0;
     while at < table.len() {
         if k == 512 {
-            return Layout::Bad(at);
+            return Err(Reason::BadTableLayout.at(at));
         }
-        match marker_at(table, at) {
-            Marker::Good(word, next) => {
-                index[k] = word;
-                k += 1;
-                at = next;
-            }
-            Marker::Bad(place) => return Layout::Bad(place),
-        }
+        let (word, next) = marker_at(table, at)?;
+        index[k] = word;
+        k += 1;
+        at = next;
     }
-    Layout::Good(k)
+    Ok(k)
 }
 
 fn category_of(n: u64) -> Category
@@ -632,7 +569,13 @@ pub fn link_names(table: &[u8], index: &[u64], entries: usize, chains: &mut [u16
 }
 
 // The first entry of that name, found among those of the name's bucket alone.
-fn find_name(table: &[u8], index: &[u64], entries: usize, chains: &[u16], name: &[u8]) -> Lookup
+fn find_name(
+    table: &[u8],
+    index: &[u64],
+    entries: usize,
+    chains: &[u16],
+    name: &[u8],
+) -> Option<MarkerId>
     requires { Indexed table.now index.now entries × Chained table.now chains.now }
     ensures { found_of result ≡ entry_named table.now name.now }
 {
@@ -640,14 +583,20 @@ fn find_name(table: &[u8], index: &[u64], entries: usize, chains: &[u16], name: 
     while 0 < link {
         let k = link - 1;
         if text::equal(name_in(table, index[k]), name) {
-            return Lookup::Found(MarkerId(k as u16));
+            return Some(MarkerId(k as u16));
         }
         link = chains[256 + k] as usize;
     }
-    Lookup::Unknown
+    None
 }
 
-fn find_stripped(table: &[u8], index: &[u64], entries: usize, chains: &[u16], name: &[u8]) -> Lookup
+fn find_stripped(
+    table: &[u8],
+    index: &[u64],
+    entries: usize,
+    chains: &[u16],
+    name: &[u8],
+) -> Option<MarkerId>
     requires { Indexed table.now index.now entries × Chained table.now chains.now }
     ensures { found_of result ≡ stripped table.now name.now }
 {
@@ -655,7 +604,7 @@ fn find_stripped(table: &[u8], index: &[u64], entries: usize, chains: &[u16], na
     if base.len() < name.len() {
         find_name(table, index, entries, chains, base)
     } else {
-        Lookup::Unknown
+        None
     }
 }
 
@@ -676,32 +625,38 @@ fn is_glued(s: &[u8]) -> bool
     }
 }
 
-fn find_glued(table: &[u8], index: &[u64], entries: usize, chains: &[u16], name: &[u8]) -> Lookup
+fn find_glued(
+    table: &[u8],
+    index: &[u64],
+    entries: usize,
+    chains: &[u16],
+    name: &[u8],
+) -> Option<MarkerId>
     requires { Indexed table.now index.now entries × Chained table.now chains.now }
     ensures { found_of result ≡ unglued table.now name.now }
 {
     if is_glued(name) {
         find_name(table, index, entries, chains, &name[..1])
     } else {
-        Lookup::Unknown
+        None
     }
 }
 
 // Functions of a type, since the names of free functions may not be those of the enums in lower case.
 impl MarkerId {
     // What a marker number stands for.
-    pub fn info(table: &[u8], index: &[u64], entries: usize, id: MarkerId) -> Info
+    pub fn info(table: &[u8], index: &[u64], entries: usize, id: MarkerId) -> Option<MarkerInfo>
         requires { Indexed table.now index.now entries }
         ensures { info_of result ≡ nth (Entries.entries table.now) id.0 }
     {
         let k = id.0 as usize;
         if entries <= k {
-            return Info::Missing;
+            return None;
         }
         let w = index[k];
         let category = category_of(w / 2097152 % 8);
         let text_role = role_of(w / 16777216);
-        Info::Known(MarkerInfo {
+        Some(MarkerInfo {
             name_start: (w % 65536) as usize,
             name_len: (w / 65536 % 32) as usize,
             category,
@@ -716,16 +671,16 @@ impl MarkerId {
         entries: usize,
         chains: &[u16],
         name: &[u8],
-    ) -> Lookup
+    ) -> Option<MarkerId>
         requires { Indexed table.now index.now entries × Chained table.now chains.now }
         ensures { found_of result ≡ looked_up table.now name.now }
     {
-        match find_name(table, index, entries, chains, name) {
-            Lookup::Found(id) => Lookup::Found(id),
-            Lookup::Unknown => match find_stripped(table, index, entries, chains, name) {
-                Lookup::Found(id) => Lookup::Found(id),
-                Lookup::Unknown => find_glued(table, index, entries, chains, name),
-            },
+        if let Some(id) = find_name(table, index, entries, chains, name) {
+            return Some(id);
         }
+        if let Some(id) = find_stripped(table, index, entries, chains, name) {
+            return Some(id);
+        }
+        find_glued(table, index, entries, chains, name)
     }
 }

@@ -6,7 +6,7 @@ use native.Mathlib.Nat.{add-zero, zero-add}
 use native.Mathlib.Decide.{dec_lt}
 use mathlib.Core.Path.{◌≡◌, refl}
 use mathlib.Core.List.{List}
-use mathlib.Core.Option.{none}
+use Rattle.std.specs.Prelude.{None}
 use lib.Dec.{eqb, ltb}
 use borrow.Author.Tests.{eq-eqb, ne_eqb, lt-ltb, le-ltb}
 use Rattle.tally.specs.Tally.{code_at, tally_refusal, with_code, counts_from, tally_of, sum}
@@ -50,5 +50,5 @@ unfolding below
 all-below l c zero h = refl
 all-below l c (suc k) h = rw (lt-ltb (code_at l k) c (h k (omega arith))) (omega (arith, all-below l c k (λ i b. h i (omega arith))))
 
-pub tally-sums : (l : List ℕ) → tally_refusal l ≡ none → sum (tally_of l) ≡ whole_records l
+pub tally-sums : (l : List ℕ) → tally_refusal l ≡ None → sum (tally_of l) ≡ whole_records l
 tally-sums l e = omega (arith, sum_below l 0 code_count, none_below l (whole_records l), all-below l code_count (whole_records l) (known l e))

@@ -5,7 +5,7 @@ use native.Mathlib.Omega.{arith}
 use mathlib.Core.Path.{◌≡◌, ◌∙◌}
 use mathlib.Core.Bool.{false}
 use mathlib.Core.List.{List, [], ◌∷◌}
-use mathlib.Core.Option.{none}
+use Rattle.std.specs.Prelude.{None}
 use lib.ListN.{length, take, drop}
 use lib.Seq.{get_or-append-add, take_at}
 use borrow.Author.Tests.{eq-eqb, lt-ltb, le-ltb}
@@ -31,7 +31,7 @@ good (f ∷ fs) h (suc i) b =
     let c : 8 * suc i + 1 ≡ 8 + (8 * i + 1) = omega arith in
     rw (c, s, get_or-append-add (words_of f) (encode fs) (8 * i) 0, get_or-append-add (words_of f) (encode fs) (8 * i + 1) 0) (good fs h.1 i (omega arith))
 
-pub encode-passes : (fs : List Finding) → Graded fs → tally_refusal (encode fs) ≡ none
+pub encode-passes : (fs : List Finding) → Graded fs → tally_refusal (encode fs) ≡ None
 unfolding tally_refusal
 encode-passes fs h =
     let n = encode-length fs in
@@ -41,7 +41,7 @@ pub encode-sums : (fs : List Finding) → Graded fs → sum (tally_of (encode fs
 encode-sums fs h = tally-sums (encode fs) (encode-passes fs h) ∙ omega (arith, encode-length fs)
 
 -- the words of a checked document's list, uncut: the tally sums to its total
-pub tally-total : (l : Lent) → refusal l ≡ none → 8 * length (list_of l) ≤ length l.list → sum (tally_of (take (8 * length (list_of l)) (list_after l))) ≡ length (list_of l)
+pub tally-total : (l : Lent) → refusal l ≡ None → 8 * length (list_of l) ≤ length l.list → sum (tally_of (take (8 * length (list_of l)) (list_after l))) ≡ length (list_of l)
 tally-total l e h =
     let fs = list_of l in
     let rest = drop (8 * (0 + length fs)) l.list in

@@ -1,12 +1,10 @@
 -- Document 01: "Tally gives 35 counts by code", of which document 02, K6, makes 36, and number 11 of its refusals.
 use Rattle.std.specs.Prelude.{ℕ, zero, suc, ◌+◌, ◌*◌, ◌%◌, Bool, not, ◌||◌, List, [], ◌∷◌, eqb, ltb, length, get_or}
-use Rattle.std.proofs.Math.Option.{Option, none}
+use Rattle.std.specs.Prelude.{Option, None}
 use Rattle.findings.specs.Written.{whole_records}
 use Rattle.text.specs.Pick.{pick}
 use Rattle.refusals.specs.Refusal.{Refusal, refuse, only_if, or_else, first_bad, is_none, bad_tally_list}
 use Rattle.buffer.specs.Over.{over}
-use Rattle.tally.specs.declared.Tallied.{Tallied}
-use Rattle.tally.specs.declared.Tallied.TheVariants.{Counted, Refused}
 use Rattle.findings.specs.Codes.{code_count}
 
 -- severity and code of record k
@@ -40,11 +38,6 @@ tally_of l = counts_from l 0 code_count
 -- the lent list after it: unchanged after a refusal, else the counts written over it as far as there is room
 abbrev pub counts_after : List ℕ → List ℕ → List ℕ
 counts_after l out = pick (is_none (tally_refusal l)) (over out 0 (tally_of l)) out
-
--- what the answer says
-abbrev pub tally_answer_of : Tallied → Option Refusal
-tally_answer_of Counted = none
-tally_answer_of (Refused number place) = refuse number place
 
 -- the sum of a list: of the counts it is the number of records, which is proved of them
 unfoldable pub sum : List ℕ → ℕ

@@ -6,7 +6,7 @@ use mathlib.Core.Path.{◌≡◌, refl, sym, ap, subst, ◌∙◌}
 use mathlib.Core.Bool.{Bool, true, false}
 use mathlib.Core.List.{List, [], ◌∷◌}
 use mathlib.Core.Logic.{◌⊎◌, inl, inr}
-use mathlib.Core.Option.{none}
+use Rattle.std.specs.Prelude.{None}
 use lib.Dec.{ltb, eqb}
 use lib.ListN.{length}
 use borrow.Author.Tests.{lt-ltb, eq-eqb, ne_eqb, ltb-true, eqb-true}
@@ -108,11 +108,11 @@ module _ (t : List ℕ) (n : ℕ) (root : Rooted t n) where
       go (inr e) = omega (arith, e.0)
 
   -- at the root's link nothing is awaited
-  sound-end : (d : ℕ) (s : List ℕ) → Apart t n s → read t (n - m) m s ≡ none → Frames t m d m s
+  sound-end : (d : ℕ) (s : List ℕ) → Apart t n s → read t (n - m) m s ≡ None → Frames t m d m s
   unfolding read
   sound-end d s a e = go root.place s a e
     where
-      go : (m ≡ n) ⊎ ((m + 1 ≡ n) × (is_close (kind_at t m) ≡ true)) → (s : List ℕ) → Apart t n s → read t (n - m) m s ≡ none → Frames t m d m s
+      go : (m ≡ n) ⊎ ((m + 1 ≡ n) × (is_close (kind_at t m) ≡ true)) → (s : List ℕ) → Apart t n s → read t (n - m) m s ≡ None → Frames t m d m s
       go q [] a e = done refl
       go (inl q) (x ∷ s) a e = let z : n - m ≡ 0 = omega arith in refused _ (rw z at e)
       go (inr q) (x ∷ s) a e =
@@ -137,17 +137,17 @@ module _ (t : List ℕ) (n : ℕ) (root : Rooted t n) where
       rw e (done refl, h, after (suc d) (omega arith) apart.1)
   sound-step i d s s' g l (by-root h e f z) q a after = absurd (omega arith)
 
-  sound : (k i d : ℕ) (s : List ℕ) → i + k ≡ m → 1 ≤ i → d + length s ≡ 64 → Apart t n s → read t (n - i) i s ≡ none → Frames t m d i s
+  sound : (k i d : ℕ) (s : List ℕ) → i + k ≡ m → 1 ≤ i → d + length s ≡ 64 → Apart t n s → read t (n - i) i s ≡ None → Frames t m d i s
   sound zero i d s p g q a e =
       let z : i ≡ m = omega arith in
-      subst (λ (x : ℕ). Frames t m d x s) (sym z) (sound-end d s a (subst (λ (x : ℕ). read t (n - x) x s ≡ none) z e))
+      subst (λ (x : ℕ). Frames t m d x s) (sym z) (sound-end d s a (subst (λ (x : ℕ). read t (n - x) x s ≡ None) z e))
   sound (suc k) i d s p g q a e = test (λ d' s' q' a' e'. sound k (i + 1) d' s' (omega arith) (omega arith) q' a' e') (step t i s) refl (sym (read_step t i n s (omega (arith, m-le))) ∙ e)
     where
-      test : ((d' : ℕ) (s' : List ℕ) → d' + length s' ≡ 64 → Apart t n s' → read t (n - (i + 1)) (i + 1) s' ≡ none → Frames t m d' (i + 1) s') → (r : Step) → step t i s ≡ r → resume r i (read t (n - (i + 1)) (i + 1)) ≡ none → Frames t m d i s
+      test : ((d' : ℕ) (s' : List ℕ) → d' + length s' ≡ 64 → Apart t n s' → read t (n - (i + 1)) (i + 1) s' ≡ None → Frames t m d' (i + 1) s') → (r : Step) → step t i s ≡ r → resume r i (read t (n - (i + 1)) (i + 1)) ≡ None → Frames t m d i s
       test after (stop number) w e = refused _ e
       test after (go s') w e = sound-step i d s s' g (omega arith) (came t i s' s w) q a (λ d' q' a'. after d' s' q' a' e)
 
-  pub reads-nested : 1 ≤ m → read t (n - 1) 1 [] ≡ none → Nested t 64 1 m
+  pub reads-nested : 1 ≤ m → read t (n - 1) 1 [] ≡ None → Nested t 64 1 m
   reads-nested g e = sound (m - 1) 1 64 [] (omega arith) (omega arith) refl tt e
 
   -- a run that nests is passed, whatever is awaited
@@ -164,11 +164,11 @@ module _ (t : List ℕ) (n : ℕ) (root : Rooted t n) where
       ∙ read_step t (link_at t a) n (link_at t a ∷ s) (omega arith)
       ∙ rw (step-top t (link_at t a) s z) (complete r s h l)
 
-  pub nested-reads : Nested t 64 1 m → read t (n - 1) 1 [] ≡ none
+  pub nested-reads : Nested t 64 1 m → read t (n - 1) 1 [] ≡ None
   unfolding read
   nested-reads h = complete h [] (omega arith) m-le ∙ go root.place
     where
-      go : (m ≡ n) ⊎ ((m + 1 ≡ n) × (is_close (kind_at t m) ≡ true)) → read t (n - m) m [] ≡ none
+      go : (m ≡ n) ⊎ ((m + 1 ≡ n) × (is_close (kind_at t m) ≡ true)) → read t (n - m) m [] ≡ None
       go (inl e) = let z : n - m ≡ 0 = omega arith in rw z
       go (inr e) =
           let z : n - (m + 1) ≡ 0 = omega (arith, e.0) in

@@ -9,7 +9,7 @@ use mathlib.Core.Path.{◌≡◌, refl, sym, subst, ◌∙◌}
 use mathlib.Core.Bool.{Bool, true, false, not, false≢true, ◌&&◌, ◌||◌}
 use mathlib.Core.List.{List, [], ◌∷◌}
 use mathlib.Core.Logic.{◌↔◌, ◌⊎◌, inl, inr}
-use mathlib.Core.Option.{Option, some, none}
+use Rattle.std.specs.Prelude.{Option, Some, None}
 use lib.Dec.{eqb}
 use lib.ListN.{length}
 use borrow.Author.Tests.{eqb-true, eqb-false, eq-eqb, not-true, not-false}
@@ -26,8 +26,8 @@ use Rattle.text.proofs.Bool.{or_parts}
 -- where the reading stops, and with which number
 module _ (t : List ℕ) where
   Ends : ℕ → ℕ → Option Refusal → Type 0
-  Ends n i none = Unit {0}
-  Ends n i (some r) = ((r.place < n) × ((s : List ℕ) × Reaches t r.place s × (step t r.place s ≡ stop r.number))) ⊎ ((r.number ≡ 7) × (r.place ≡ n) × ((x : ℕ) × ((s : List ℕ) × Reaches t n (x ∷ s))))
+  Ends n i None = Unit {0}
+  Ends n i (Some r) = ((r.place < n) × ((s : List ℕ) × Reaches t r.place s × (step t r.place s ≡ stop r.number))) ⊎ ((r.number ≡ 7) × (r.place ≡ n) × ((x : ℕ) × ((s : List ℕ) × Reaches t n (x ∷ s))))
 
   ends : (k n i : ℕ) (s : List ℕ) → i + k ≡ n → Reaches t i s → Ends n i (read t k i s)
   unfolding read Ends
@@ -40,8 +40,8 @@ module _ (t : List ℕ) where
       by (go s') w later = same (read t k (suc i) s') (later s' w)
         where
           same : (x : Option Refusal) → Ends n (suc i) x → Ends n i x
-          same none u = u
-          same (some r) u = u
+          same None u = u
+          same (Some r) u = u
 
   -- the reading from a node that it comes to
   reaches-read : {i : ℕ} {s : List ℕ} → Reaches t i s → (n : ℕ) → i ≤ n → read t (n - 1) 1 [] ≡ read t (n - i) i s
@@ -89,34 +89,34 @@ module _ (s t : List ℕ) where
 
   -- a refusal comes from one of the parts, those before it giving none
   data From (r : Refusal) : Type 0 where
-    from4 : part4 ≡ some r → From r
-    from5 : part4 ≡ none → part5 ≡ some r → From r
-    from6 : part4 ≡ none → part5 ≡ none → part6 ≡ some r → From r
-    from_r : part4 ≡ none → part5 ≡ none → part6 ≡ none → part_r ≡ some r → From r
-    from7 : part4 ≡ none → part5 ≡ none → part6 ≡ none → part_r ≡ none → part7 ≡ some r → From r
+    from4 : part4 ≡ Some r → From r
+    from5 : part4 ≡ None → part5 ≡ Some r → From r
+    from6 : part4 ≡ None → part5 ≡ None → part6 ≡ Some r → From r
+    from_r : part4 ≡ None → part5 ≡ None → part6 ≡ None → part_r ≡ Some r → From r
+    from7 : part4 ≡ None → part5 ≡ None → part6 ≡ None → part_r ≡ None → part7 ≡ Some r → From r
 
-  from : (r : Refusal) → tape_refusal s t ≡ some r → From r
+  from : (r : Refusal) → tape_refusal s t ≡ Some r → From r
   unfolding tape_refusal
   from r e = a (which part4 (or_else part5 (or_else part6 (or_else part_r part7))) r e)
     where
-      d : part4 ≡ none → part5 ≡ none → part6 ≡ none → (part_r ≡ some r) ⊎ ((part_r ≡ none) × (part7 ≡ some r)) → From r
+      d : part4 ≡ None → part5 ≡ None → part6 ≡ None → (part_r ≡ Some r) ⊎ ((part_r ≡ None) × (part7 ≡ Some r)) → From r
       d p q u (inl x) = from_r p q u x
       d p q u (inr x) = from7 p q u x.0 x.1
 
-      c : part4 ≡ none → part5 ≡ none → (part6 ≡ some r) ⊎ ((part6 ≡ none) × (or_else part_r part7 ≡ some r)) → From r
+      c : part4 ≡ None → part5 ≡ None → (part6 ≡ Some r) ⊎ ((part6 ≡ None) × (or_else part_r part7 ≡ Some r)) → From r
       c p q (inl x) = from6 p q x
       c p q (inr x) = d p q x.0 (which part_r part7 r x.1)
 
-      b : part4 ≡ none → (part5 ≡ some r) ⊎ ((part5 ≡ none) × (or_else part6 (or_else part_r part7) ≡ some r)) → From r
+      b : part4 ≡ None → (part5 ≡ Some r) ⊎ ((part5 ≡ None) × (or_else part6 (or_else part_r part7) ≡ Some r)) → From r
       b p (inl x) = from5 p x
       b p (inr x) = c p x.0 (which part6 (or_else part_r part7) r x.1)
 
-      a : (part4 ≡ some r) ⊎ ((part4 ≡ none) × (or_else part5 (or_else part6 (or_else part_r part7)) ≡ some r)) → From r
+      a : (part4 ≡ Some r) ⊎ ((part4 ≡ None) × (or_else part5 (or_else part6 (or_else part_r part7)) ≡ Some r)) → From r
       a (inl x) = from4 x
       a (inr x) = b x.0 (which part5 (or_else part6 (or_else part_r part7)) r x.1)
 
   -- none of the parts before a number
-  plain_of : part4 ≡ none → part5 ≡ none → part6 ≡ none → GoodNodes s t
+  plain_of : part4 ≡ None → part5 ≡ None → part6 ≡ None → GoodNodes s t
   plain_of p q u =
       let e = only-not (bad_length t) 4 0 p in
       let l = some-nodes e in
@@ -124,38 +124,38 @@ module _ (s t : List ℕ) where
       record { sized = e; kinds = λ i g k. none_of bad_node_kind (bad_kind t) n 0 q i g (omega arith); spans = λ i g k. none_of bad_node_span (bad_span s t) (n - 1) 1 u i g (omega arith) }
 
   module _ (h : GoodNodes s t) where
-    plain4 : part4 ≡ none
+    plain4 : part4 ≡ None
     plain4 = rw h.sized
 
-    plain5 : part5 ≡ none
+    plain5 : part5 ≡ None
     plain5 = all_none bad_node_kind (bad_kind t) n 0 (λ i g l. h.kinds i g (omega arith))
 
-    plain6 : part6 ≡ none
+    plain6 : part6 ≡ None
     plain6 = let l = some-nodes h.sized in all_none bad_node_span (bad_span s t) (n - 1) 1 (λ i g k. h.spans i g (omega arith))
 
   -- the numbers of the parts
-  number4 : (r : Refusal) → part4 ≡ some r → r.number ≡ 4
+  number4 : (r : Refusal) → part4 ≡ Some r → r.number ≡ 4
   number4 r e = (only (bad_length t) 4 0 r e).1
 
-  number5 : (r : Refusal) → part5 ≡ some r → r.number ≡ 5
+  number5 : (r : Refusal) → part5 ≡ Some r → r.number ≡ 5
   number5 r e = (first_of bad_node_kind (bad_kind t) n 0 r e).0
 
-  number6 : (r : Refusal) → part6 ≡ some r → r.number ≡ 6
+  number6 : (r : Refusal) → part6 ≡ Some r → r.number ≡ 6
   number6 r e = (first_of bad_node_span (bad_span s t) (n - 1) 1 r e).0
 
-  number_r : (r : Refusal) → part_r ≡ some r → r.number ≡ 7
+  number_r : (r : Refusal) → part_r ≡ Some r → r.number ≡ 7
   number_r r e = (only (not (good_root t)) 7 0 r e).1
 
   -- the reading's refusal: where it stops, or an open left
-  end7 : (r : Refusal) → 1 ≤ n → part7 ≡ some r → Stops t r.number r.place ⊎ ((r.number ≡ 7) × LeftOpen t r.place)
+  end7 : (r : Refusal) → 1 ≤ n → part7 ≡ Some r → Stops t r.number r.place ⊎ ((r.number ≡ 7) × LeftOpen t r.place)
   unfolding Ends
   end7 r l e = go (subst (Ends t n 1) e (ends t (n - 1) n 1 [] (omega arith) start))
     where
-      go : Ends t n 1 (some r) → Stops t r.number r.place ⊎ ((r.number ≡ 7) × LeftOpen t r.place)
+      go : Ends t n 1 (Some r) → Stops t r.number r.place ⊎ ((r.number ≡ 7) × LeftOpen t r.place)
       go (inl (k, (w, h, z))) = inl (record { awaited = w; comes = h; below = k; is = z })
       go (inr (k, z, (x, (w, h)))) = inr (k, record { link = x; awaited = w; comes = h; at_end = z })
 
-  number7 : (r : Refusal) → 1 ≤ n → part7 ≡ some r → (r.number ≡ 7) ⊎ (r.number ≡ 8)
+  number7 : (r : Refusal) → 1 ≤ n → part7 ≡ Some r → (r.number ≡ 7) ⊎ (r.number ≡ 8)
   number7 r l e = go (end7 r l e)
     where
       go : Stops t r.number r.place ⊎ ((r.number ≡ 7) × LeftOpen t r.place) → (r.number ≡ 7) ⊎ (r.number ≡ 8)
@@ -163,7 +163,7 @@ module _ (s t : List ℕ) where
       go (inr h) = inl h.0
 
   -- a number that is neither 7 nor 8 is none of the reading's
-  not-7 : {A : Type 0} (r : Refusal) → r.number < 7 → part4 ≡ none → part7 ≡ some r → A
+  not-7 : {A : Type 0} (r : Refusal) → r.number < 7 → part4 ≡ None → part7 ≡ Some r → A
   not-7 r h p x = go (number7 r (some-nodes (only-not (bad_length t) 4 0 p)) x)
     where
       go : {A : Type 0} → (r.number ≡ 7) ⊎ (r.number ≡ 8) → A
@@ -215,10 +215,10 @@ module _ (s t : List ℕ) where
       back h = rw (h.0, all_none bad_node_kind (bad_kind t) n 0 (λ i g l. h.1 i g (omega arith)), first-is bad_node_span (bad_span s t) (n - 1) 1 place (subst (λ (m : ℕ). First (bad_span s t) 1 m place) (sym (whole h.0)) h.2))
 
   -- the root's link turns back, or does not
-  root-bad : (r : Refusal) → part_r ≡ some r → (good_root t ≡ false) × (r.place ≡ 0)
+  root-bad : (r : Refusal) → part_r ≡ Some r → (good_root t ≡ false) × (r.place ≡ 0)
   root-bad r x = let o = only (not (good_root t)) 7 0 r x in (not-true (good_root t) o.0, o.2)
 
-  root-good : part_r ≡ none → good_root t ≡ true
+  root-good : part_r ≡ None → good_root t ≡ true
   root-good x = not-false (good_root t) (only-not (not (good_root t)) 7 0 x)
 
   pub one-number-7 : (place : ℕ) → (tape_refusal s t ≡ refuse broken_links place) ↔ Gives7 s t place
@@ -265,13 +265,13 @@ module _ (s t : List ℕ) where
     where
       apart : is_none (first_bad broken_links (opens_to t (link_at t 0)) 1 (n - 1)) ≡ true → (i : ℕ) → 1 ≤ i → i < n → is_open (kind_at t i) ≡ true → link_at t i ≡ link_at t 0 → ⊥
       apart q i g k o z =
-          let f : first_bad broken_links (opens_to t (link_at t 0)) 1 (n - 1) ≡ none = none_is _ q in
+          let f : first_bad broken_links (opens_to t (link_at t 0)) 1 (n - 1) ≡ None = none_is _ q in
           let w = none_of broken_links (opens_to t (link_at t 0)) (n - 1) 1 f i g (omega arith) in
           false≢true (sym w ∙ rw (o, eq-eqb (link_at t i) (link_at t 0) z))
         where
-          none_is : (x : Option Refusal) → is_none x ≡ true → x ≡ none
-          none_is none q = refl
-          none_is (some r) q = absurd (false≢true q)
+          none_is : (x : Option Refusal) → is_none x ≡ true → x ≡ None
+          none_is None q = refl
+          none_is (Some r) q = absurd (false≢true q)
 
       go : (a b c d : Bool) → eqb (link_at t 0) n ≡ a → eqb (link_at t 0 + 1) n ≡ b → is_close (kind_at t (link_at t 0)) ≡ c → is_none (first_bad broken_links (opens_to t (link_at t 0)) 1 (n - 1)) ≡ d → (a || (b && (c && d))) ≡ true → Rooted t n
       go true b c d p q u v e = let z = eqb-true (link_at t 0) n p in record { place = inl z; alone = λ w i g k o x. omega arith }
@@ -292,11 +292,11 @@ module _ (s t : List ℕ) where
           choose (yes x) = absurd (false≢true (sym (let r = eqb-true (kind_at t 0) root_kind (not-false _ k) in rw (x, r)) ∙ z.1))
 
   -- a tape is accepted exactly if it reads as a forest
-  pub accepted : (tape_refusal s t ≡ none) ↔ Accepted s t
+  pub accepted : (tape_refusal s t ≡ None) ↔ Accepted s t
   unfolding tape_refusal
   accepted = (there, back)
     where
-      there : tape_refusal s t ≡ none → Accepted s t
+      there : tape_refusal s t ≡ None → Accepted s t
       there e =
           let a = neither part4 (or_else part5 (or_else part6 (or_else part_r part7))) e in
           let b = neither part5 (or_else part6 (or_else part_r part7)) a.1 in
@@ -313,7 +313,7 @@ module _ (s t : List ℕ) where
             nested = reads-nested t n (rooted h.sized g) (link-some h.sized (h.kinds 0 (omega arith) (omega arith)) g) d.1;
           }
 
-      back : Accepted s t → tape_refusal s t ≡ none
+      back : Accepted s t → tape_refusal s t ≡ None
       back h =
           let p : GoodNodes s t = record { sized = h.sized; kinds = λ i g k. h.kinds i k; spans = h.spans } in
           rw (plain4 p, plain5 p, plain6 p, h.root) (nested-reads t n (rooted h.sized h.root) h.nested)

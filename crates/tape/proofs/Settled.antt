@@ -4,7 +4,7 @@ use mathlib.Core.Path.{◌≡◌, refl, sym, ap, ◌∙◌}
 use mathlib.Core.Bool.{Bool, true, false, not, ◌&&◌, ◌||◌, false≢true}
 use mathlib.Core.List.{List, [], ◌∷◌}
 use mathlib.Core.Logic.{◌⊎◌, inl, inr}
-use mathlib.Core.Option.{none}
+use Rattle.std.specs.Prelude.{None}
 use Prim.Native.Nat.{ℕ, zero, suc, ◌+◌, ◌-◌, ◌<◌, ◌≤◌}
 use native.Mathlib.Numerals.{add-one}
 use native.Mathlib.Decide.{ℕ_discrete}
@@ -159,25 +159,18 @@ module _ (s t : List ℕ) (n root : ℕ) (size : Sized t n) (link : root ≡ lin
       choose false true false p q u e = absurd (false≢true e)
       choose false false x p q u e = absurd (false≢true e)
 
-  pub root-inside : root ≤ count t
-  root-inside = rw (count-is t n size) (below root-place)
-    where
-      below : (root ≡ n) ⊎ ((root + 1 ≡ n) × (is_close (kind_at t root) ≡ true)) → root ≤ n
-      below (inl e) = omega arith
-      below (inr e) = omega (arith, e.0)
-
-  ended_at : (i : ℕ) → n ≤ i → Paired t n root i [] → Clear s t n 1 → from_one s t n ≡ none
+  ended_at : (i : ℕ) → n ≤ i → Paired t n root i [] → Clear s t n 1 → from_one s t n ≡ None
   unfolding read
   ended_at i h p c =
       let z : n - i ≡ 0 = omega arith in
-      let alone : first_bad broken_links (opens_to t root) 1 (n - 1) ≡ none = sym (p.opens tt) ∙ first-end broken_links (opens_to t root) n i h in
+      let alone : first_bad broken_links (opens_to t root) 1 (n - 1) ≡ None = sym (p.opens tt) ∙ first-end broken_links (opens_to t root) n i h in
       let root-good : good_root t ≡ true = root_by_lem t n root false (count-is t n size) link (rw alone) ∙ good in
       rw (c.kinds, c.spans, root-good) (sym p.reading ∙ rw z)
 
-  pub settled : Clear s t n 1 → Paired t (count t) root (1 + (root - 1)) [] → from_one s t n ≡ none
+  pub settled : Clear s t n 1 → Paired t (count t) root (1 + (root - 1)) [] → from_one s t n ≡ None
   settled c p = choose root-place (ℕ_discrete root 0) (rw (count-is t n size) at p)
     where
-      choose : (root ≡ n) ⊎ ((root + 1 ≡ n) × (is_close (kind_at t root) ≡ true)) → Dec (root ≡ 0) → Paired t n root (1 + (root - 1)) [] → from_one s t n ≡ none
+      choose : (root ≡ n) ⊎ ((root + 1 ≡ n) × (is_close (kind_at t root) ≡ true)) → Dec (root ≡ 0) → Paired t n root (1 + (root - 1)) [] → from_one s t n ≡ None
       choose (inl e) d w = ended_at (1 + (root - 1)) (omega arith) w c
       choose (inr e) (yes d) w = ended_at (1 + (root - 1)) (omega (arith, e.0)) w c
       choose (inr e) (no d) w =

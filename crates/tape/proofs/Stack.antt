@@ -9,8 +9,10 @@ use lib.ListN.{length, get_or, set, length-set}
 use lib.Seq.{get_or-set_same, get_or-set_other}
 use borrow.Author.Tests.{lt-ltb, le-ltb, eq-eqb, ne_eqb}
 use Rattle.tape.specs.Inner.{stacked, Opened, Closed}
-use Rattle.tape.specs.declared.Reading.{Reading}
-use Rattle.refusals.specs.Refusal.{broken_links, too_deep}
+use Rattle.std.specs.Prelude.{Ok, Err}
+use Rattle.refusals.specs.declared.Refusal as code
+use Rattle.refusals.specs.declared.Reason.TheVariants as reason
+use Rattle.refusals.specs.Reasons.{refusal_of}
 
 pub stacked-length : (xs : List ℕ) (k : ℕ) → length (stacked xs k) ≡ k
 stacked-length xs zero = refl
@@ -34,30 +36,28 @@ stacked-pop xs k h =
     let e : k ≡ suc (k - 1) = omega arith in
     ap (stacked xs) e
 
-module _ (link i : ℕ) (stack : List ℕ) (r : Reading) (room : length stack ≡ 64) where
-  pub open_full : 64 ≤ r.depth → r.depth ≤ 64 → Opened link i stack stack r (record { depth = r.depth; number = too_deep; place = i })
-  open_full h l = record { step = rw (le-ltb (length (stacked stack r.depth)) 64 (rw (stacked-length stack r.depth) h)) (refl, refl); low = l; room = room }
+module _ (link i : ℕ) (stack : List ℕ) (depth : ℕ) (room : length stack ≡ 64) where
+  pub open_full : (r : code.Refusal) → r ≡ record { reason = reason.TooDeep; place = i } → 64 ≤ depth → Opened link i stack stack depth (Err r)
+  open_full r e h = record { step = rw (le-ltb (length (stacked stack depth)) 64 (rw (stacked-length stack depth) h)) (ap refusal_of e); low = tt; room = room }
 
-  pub open_room : r.depth < 64 → Opened link i stack (set stack r.depth link) r (record { depth = r.depth + 1; number = 0; place = 0 })
+  pub open_room : depth < 64 → Opened link i stack (set stack depth link) depth (Ok (depth + 1))
   open_room h =
       record {
-        step = rw (lt-ltb (length (stacked stack r.depth)) 64 (rw (stacked-length stack r.depth) h)) (refl, stacked-push stack r.depth link (omega arith));
+        step = rw (lt-ltb (length (stacked stack depth)) 64 (rw (stacked-length stack depth) h)) (stacked-push stack depth link (omega arith));
         low = omega arith;
         room = simp length-set room;
       }
 
-module _ (root i : ℕ) (stack : List ℕ) (r : Reading) (low : r.depth ≤ 64) where
-  abbrev failed : Reading
-  failed = record { depth = r.depth; number = broken_links; place = i }
+module _ (root i : ℕ) (stack : List ℕ) (depth : ℕ) (low : depth ≤ 64) where
+  pub close-root : depth ≡ 0 → root ≡ i → Closed root i stack depth (Ok 0)
+  close-root d e = record { step = rw (d, eq-eqb i root (sym e)); low = omega arith }
 
-  pub close-root : r.depth ≡ 0 → root ≡ i → Closed root i stack r r
-  close-root d e = record { step = λ z. rw (d, eq-eqb i root (sym e)) (z, refl); low = low }
+  pub close-top : (depth ≡ 0 → ⊥) → get_or stack (depth - 1) 0 ≡ i → Closed root i stack depth (Ok (depth - 1))
+  close-top d e = record { step = rw (stacked-pop stack depth d, eq-eqb i (get_or stack (depth - 1) 0) (sym e)); low = omega arith }
 
-  pub close-none : r.depth ≡ 0 → (root ≡ i → ⊥) → Closed root i stack r failed
-  close-none d e = record { step = λ z. rw (d, ne_eqb i root (λ q. e (sym q))) (refl, refl); low = low }
+  module _ (r : code.Refusal) (is : r ≡ record { reason = reason.BrokenLinks; place = i }) where
+    pub close-none : depth ≡ 0 → (root ≡ i → ⊥) → Closed root i stack depth (Err r)
+    close-none d e = record { step = rw (d, ne_eqb i root (λ q. e (sym q))) (ap refusal_of is); low = tt }
 
-  pub close-top : (r.depth ≡ 0 → ⊥) → get_or stack (r.depth - 1) 0 ≡ i → Closed root i stack r (record { depth = r.depth - 1; number = 0; place = 0 })
-  close-top d e = record { step = λ z. rw (stacked-pop stack r.depth d, eq-eqb i (get_or stack (r.depth - 1) 0) (sym e)) (refl, refl); low = omega arith }
-
-  pub close_other : (r.depth ≡ 0 → ⊥) → (get_or stack (r.depth - 1) 0 ≡ i → ⊥) → Closed root i stack r failed
-  close_other d e = record { step = λ z. rw (stacked-pop stack r.depth d, ne_eqb i (get_or stack (r.depth - 1) 0) (λ q. e (sym q))) (refl, refl); low = low }
+    pub close_other : (depth ≡ 0 → ⊥) → (get_or stack (depth - 1) 0 ≡ i → ⊥) → Closed root i stack depth (Err r)
+    close_other d e = record { step = rw (stacked-pop stack depth d, ne_eqb i (get_or stack (depth - 1) 0) (λ q. e (sym q))) (ap refusal_of is); low = tt }

@@ -1,11 +1,9 @@
 -- Numbers 4 to 8. "Each gives number and place"; "Of several nodes the first counts."
 use Rattle.std.specs.Prelude.{ℕ, zero, suc, ◌+◌, ◌-◌, ◌%◌, Bool, not, ◌&&◌, ◌||◌, List, [], ◌∷◌, eqb, ltb, length}
-use Rattle.std.proofs.Math.Option.{Option, none}
+use Rattle.std.specs.Prelude.{Option, None}
 use Rattle.text.specs.Pick.{within, pick}
 use Rattle.text.specs.Characters.{is_boundary}
 use Rattle.tape.specs.Nodes.{count, kind_at, start_at, len_at, link_at, is_close, is_open, root_kind, marker_open_kind, error_kind}
-use Rattle.tape.specs.declared.TapeCheck.{TapeCheck}
-use Rattle.tape.specs.declared.TapeCheck.TheVariants.{Good, Length, Kind, Span, Links, Deep}
 use Rattle.refusals.specs.Refusal.{Refusal, refuse, only_if, or_else, first_bad, is_none, bad_tape_length, bad_node_kind, bad_node_span, broken_links, too_deep}
 
 -- 4: "The tape's length is 0, no multiple of 16, or over 65,535 nodes; place 0."
@@ -56,7 +54,7 @@ resume (stop number) i rest = refuse number i
 
 -- "else n for an unclosed open"
 abbrev pub ended : ℕ → List ℕ → Option Refusal
-ended n [] = none
+ended n [] = None
 ended n (link ∷ awaited) = refuse broken_links n
 
 -- the n nodes from node i on, with the links that are awaited, the innermost first
@@ -71,12 +69,3 @@ tape_refusal s t =
     (or_else (first_bad bad_node_kind (bad_kind t) 0 (count t))
     (or_else (first_bad bad_node_span (bad_span s t) 1 (count t - 1))
     (or_else (only_if (not (good_root t)) (refuse broken_links 0)) (read t (count t - 1) 1 []))))
-
--- what the answer of the check says
-abbrev pub tape_check_refusal : TapeCheck → Option Refusal
-tape_check_refusal Good = none
-tape_check_refusal Length = refuse bad_tape_length 0
-tape_check_refusal (Kind i) = refuse bad_node_kind i
-tape_check_refusal (Span i) = refuse bad_node_span i
-tape_check_refusal (Links i) = refuse broken_links i
-tape_check_refusal (Deep i) = refuse too_deep i

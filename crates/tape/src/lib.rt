@@ -2,12 +2,15 @@
 #![tactic(auto)]
 
 ghost use Rattle.std.specs.Prelude.{◌≡◌, true, false, not, ◌||◌, [], ◌+◌, ◌-◌, ◌<◌, ◌≤◌, length};
-ghost use Rattle.std.proofs.Math.Option.{none};
+ghost use Rattle.std.specs.Prelude.{None};
 ghost use Rattle.text.specs.Pick.{within, pick};
 ghost use Rattle.text.specs.Characters.{is_boundary};
 ghost use Rattle.tape.specs.Nodes.{count, half, word, kind_at, marker_at, start_at, len_at, link_at, is_close, kind_of, marker_open_kind, error_kind};
-ghost use Rattle.tape.specs.Reading.{bad_span, opens_to, tape_check_refusal, tape_refusal};
-ghost use Rattle.tape.specs.Inner.{Sized, Known, Opened, Closed, Held, Stepped, span_after, root_by, lastly, from_one, Clear, Paired};
+ghost use Rattle.refusals.specs.Reasons.{refusal_in};
+ghost use Rattle.tape.specs.Reading.{bad_span, opens_to, tape_refusal};
+ghost use Rattle.tape.specs.Inner.{Sized, Opened, Closed, Held, Stepped, span_after, root_by, lastly, from_one, Clear, Paired};
+
+use refusals::{Reason, Refusal};
 
 #[derive(Clone, Copy)]
 pub enum NodeKind {
@@ -40,26 +43,6 @@ pub const ATTRIBUTE: u8 = 6;
 pub const BLOCK_END: u8 = 7;
 
 pub const ERROR: u8 = 8;
-
-// What the check of a tape finds: nothing, or the number that it is turned back with (4 to 8 in this order) and its place.
-#[derive(Clone, Copy)]
-pub enum TapeCheck {
-    Good,
-    Length,
-    Kind(usize),
-    Span(usize),
-    Links(usize),
-    Deep(usize),
-}
-
-// How far the reading of opens and closes has come: how many opens are not yet closed, and the number and the place that it
-// stopped at, or 0.
-#[derive(Clone, Copy)]
-pub struct Reading {
-    pub depth: usize,
-    pub number: u64,
-    pub place: usize,
-}
 
 fn byte(t: &[u8], k: usize) -> u32
     requires { k < length t.now }
@@ -140,11 +123,7 @@ pub fn link_at(tape: &[u8], i: usize) -> u32
 pub fn is_close(kind: u8) -> bool
     ensures { result ≡ is_close kind }
 {
-    if kind == MARKER_CLOSE {
-        true
-    } else {
-        kind == BLOCK_END
-    }
+    kind == MARKER_CLOSE || kind == BLOCK_END
 }
 
 // Whether a node's span leaves the source or splits a character.
@@ -154,91 +133,75 @@ fn bad_span(source: &[u8], tape: &[u8], i: usize) -> bool
 {
     let start = start_at(tape, i) as usize;
     let end = start + len_at(tape, i) as usize;
-    if source.len() < end {
-        return true;
-    }
-    if !text::is_char_boundary(source, start) {
-        return true;
-    }
-    !text::is_char_boundary(source, end)
+    source.len() < end
+        || !text::is_char_boundary(source, start)
+        || !text::is_char_boundary(source, end)
 }
 
-// The first bad span so far, or 0.
-fn span_step(source: &[u8], tape: &[u8], i: usize, first: usize) -> usize
-    requires { (i < count tape.now) × (1 ≤ i) }
+// The first bad span so far, if there is one.
+fn span_step(source: &[u8], tape: &[u8], i: usize, first: Option<usize>) -> Option<usize>
+    requires { i < count tape.now }
     ensures { result ≡ span_after source.now tape.now i first }
 {
-    if first != 0 {
-        return first;
+    if first.is_none() && bad_span(source, tape, i) {
+        Some(i)
+    } else {
+        first
     }
-    if bad_span(source, tape, i) { i } else { 0 }
 }
 
-// The reading after an open node: its link is awaited, unless 64 are awaited before it.
-fn open_step(link: u32, i: usize, stack: &mut [u32], r: Reading) -> Reading
-    requires { (length stack.old ≡ 64) × (r.depth ≤ 64) }
-    ensures { Opened link i stack.old stack.new r result }
+// How many opens are not yet closed after an open node: its link is awaited, unless 64 are awaited before it.
+fn open_step(link: u32, i: usize, stack: &mut [u32], depth: usize) -> Result<usize, Refusal>
+    requires { (length stack.old ≡ 64) × (depth ≤ 64) }
+    ensures { Opened link i stack.old stack.new depth result }
 {
-    let depth = r.depth;
     if 64 <= depth {
-        return Reading {
-            depth,
-            number: refusals::TOO_DEEP,
-            place: i,
-        };
+        return Err(Reason::TooDeep.at(i));
     }
     stack[depth] = link;
-    Reading {
-        depth: depth + 1,
-        number: 0,
-        place: 0,
-    }
+    Ok(depth + 1)
 }
 
-// The reading after a close: it is the innermost awaited link, or the root's.
-fn close_step(root: u32, i: usize, stack: &[u32], r: Reading) -> Reading
-    requires { (length stack.now ≡ 64) × (r.depth ≤ 64) }
-    ensures { Closed root i stack.now r result }
+// The same after a close: it is the innermost awaited link, or the root's.
+fn close_step(root: u32, i: usize, stack: &[u32], depth: usize) -> Result<usize, Refusal>
+    requires { (length stack.now ≡ 64) × (depth ≤ 64) }
+    ensures { Closed root i stack.now depth result }
 {
-    let depth = r.depth;
-    let failed = Reading {
-        depth,
-        number: refusals::BROKEN_LINKS,
-        place: i,
-    };
     if depth == 0 {
-        if root as usize == i {
-            return r;
-        }
-        return failed;
+        return if root as usize == i {
+            Ok(0)
+        } else {
+            Err(Reason::BrokenLinks.at(i))
+        };
     }
     let top = depth - 1;
     if stack[top] as usize == i {
-        Reading {
-            depth: top,
-            number: 0,
-            place: 0,
-        }
+        Ok(top)
     } else {
-        failed
+        Err(Reason::BrokenLinks.at(i))
     }
 }
 
-// The reading after a node.
-fn step(tape: &[u8], root: u32, i: usize, kind: u8, stack: &mut [u32], r: Reading) -> Reading
-    requires { Held tape.now root i kind stack.old r }
-    ensures { Stepped tape.now i stack.old stack.new r result }
+// The reading after a node: how many opens are not yet closed, or what it stopped with.
+fn step(
+    tape: &[u8],
+    root: u32,
+    i: usize,
+    kind: u8,
+    stack: &mut [u32],
+    reading: Result<usize, Refusal>,
+) -> Result<usize, Refusal>
+    requires { Held tape.now root i kind stack.old reading }
+    ensures { Stepped tape.now i stack.old stack.new reading result }
 {
-    if r.number != 0 {
-        return r;
-    }
+    let depth = reading?;
     if kind == MARKER_OPEN {
-        return open_step(link_at(tape, i), i, stack, r);
+        return open_step(link_at(tape, i), i, stack, depth);
     }
     if is_close(kind) {
-        return close_step(root, i, stack, r);
+        return close_step(root, i, stack, depth);
     }
-    r
+    Ok(depth)
 }
 
 // Whether an open so far has the root's link.
@@ -246,13 +209,7 @@ fn taken_step(tape: &[u8], root: u32, i: usize, kind: u8, taken: bool) -> bool
     requires { (i < count tape.now) × (kind ≡ kind_at tape.now i) }
     ensures { result ≡ (taken || opens_to tape.now root i) }
 {
-    if taken {
-        return true;
-    }
-    if kind != MARKER_OPEN {
-        return false;
-    }
-    link_at(tape, i) == root
+    taken || (kind == MARKER_OPEN && link_at(tape, i) == root)
 }
 
 // Whether the root's link is good, when it is known whether an open has it too.
@@ -261,78 +218,62 @@ fn good_root(tape: &[u8], n: usize, root: u32, taken: bool) -> bool
     ensures { result ≡ root_by root n (is_close (kind_at tape.now root)) taken }
 {
     let link = root as usize;
-    if link == n {
-        return true;
-    }
-    if link != n - 1 {
-        return false;
-    }
-    if is_close(kind_at(tape, link)) {
-        !taken
-    } else {
-        false
-    }
+    link == n || (link == n - 1 && is_close(kind_at(tape, link)) && !taken)
 }
 
 // The answer when all nodes are read, their kinds being good.
-fn answer(tape: &[u8], n: usize, root: u32, span: usize, taken: bool, r: Reading) -> TapeCheck
-    requires { (Sized tape.now n) × (Known r.number) }
-    ensures { tape_check_refusal result ≡ lastly tape.now n root span taken r }
+fn answer(
+    tape: &[u8],
+    n: usize,
+    root: u32,
+    span: Option<usize>,
+    taken: bool,
+    reading: Result<usize, Refusal>,
+) -> Result<(), Refusal>
+    requires { Sized tape.now n }
+    ensures { refusal_in result ≡ lastly tape.now n root span taken reading }
 {
-    if span != 0 {
-        return TapeCheck::Span(span);
+    if let Some(i) = span {
+        return Err(Reason::BadNodeSpan.at(i));
     }
     if !good_root(tape, n, root, taken) {
-        return TapeCheck::Links(0);
+        return Err(Reason::BrokenLinks.at(0));
     }
-    if r.number == refusals::TOO_DEEP {
-        return TapeCheck::Deep(r.place);
+    let depth = reading?;
+    if depth != 0 {
+        return Err(Reason::BrokenLinks.at(n));
     }
-    if r.number == refusals::BROKEN_LINKS {
-        return TapeCheck::Links(r.place);
-    }
-    if r.depth != 0 {
-        return TapeCheck::Links(n);
-    }
-    TapeCheck::Good
+    Ok(())
 }
 
 fn bad_kind(kind: u8) -> bool
     ensures { result ≡ not (within marker_open_kind error_kind kind) }
 {
-    if kind < MARKER_OPEN {
-        true
-    } else {
-        ERROR < kind
-    }
+    !(MARKER_OPEN..=ERROR).contains(&kind)
 }
 
 // Numbers 5 to 8 from node 1 on, in one pass: a bad kind comes before all others, and the end decides among the rest.
-fn scan_each(source: &[u8], tape: &[u8], n: usize) -> TapeCheck
+fn scan_each(source: &[u8], tape: &[u8], n: usize) -> Result<(), Refusal>
     requires { Sized tape.now n }
-    ensures { tape_check_refusal result ≡ from_one source.now tape.now n }
+    ensures { refusal_in result ≡ from_one source.now tape.now n }
 {
     let root = link_at(tape, 0);
     let mut stack = [0u32; 64];
-    let mut span: usize = 0;
+    let mut span = None;
     let mut taken = false;
-    let mut r = Reading {
-        depth: 0,
-        number: 0,
-        place: 0,
-    };
+    let mut reading = Ok(0);
     let mut i: usize = 1;
     while i < n {
         let kind = kind_at(tape, i);
         if bad_kind(kind) {
-            return TapeCheck::Kind(i);
+            return Err(Reason::BadNodeKind.at(i));
         }
         span = span_step(source, tape, i, span);
         taken = taken_step(tape, root, i, kind, taken);
-        r = step(tape, root, i, kind, &mut stack, r);
+        reading = step(tape, root, i, kind, &mut stack, reading);
         i += 1;
     }
-    answer(tape, n, root, span, taken, r)
+    answer(tape, n, root, span, taken, reading)
 }
 
 // Whether the byte at a place shows that a character begins there, or the text ends. A place that fails may still be good.
@@ -340,10 +281,7 @@ fn is_clear(s: &[u8], at: usize) -> bool
     requires { at ≤ length s.now }
     ensures { result ≡ true → is_boundary s.now at ≡ true }
 {
-    if at == s.len() {
-        return true;
-    }
-    s[at] / 64 != 2
+    at == s.len() || s[at] / 64 != 2
 }
 
 // The same, beside a place that is known to be good.
@@ -351,10 +289,7 @@ fn is_clear_from(s: &[u8], at: usize, good: usize) -> bool
     requires { (at ≤ length s.now) × (is_boundary s.now good ≡ true) }
     ensures { result ≡ true → is_boundary s.now at ≡ true }
 {
-    if at == good {
-        return true;
-    }
-    is_clear(s, at)
+    at == good || is_clear(s, at)
 }
 
 // Where a node's span ends.
@@ -373,13 +308,7 @@ fn is_clear_span(source: &[u8], tape: &[u8], i: usize, before: usize) -> bool
 {
     let start = start_at(tape, i) as usize;
     let to = end_at(tape, i);
-    if source.len() < to {
-        return false;
-    }
-    if !is_clear_from(source, start, before) {
-        return false;
-    }
-    is_clear(source, to)
+    to <= source.len() && is_clear_from(source, start, before) && is_clear(source, to)
 }
 
 // Whether the kinds and spans from node 1 on show that they are good. The kinds of nodes come in an order that no
@@ -389,8 +318,7 @@ fn are_clear(source: &[u8], tape: &[u8], n: usize) -> bool
     ensures { result ≡ true → Clear source.now tape.now n 1 }
 {
     let mut before: usize = 0;
-    let mut i: usize = 1;
-    while i < n {
+    for i in 1..n {
         if !is_clear_span(source, tape, i, before) {
             return false;
         }
@@ -398,7 +326,6 @@ fn are_clear(source: &[u8], tape: &[u8], n: usize) -> bool
             return false;
         }
         before = end_at(tape, i);
-        i += 1;
     }
     true
 }
@@ -418,8 +345,7 @@ fn are_paired(tape: &[u8], root: u32) -> bool
 {
     let mut stack = [0u32; 66];
     let mut depth: usize = 0;
-    let mut i: usize = 1;
-    while i < root as usize {
+    for i in 1..root as usize {
         let kind = kind_at(tape, i);
         let link = link_at(tape, i);
         let opens = kind == MARKER_OPEN;
@@ -430,7 +356,6 @@ fn are_paired(tape: &[u8], root: u32) -> bool
             return false;
         }
         depth = depth + one_if(opens) - one_if(closes);
-        i += 1;
     }
     depth == 0
 }
@@ -438,45 +363,36 @@ fn are_paired(tape: &[u8], root: u32) -> bool
 // Whether two quick passes show that no number from 5 on is given. A tape that fails may still be good.
 fn is_settled(source: &[u8], tape: &[u8], n: usize) -> bool
     requires { Sized tape.now n }
-    ensures { result ≡ true → from_one source.now tape.now n ≡ none }
+    ensures { result ≡ true → from_one source.now tape.now n ≡ None }
 {
     let root = link_at(tape, 0);
-    if !good_root(tape, n, root, false) {
-        return false;
-    }
-    if !are_clear(source, tape, n) {
-        return false;
-    }
-    are_paired(tape, root)
+    good_root(tape, n, root, false) && are_clear(source, tape, n) && are_paired(tape, root)
 }
 
 // Numbers 5 to 8 from node 1 on. Most tapes are good, and two quick passes show it.
-fn scan(source: &[u8], tape: &[u8], n: usize) -> TapeCheck
+fn scan(source: &[u8], tape: &[u8], n: usize) -> Result<(), Refusal>
     requires { Sized tape.now n }
-    ensures { tape_check_refusal result ≡ from_one source.now tape.now n }
+    ensures { refusal_in result ≡ from_one source.now tape.now n }
 {
     if is_settled(source, tape, n) {
-        return TapeCheck::Good;
+        return Ok(());
     }
     scan_each(source, tape, n)
 }
 
+// How many nodes a tape may have.
+const MOST_NODES: usize = 65535;
+
 // Document 01's numbers 4 to 8 for a tape over a source.
-pub fn tape_check(source: &[u8], tape: &[u8]) -> TapeCheck
-    ensures { tape_check_refusal result ≡ tape_refusal source.now tape.now }
+pub fn tape_check(source: &[u8], tape: &[u8]) -> Result<(), Refusal>
+    ensures { refusal_in result ≡ tape_refusal source.now tape.now }
 {
     let n = tape.len() / 16;
-    if n == 0 {
-        return TapeCheck::Length;
-    }
-    if tape.len() % 16 != 0 {
-        return TapeCheck::Length;
-    }
-    if 65535 < n {
-        return TapeCheck::Length;
+    if n == 0 || tape.len() % 16 != 0 || MOST_NODES < n {
+        return Err(Reason::BadTapeLength.at(0));
     }
     if kind_at(tape, 0) != ROOT {
-        return TapeCheck::Kind(0);
+        return Err(Reason::BadNodeKind.at(0));
     }
     scan(source, tape, n)
 }

@@ -12,6 +12,7 @@ use lib.Dec.{eqb}
 use lib.ListN.{length, get_or, take, drop, length-take, length-drop, drop_of_length-le}
 use lib.Seq.{take-length, length-take-le, drop-drop}
 use borrow.Author.Tests.{eq-eqb, ne_eqb, eqb-true, eqb-false}
+use Rattle.std.specs.Cmp.Lexicographic.{pointwise}
 use Rattle.text.specs.Bytes.{equal, starting, beyond}
 use Rattle.text.specs.Inner.{four_bytes, eight_bytes}
 use Rattle.text.proofs.Rows.{place}
@@ -26,6 +27,14 @@ equal-true (x ∷ a) (y ∷ b) e =
     let first : x ≡ y = eqb-true x y (and_left (eqb x y) (equal a b) e) in
     let rest : a ≡ b = equal-true a b (and_right (eqb x y) (equal a b) e) in
     cc
+
+-- `==` on slices of bytes
+pub equal_eq : (a b : List ℕ) (r : Bool) → r ≡ pointwise eqb a b → r ≡ equal a b
+unfolding equal
+equal_eq [] [] r e = e
+equal_eq [] (y ∷ b) r e = e
+equal_eq (x ∷ a) [] r e = e
+equal_eq (x ∷ a) (y ∷ b) r e = e ∙ ap (eqb x y &&◌) (equal_eq a b _ refl)
 
 pub equal-apart : (a b : List ℕ) → (length a ≡ length b → ⊥) → equal a b ≡ false
 equal-apart a b h = go (equal a b) refl
@@ -72,10 +81,6 @@ eight_is : (s : List ℕ) (at : ℕ) → eight_bytes s at ≡ number s at 8
 unfolding number
 eight_is s at = simp add_assoc (omega arith)
 
-four_is : (s : List ℕ) (at : ℕ) → four_bytes s at ≡ number s at 4
-unfolding number
-four_is s at = simp add_assoc (omega arith)
-
 -- the list is one of bytes, as it is known of a slice
 abbrev pub Small : List ℕ → Type 0
 Small s = (k : ℕ) → Fits w8 (get_or s k 0)
@@ -90,9 +95,6 @@ module _ (a b : List ℕ) (p : Small a) (q : Small b) where
 
   pub same-eight : (i j : ℕ) → i + 8 ≤ length a → j + 8 ≤ length b → eqb (eight_bytes a i) (eight_bytes b j) ≡ equal (take 8 (drop i a)) (take 8 (drop j b))
   same-eight i j h k = rw (eight_is a i, eight_is b j) (same_number 8 i j h k)
-
-  pub same-four : (i j : ℕ) → i + 4 ≤ length a → j + 4 ≤ length b → eqb (four_bytes a i) (four_bytes b j) ≡ equal (take 4 (drop i a)) (take 4 (drop j b))
-  same-four i j h k = rw (four_is a i, four_is b j) (same_number 4 i j h k)
 
 -- a word stands at the head exactly if its first n bytes do, and the others behind them
 pub parts : (n : ℕ) (w l : List ℕ) → starting w l ≡ (starting (take n w) l && starting (drop n w) (drop n l))
@@ -131,16 +133,3 @@ module _ (a b : List ℕ) (n : ℕ) (e : length a ≡ length b) where
   ends_same i h k f =
       let m : n + (i - n) ≡ i = omega arith in
       and_right (equal (take (i - n) (drop n a)) (take (i - n) (drop n b))) _ (sym (rw m at (block a b n (i - n) e (omega arith))) ∙ f)
-
--- and their first n bytes
-module _ (a b : List ℕ) (n : ℕ) (e : length a ≡ length b) (h : n ≤ length a) where
-  front : equal a b ≡ (equal (take n a) (take n b) && equal (drop n a) (drop n b))
-  front =
-      let z : 0 + n ≡ n = omega arith in
-      rw z at (block a b 0 n e (omega arith))
-
-  pub fronts-apart : equal (take n a) (take n b) ≡ false → equal a b ≡ false
-  fronts-apart f = front ∙ rw f
-
-  pub fronts-same : equal (take n a) (take n b) ≡ true → equal a b ≡ equal (drop n a) (drop n b)
-  fronts-same f = front ∙ rw f

@@ -1,11 +1,17 @@
 -- The characters of a text from one place to the next, and the first of them that passes a test.
 -- Assumes nothing.
 use mathlib.Core.Path.{◌≡◌, refl, sym, ap, ◌∙◌}
-use mathlib.Core.Bool.{Bool, true, false}
+use mathlib.Core.Bool.{Bool, true, false, cond}
 use mathlib.Core.List.{List, [], ◌∷◌}
 use Prim.Native.Nat.{ℕ, zero, suc, pred, ◌+◌, ◌<◌, ◌≤◌}
 use native.Mathlib.Nat.{add-zero, not-suc-le-zero, le_refl}
+use native.Mathlib.Decide.{dec_lt}
 use native.Mathlib.Omega.{arith}
+use lib.Dec.{ltb}
+use borrow.Author.Tests.{lt-ltb, le-ltb}
+use Rattle.std.specs.Prelude.{Option, Some, None, unwrap_or}
+use Rattle.std.specs.List.{position_or_len}
+use Rattle.std.proofs.lemmas.List.Recursion.{is_position_or_len}
 use lib.ListN.{length, get_or, drop, length-drop, drop_of_length-le}
 use lib.Seq.{drop-drop}
 use Rattle.text.specs.Pick.{same, pick}
@@ -48,10 +54,6 @@ chars-at s i w h e =
 pub tested-by : (p : ℕ → Bool) (s : List ℕ) (i : ℕ) (d : Decoded) (x v : Bool) → d ≡ decode (drop i s) → x ≡ p d.cp → x ≡ v → p (decode (drop i s)).cp ≡ v
 tested-by p s i d x v e f h = ap (λ (z : Decoded). p z.cp) (sym e) ∙ sym f ∙ h
 
--- whether it is blank
-pub tested : (s : List ℕ) (i : ℕ) (t : Bool) (d : Decoded) (x y v : Bool) → d ≡ decode (drop i s) → x ≡ blank d.cp → y ≡ same t x → y ≡ v → blank_is t (decode (drop i s)).cp ≡ v
-tested s i t d x y v e f g h = ap (λ (z : Decoded). same t (blank z.cp)) (sym e) ∙ ap (same t) (sym f) ∙ sym g ∙ h
-
 module _ (p : ℕ → Bool) (s : List ℕ) (i : ℕ) where
   -- past a character that does not pass, at one that does, and at the end
   pub past : (w : ℕ) → i < length s → w ≡ (decode (drop i s)).width → p (decode (drop i s)).cp ≡ false → i + find p (drop i s) ≡ i + w + find p (drop (i + w) s)
@@ -91,3 +93,21 @@ byte_le p (b ∷ s) = go (p b) (byte_le p s)
 
 pub found-le : (p : ℕ → Bool) (s : List ℕ) (at : ℕ) → at ≡ find_byte p s → at ≤ length s
 found-le p s at h = rw h (byte_le p s)
+
+find_byte_is : (p : ℕ → Bool) (s : List ℕ) → find_byte p s ≡ position_or_len p s
+unfolding find_byte
+find_byte_is p s = is_position_or_len (find_byte p) p refl (λ b s. one (p b) (find_byte p s)) s
+  where
+    one : (t : Bool) (n : ℕ) → pick t 0 (suc n) ≡ cond t 0 (1 + n)
+    one true n = refl
+    one false n = omega arith
+
+-- what `position` finds, or the length where it finds nothing
+pub position-or-length : (p : ℕ → Bool) (s : List ℕ) (r : Option ℕ) → r ≡ cond (ltb (position_or_len p s) (length s)) (Some (position_or_len p s)) None → unwrap_or r (length s) ≡ find_byte p s
+position-or-length p s r e = ap (λ (r : Option ℕ). unwrap_or r (length s)) e ∙ rw (← find_byte_is p s) (go (dec_lt (find_byte p s) (length s)))
+  where
+    go : Dec (find_byte p s < length s) → unwrap_or (cond (ltb (find_byte p s) (length s)) (Some (find_byte p s)) None) (length s) ≡ find_byte p s
+    go (yes h) = rw (lt-ltb (find_byte p s) (length s) h)
+    go (no h) =
+        let z : find_byte p s ≡ length s = omega (arith, byte_le p s) in
+        rw (z, le-ltb (length s) (length s) (le_refl (length s)))

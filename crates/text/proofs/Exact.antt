@@ -4,7 +4,7 @@ use mathlib.Core.Path.{◌≡◌, refl, sym, ap, ◌∙◌}
 use mathlib.Core.Bool.{Bool, true, false, false≢true}
 use mathlib.Core.List.{List, [], ◌∷◌, ◌++◌, append-nil, append_assoc, Memᴰ}
 use mathlib.Core.Logic.{◌↔◌}
-use mathlib.Core.Option.{Option, some, none}
+use Rattle.std.specs.Prelude.{Option, Some, None}
 use Prim.Native.Nat.{ℕ, zero, suc, ◌+◌, ◌<◌, ◌≤◌}
 use native.Mathlib.Nat.{add-zero, zero-add, not-suc-le-zero}
 use native.Mathlib.Omega.{arith}
@@ -90,14 +90,14 @@ scan-made (more row a {s} {l} m f r e) t at =
 
 -- what a scan from a place on says
 Says : List ℕ → ℕ → Option ℕ → Type 0
-Says s at none = Made s
-Says s at (some p) = (k : ℕ) × (p ≡ at + k) × FirstIllFormed s k
+Says s at None = Made s
+Says s at (Some p) = (k : ℕ) × (p ≡ at + k) × FirstIllFormed s k
 
 -- a row before what a scan says it of
 says-more : (l : List ℕ) (w at : ℕ) → Found table3_7 l w → w ≤ length l → (x : Option ℕ) → Says (drop w l) (at + w) x → Says l at x
 unfolding Says
-says-more l w at f h none m = more f.row (take w l) f.is_row (rw (← f.long) (begins-fits f.row l f.begins-so)) m (sym (take-append-drop w l))
-says-more l w at f h (some p) (k, e, q) = (
+says-more l w at f h None m = more f.row (take w l) f.is_row (rw (← f.long) (begins-fits f.row l f.begins-so)) m (sym (take-append-drop w l))
+says-more l w at f h (Some p) (k, e, q) = (
   w + k,
   omega arith,
   record {
@@ -125,19 +125,19 @@ unfolding first_ill_formed
 says s = by_length (λ (s : List ℕ). (at : ℕ) → Says s at (scan s 0 at)) says-step s 0
 
 -- a text is accepted exactly if it is made of rows of the table
-pub utf8-exact : (s : List ℕ) → (first_ill_formed s ≡ none) ↔ Made s
+pub utf8-exact : (s : List ℕ) → (first_ill_formed s ≡ None) ↔ Made s
 unfolding Says first_ill_formed
 utf8-exact s = (λ e. rw e at (says s), λ m. ap (λ (l : List ℕ). scan l 0 0) (sym (append-nil s)) ∙ scan-made m [] 0 ∙ ended 0 (0 + length s))
 
 -- the place that is given is the place of the first sequence that is no row
-pub utf8-place : (s : List ℕ) (at : ℕ) → (first_ill_formed s ≡ some at) ↔ FirstIllFormed s at
+pub utf8-place : (s : List ℕ) (at : ℕ) → (first_ill_formed s ≡ Some at) ↔ FirstIllFormed s at
 unfolding Says first_ill_formed
 utf8-place s at = (there, back)
   where
-    there : first_ill_formed s ≡ some at → FirstIllFormed s at
+    there : first_ill_formed s ≡ Some at → FirstIllFormed s at
     there e = let (k, p, f) = rw e at (says s) in let z : k ≡ at = omega arith in rw (← z) f
 
-    back : FirstIllFormed s at → first_ill_formed s ≡ some at
+    back : FirstIllFormed s at → first_ill_formed s ≡ Some at
     back f =
         let here = f.inside in
         let passed : scan s 0 0 ≡ scan (drop at s) 0 (0 + length (take at s)) = ap (λ (l : List ℕ). scan l 0 0) (sym (take-append-drop at s)) ∙ scan-made f.before (drop at s) 0 in

@@ -23,7 +23,7 @@ use Rattle.text.proofs.Rows.{within-lo, within-hi}
 use Rattle.text.proofs.Blank.{ascii-not-blank, blank-key}
 use Rattle.text.proofs.Scan.{ascii-one}
 use Rattle.text.proofs.Decode.{decode-1, decode-3, decode-width}
-use Rattle.text.proofs.Chars.{chars-nil, chars-cons, tested-by, tested, past, stops}
+use Rattle.text.proofs.Chars.{chars-nil, chars-cons, tested-by, past, stops}
 use Rattle.text.proofs.Exact.{found, begins-fits, fits-length}
 use Rattle.text.proofs.Shape.{row-further}
 use Rattle.text.proofs.Induction.{by_length}
@@ -120,42 +120,6 @@ past_ascii p s i h l y =
 -- one that passes ends the search
 pub stops-ascii : (p : ℕ → Bool) (s : List ℕ) (i : ℕ) → i < length s → get_or s i 0 < 0x80 → p (get_or s i 0) ≡ true → i + find p (drop i s) ≡ i
 stops-ascii p s i h l y = stops p s i h (tested-by p s i _ (p (get_or s i 0)) true (decode-1 s i h (ascii-one s i h l)) refl y)
-
--- one above the space, where blanks are looked for, and where others are
-module _ (s : List ℕ) (i : ℕ) (t : Bool) (some : i < length s) (byte : within 0x21 0x7F (get_or s i 0) ≡ true) where
-  abbrev ascii : get_or s i 0 < 0x80
-  ascii = let h = within-hi 0x21 0x7F (get_or s i 0) byte in omega arith
-
-  plain : blank (get_or s i 0) ≡ false
-  plain = let h = within-lo 0x21 0x7F (get_or s i 0) byte in ascii-not-blank (get_or s i 0) (omega arith) ascii
-
-  pub past-plain : t ≡ true → i + find (blank_is t) (drop i s) ≡ i + 1 + find (blank_is t) (drop (i + 1) s)
-  past-plain y = past_ascii (blank_is t) s i some ascii (rw (y, plain))
-
-  pub stops-plain : t ≡ false → i + find (blank_is t) (drop i s) ≡ i
-  stops-plain y = stops-ascii (blank_is t) s i some ascii (rw (y, plain))
-
--- a space
-module _ (s : List ℕ) (i : ℕ) (t : Bool) (some : i < length s) (byte : get_or s i 0 ≡ 0x20) where
-  space : blank (get_or s i 0) ≡ true
-  space = blank-key (get_or s i 0) (inl byte)
-
-  pub past-space : t ≡ false → i + find (blank_is t) (drop i s) ≡ i + 1 + find (blank_is t) (drop (i + 1) s)
-  past-space y = past_ascii (blank_is t) s i some (omega arith) (rw (y, space))
-
-  pub stops-space : t ≡ true → i + find (blank_is t) (drop i s) ≡ i
-  stops-space y = stops-ascii (blank_is t) s i some (omega arith) (rw (y, space))
-
--- a sequence of three bytes, by the steps that the code takes
-module _ (s : List ℕ) (i : ℕ) (t : Bool) (some : i < length s) (wide : width_of (drop i s) ≡ 3) (c : ℕ) (x y : Bool) (code : c ≡ get_or s i 0 % 16 * 4096 + get_or s (i + 1) 0 % 64 * 64 + get_or s (i + 2) 0 % 64) (test : x ≡ blank c) (alike : y ≡ same t x) where
-  three : record { cp = c; width = 3 } ≡ decode (drop i s)
-  three = ap (λ (n : ℕ). record { cp = n; width = 3 }) code ∙ decode-3 s i some wide
-
-  pub past_three : y ≡ false → i + find (blank_is t) (drop i s) ≡ i + 3 + find (blank_is t) (drop (i + 3) s)
-  past_three v = past (blank_is t) s i 3 some (ap (λ (d : Decoded). d.width) three) (tested s i t _ x y false three test alike v)
-
-  pub stops-three : y ≡ true → i + find (blank_is t) (drop i s) ≡ i
-  stops-three v = stops (blank_is t) s i some (tested s i t _ x y true three test alike v)
 
 module _ (p : ℕ → Bool) (flat : (c d : ℕ) → 0x80 ≤ c → 0x80 ≤ d → p c ≡ p d) where
   -- bytes that do not pass are passed over

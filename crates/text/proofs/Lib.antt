@@ -19,3 +19,4 @@ pub mod Blocks
 pub mod WellFormed
 pub mod Every
 pub mod AnyOver
+pub mod Steps

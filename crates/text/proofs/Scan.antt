@@ -2,7 +2,7 @@
 -- Assumes nothing.
 use mathlib.Core.Path.{◌≡◌, refl, sym, ap, ◌∙◌}
 use mathlib.Core.List.{List, [], ◌∷◌}
-use mathlib.Core.Option.{some, none}
+use Rattle.std.specs.Prelude.{Some, None}
 use Prim.Native.Nat.{ℕ, zero, suc, ◌+◌, ◌-◌, ◌<◌, ◌≤◌}
 use native.Mathlib.Nat.{add-zero, not-suc-le-zero}
 use native.Mathlib.Omega.{arith}
@@ -30,20 +30,20 @@ over (b ∷ s) (suc k) at e h = rw e (skip s k (suc at) ∙ ap (scan (drop k s) 
 pub past : (s : List ℕ) (at w : ℕ) → width_of (drop at s) ≡ w → 0 < w → scan (drop at s) 0 at ≡ scan (drop (at + w) s) 0 (at + w)
 past s at w e h = over (drop at s) w at e h ∙ ap (λ (l : List ℕ). scan l 0 (at + w)) (drop-drop w at s)
 
-pub bad : (l : List ℕ) (at : ℕ) → 0 < length l → width_of l ≡ 0 → scan l 0 at ≡ some at
+pub bad : (l : List ℕ) (at : ℕ) → 0 < length l → width_of l ≡ 0 → scan l 0 at ≡ Some at
 unfolding scan after_width
 bad [] at h e = absurd (not-suc-le-zero h)
 bad (b ∷ s) at h e = rw e
 
 -- at an ill-formed sequence
-pub stops : (s : List ℕ) (at : ℕ) → at < length s → width_of (drop at s) ≡ 0 → scan (drop at s) 0 at ≡ some at
+pub stops : (s : List ℕ) (at : ℕ) → at < length s → width_of (drop at s) ≡ 0 → scan (drop at s) 0 at ≡ Some at
 stops s at h e = bad (drop at s) at (rw length-drop (omega arith)) e
 
-pub ended : (k at : ℕ) → scan [] k at ≡ none
+pub ended : (k at : ℕ) → scan [] k at ≡ None
 unfolding scan
 ended k at = refl
 
-pub ends : (s : List ℕ) (at : ℕ) → length s ≤ at → scan (drop at s) 0 at ≡ none
+pub ends : (s : List ℕ) (at : ℕ) → length s ≤ at → scan (drop at s) 0 at ≡ None
 ends s at h = rw (lib.ListN.drop_of_length-le s h) (ended 0 at)
 
 pub within_text : (s : List ℕ) (at : ℕ) → at ≤ length s → at + width_of (drop at s) ≤ length s

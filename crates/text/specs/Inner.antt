@@ -2,7 +2,9 @@
 use Rattle.std.specs.Prelude.{ℕ, ◌+◌, ◌*◌, ◌%◌, ◌^◌, ◌<◌, ◌≤◌, ◌≡◌, Bool, List, length, get_or, drop}
 use Rattle.text.specs.Pick.{same}
 use Rattle.text.specs.Utf8.{width_of, scan}
+use Rattle.std.specs.Prelude.{Option, Some, None}
 use Rattle.text.specs.Blank.{blank}
+use Rattle.text.specs.Characters.{find}
 
 -- the code point is blank (t is true), or isn't
 abbrev pub blank_is : Bool → ℕ → Bool
@@ -40,3 +42,19 @@ High s at r = (j : ℕ) → j ≤ 8 → r % 2 ^ (8 * j) ≡ 0 → Ascii s at (at
 pub record Ended (s : List ℕ) (from n r : ℕ) : Type 0 where
   pub is : r ≡ from + n
   pub inside : r ≤ length s
+
+-- no character that passes the test begins among the n bytes at a place
+pub record NonePass (p : ℕ → Bool) (s : List ℕ) (at n : ℕ) : Type 0 where
+  pub some : 0 < n
+  pub inside : at + n ≤ length s
+  pub same : at + find p (drop at s) ≡ at + n + find p (drop (at + n) s)
+
+-- how many bytes a search for the first character that passes goes on from a place, or none where one passes there
+abbrev pub IsStep : (ℕ → Bool) → List ℕ → ℕ → Option ℕ → Type 0
+IsStep p s at None = at + find p (drop at s) ≡ at
+IsStep p s at (Some n) = NonePass p s at n
+
+-- whether a byte passes a test of ASCII characters, where that is known of the byte alone
+abbrev pub IsOfByte : (ℕ → Bool) → ℕ → Option Bool → Type 0
+IsOfByte p b None = Unit {0}
+IsOfByte p b (Some t) = (b < 0x80) × (p b ≡ t)

@@ -1,9 +1,7 @@
 -- Document 01, module 1: "`parse` to u32: one optional `+`, then one or more digits, value at most 4,294,967,295."
 use Rattle.std.specs.Prelude.{ℕ, ◌+◌, ◌-◌, ◌*◌, Bool, true, ◌&&◌, List, [], ◌∷◌, leb, eqb}
-use Rattle.std.proofs.Math.Option.{Option, some, none}
+use Rattle.std.specs.Prelude.{Option, Some, None}
 use Rattle.text.specs.Pick.{within, pick}
-use Rattle.text.specs.declared.Parsed.{Parsed}
-use Rattle.text.specs.declared.Parsed.TheVariants.{Value, NotANumber}
 
 -- the ASCII digits, 0 to 9
 abbrev pub digit : ℕ → Bool
@@ -20,18 +18,13 @@ value_from n (b ∷ s) = value_from (n * 10 + (b - 0x30)) s
 
 -- the digits behind the number n, if they are digits and their number is at most the limit
 unfoldable pub digits_from : ℕ → List ℕ → Option ℕ
-digits_from n s = pick (all_digits s && leb (value_from n s) 4294967295) (some (value_from n s)) none
+digits_from n s = pick (all_digits s && leb (value_from n s) 4294967295) (Some (value_from n s)) None
 
 unfoldable pub digits : List ℕ → Option ℕ
-digits [] = none
+digits [] = None
 digits (b ∷ s) = digits_from 0 (b ∷ s)
 
 -- 0x2B is `+`
 unfoldable pub parsed : List ℕ → Option ℕ
-parsed [] = none
+parsed [] = None
 parsed (b ∷ s) = pick (eqb b 0x2B) (digits s) (digits (b ∷ s))
-
--- what the answer of `parse` says
-abbrev pub number_of : Parsed → Option ℕ
-number_of (Value n) = some n
-number_of NotANumber = none

@@ -1,6 +1,6 @@
 -- Ranges of numbers, tests on numbers, the choice between two values by a test, parts of a list, and what holds of every element, for every crate.
 use Rattle.std.specs.Prelude.{ℕ, ◌+◌, Bool, true, false, not, ◌&&◌, ◌||◌, List, [], ◌∷◌, leb, ltb, take, drop}
-use Rattle.std.proofs.Math.Option.{Option, some, none}
+use Rattle.std.specs.Prelude.{Option, Some, None}
 
 -- a range of numbers, both ends included
 pub record Range : Type 0 where
@@ -22,8 +22,8 @@ pick false a b = b
 
 -- there is a number
 abbrev pub known : Option ℕ → Bool
-known none = false
-known (some n) = true
+known None = false
+known (Some n) = true
 
 -- the number lies between the two ends, both included
 abbrev pub within : ℕ → ℕ → ℕ → Bool

@@ -1,11 +1,9 @@
 -- UTF-8 by Table 3-7 of the Unicode Standard, row by row, and the place of the first ill-formed sequence of a text.
 use Rattle.std.specs.Prelude.{ℕ, zero, suc, ◌+◌, ◌*◌, ◌%◌, ◌<◌, ◌≡◌, Bool, true, false, ◌&&◌, length, get_or, take, drop}
 use mathlib.Core.List.{List, [], ◌∷◌, ◌++◌, Memᴰ}
-use Rattle.std.proofs.Math.Option.{Option, some, none}
+use Rattle.std.specs.Prelude.{Option, Some, None}
 use Rattle.text.specs.Pick.{Range, range, within, pick}
 use Rattle.text.specs.declared.Decoded.{Decoded}
-use Rattle.text.specs.declared.Utf8.{Utf8}
-use Rattle.text.specs.declared.Utf8.TheVariants.{WellFormed, IllFormed}
 
 -- Table 3-7, "Well-Formed UTF-8 Byte Sequences": a row has a range for each byte of the sequence
 unfoldable pub table3_7 : List (List Range)
@@ -37,23 +35,18 @@ width_of s = width_by table3_7 s
 
 -- the place of the first ill-formed sequence. From the first byte of a sequence with this width: 0 is no row of the table; else the scan goes on and skips the other bytes
 unfoldable pub after_width : ℕ → ℕ → (ℕ → Option ℕ) → Option ℕ
-after_width zero at rest = some at
+after_width zero at rest = Some at
 after_width (suc k) at rest = rest k
 
 -- the list stands at a place of the text, and its first k bytes belong to a sequence that has begun
 unfoldable pub scan : List ℕ → ℕ → ℕ → Option ℕ
-scan [] k at = none
+scan [] k at = None
 scan (b ∷ s) (suc k) at = scan s k (suc at)
 scan (b ∷ s) zero at = after_width (width_of (b ∷ s)) at (λ k. scan s k (suc at))
 
 -- document 01, number 3: "The source isn't UTF-8; place: first byte of the first ill-formed sequence"
 unfoldable pub first_ill_formed : List ℕ → Option ℕ
 first_ill_formed s = scan s 0 0
-
--- what the answer of the check says: number 3 with its place, or none
-abbrev pub utf8_place : Utf8 → Option ℕ
-utf8_place WellFormed = none
-utf8_place (IllFormed at) = some at
 
 -- the bytes are those of a row, no more and no fewer
 abbrev pub fits : List Range → List ℕ → Bool

@@ -1,23 +1,16 @@
 // Bytes as text: UTF-8, blanks, words and numbers.
 #![tactic(auto)]
 
-ghost use Rattle.std.specs.Prelude.{◌≡◌, ℕ, ◌+◌, ◌-◌, ◌*◌, ◌%◌, ◌<◌, ◌≤◌, true, not, ◌∷◌, [], eqb, length, drop, get_or, take};
+ghost use Rattle.std.specs.Prelude.{◌≡◌, ℕ, ◌+◌, ◌-◌, ◌*◌, ◌%◌, ◌<◌, ◌≤◌, Bool, true, not, Some, None, ◌∷◌, [], eqb, length, drop, get_or, take};
 ghost use Rattle.text.specs.Pick.{range, within, same, cut, pick};
 ghost use Rattle.text.specs.Bytes;
 ghost use Rattle.text.specs.Bytes.{starting, capital};
-ghost use Rattle.text.specs.Utf8.{begins, width_of, first_ill_formed, utf8_place, replacement, decode};
+ghost use Rattle.text.specs.Utf8.{begins, width_of, first_ill_formed, replacement, decode};
 ghost use Rattle.text.specs.Blank.{blank};
 ghost use Rattle.text.specs.Characters.{chars, bytes_before, find, find_byte, is_boundary};
-ghost use Rattle.text.specs.Words.{blank_text, trim_start, trim, kept, first_word, second_word};
-ghost use Rattle.text.specs.Number.{digit, digits, parsed, number_of};
-ghost use Rattle.text.specs.Inner.{Ascii, eight_bytes, four_bytes, High, Ended, Led, Passed, blank_is};
-
-// Whether a text is well formed, or where its first ill-formed sequence starts.
-#[derive(Clone, Copy)]
-pub enum Utf8 {
-    WellFormed,
-    IllFormed(usize),
-}
+ghost use Rattle.text.specs.Words.{not_blank, blank_text, trim_start, trim, kept, first_word, second_word};
+ghost use Rattle.text.specs.Number.{digit, digits, parsed};
+ghost use Rattle.text.specs.Inner.{Ascii, eight_bytes, High, Ended, Led, Passed, IsOfByte, IsStep, blank_is};
 
 // A code point, and how many bytes it takes.
 #[derive(Clone, Copy)]
@@ -26,22 +19,15 @@ pub struct Decoded {
     pub width: usize,
 }
 
-// What reading a number finds.
-#[derive(Clone, Copy)]
-pub enum Parsed {
-    Value(u32),
-    NotANumber,
-}
-
 // Whether a byte lies between two others, both included.
 pub fn holds(b: u8, lo: u8, hi: u8) -> bool
     ensures { result ≡ within lo hi b }
 {
-    if lo <= b { b <= hi } else { false }
+    lo <= b && b <= hi
 }
 
 // Table 3-7 of the Unicode Standard, "Well-Formed UTF-8 Byte Sequences": its nine rows stand here once each, in the table's order,
-// each with the ranges of all its bytes.
+// each with the ranges of all its bytes. As one `match` of slice patterns the rows leave the prover 82 goals.
 //
 // Row 1, then the rows of two, three and four bytes: how long the well-formed sequence is that begins at a place, or 0.
 fn width_at(s: &[u8], at: usize) -> usize
@@ -49,7 +35,7 @@ fn width_at(s: &[u8], at: usize) -> usize
     ensures { result ≡ width_of (drop at s.now) }
 {
     let b = s[at];
-    if holds(b, 0x00, 0x7F) {
+    if b < 0x80 {
         return 1;
     }
     if b < 0xE0 {
@@ -69,8 +55,7 @@ pub fn two_at(s: &[u8], at: usize) -> bool
     if !holds(s[at], 0xC2, 0xDF) {
         return false;
     }
-    let left = s.len() - (at + 1);
-    0 < left && holds(s[at + 1], 0x80, 0xBF)
+    1 < s.len() - at && holds(s[at + 1], 0x80, 0xBF)
 }
 
 // Rows 3 to 6: whether the bytes are a sequence of three.
@@ -105,11 +90,7 @@ pub fn three_at(s: &[u8], at: usize) -> bool
     requires { Led s.now at 0xE0 0xEF }
     ensures { width_of (drop at s.now) ≡ pick result 3 0 }
 {
-    let left = s.len() - (at + 1);
-    if left < 2 {
-        return false;
-    }
-    rows_of_three(s[at], s[at + 1], s[at + 2])
+    2 < s.len() - at && rows_of_three(s[at], s[at + 1], s[at + 2])
 }
 
 // Whether the first byte, from F0 on, begins a sequence of four bytes; one of no other length.
@@ -117,34 +98,24 @@ fn four_at(s: &[u8], at: usize) -> bool
     requires { Led s.now at 0xF0 0xFF }
     ensures { width_of (drop at s.now) ≡ pick result 4 0 }
 {
-    let left = s.len() - (at + 1);
-    if left < 3 {
-        return false;
-    }
-    rows_of_four(s[at], s[at + 1], s[at + 2], s[at + 3])
+    3 < s.len() - at && rows_of_four(s[at], s[at + 1], s[at + 2], s[at + 3])
 }
 
-fn byte(s: &[u8], k: usize) -> u64
-    requires { k < length s.now }
-    ensures { (result ≡ get_or s.now k 0) × (result < 256) }
-{
-    s[k] as u64
-}
-
-// Four bytes, the first the lowest. The sum is one load.
-fn four_bytes(s: &[u8], at: usize) -> u64
-    requires { at + 4 ≤ length s.now }
-    ensures { (result ≡ four_bytes s.now at) × (result < 4294967296) }
-{
-    byte(s, at) + 256 * byte(s, at + 1) + 65536 * byte(s, at + 2) + 16777216 * byte(s, at + 3)
-}
-
-// Eight bytes, the first the lowest.
+// Eight bytes, the first the lowest. The sum is one load.
 pub fn eight_bytes(s: &[u8], at: usize) -> u64
     requires { at + 8 ≤ length s.now }
     ensures { result ≡ eight_bytes s.now at }
 {
-    four_bytes(s, at) + 4294967296 * four_bytes(s, at + 4)
+    u64::from_le_bytes([
+        s[at],
+        s[at + 1],
+        s[at + 2],
+        s[at + 3],
+        s[at + 4],
+        s[at + 5],
+        s[at + 6],
+        s[at + 7],
+    ])
 }
 
 // The highest bits of 8 bytes, which are 0 where these are ASCII.
@@ -191,19 +162,27 @@ fn ascii_end(s: &[u8], from: usize) -> usize
 {
     let n = s.len();
     let mut i = from;
+    // A while: it goes on by sixteen bytes.
     while 16 <= n - i {
         if high16(s, i) != 0 {
             return i + ascii_of_16(s, i);
         }
         i += 16;
     }
-    while i < n {
-        if 0x80 <= s[i] {
-            break;
+    ascii_rest(s, i)
+}
+
+// The same byte by byte.
+fn ascii_rest(s: &[u8], from: usize) -> usize
+    requires { from ≤ length s.now }
+    ensures { (from ≤ result) × (result ≤ length s.now) × Ascii s.now from result }
+{
+    for i in from..s.len() {
+        if !s[i].is_ascii() {
+            return i;
         }
-        i += 1;
     }
-    i
+    s.len()
 }
 
 // How many bytes a scan passes at a place, or 0 at an ill-formed sequence: a run of ASCII where there may be one, for speed, else
@@ -212,41 +191,34 @@ fn passed(s: &[u8], at: usize) -> usize
     requires { at < length s.now }
     ensures { Passed s.now at result }
 {
-    if s[at] < 0x80 {
-        if 3 < s.len() - at {
-            if s[at + 3] < 0x80 {
-                return ascii_end(s, at + 1) - at;
-            }
-        }
+    if s[at] < 0x80 && 3 < s.len() - at && s[at + 3] < 0x80 {
+        return ascii_end(s, at + 1) - at;
     }
     width_at(s, at)
 }
 
 // The place of the first ill-formed sequence, if there is one.
-pub fn utf8_check(s: &[u8]) -> Utf8
-    ensures { utf8_place result ≡ first_ill_formed s.now }
+pub fn utf8_check(s: &[u8]) -> Option<usize>
+    ensures { result ≡ first_ill_formed s.now }
 {
     let n = s.len();
     let mut i: usize = 0;
+    // A while: it goes on by what is passed.
     while i < n {
         let w = passed(s, i);
         if w == 0 {
-            return Utf8::IllFormed(i);
+            return Some(i);
         }
         i += w;
     }
-    Utf8::WellFormed
+    None
 }
 
 // U+FFFD in the place of a byte that begins no well-formed sequence.
-fn replaced() -> Decoded
-    ensures { result ≡ replacement }
-{
-    Decoded {
-        cp: 0xFFFD,
-        width: 1,
-    }
-}
+const REPLACED: Decoded = Decoded {
+    cp: 0xFFFD,
+    width: 1,
+};
 
 // The code point of the three bytes at a place.
 fn of_three(s: &[u8], at: usize) -> u32
@@ -266,7 +238,7 @@ fn decode_wide(s: &[u8], at: usize) -> Decoded
     let b = s[at];
     if b < 0xE0 {
         if !two_at(s, at) {
-            return replaced();
+            return REPLACED;
         }
         let b1 = (s[at + 1] % 64) as u32;
         return Decoded {
@@ -276,7 +248,7 @@ fn decode_wide(s: &[u8], at: usize) -> Decoded
     }
     if b < 0xF0 {
         if !three_at(s, at) {
-            return replaced();
+            return REPLACED;
         }
         return Decoded {
             cp: of_three(s, at),
@@ -292,7 +264,7 @@ fn decode_four(s: &[u8], at: usize) -> Decoded
     ensures { result ≡ decode (drop at s.now) }
 {
     if !four_at(s, at) {
-        return replaced();
+        return REPLACED;
     }
     let b = s[at];
     let b1 = (s[at + 1] % 64) as u32;
@@ -308,24 +280,17 @@ fn decode_four(s: &[u8], at: usize) -> Decoded
 pub fn decode_at(s: &[u8], at: usize) -> Decoded
     ensures { result ≡ decode (drop at s.now) }
 {
-    if s.len() <= at {
-        return Decoded {
+    if at < s.len() {
+        decode_in(s, at)
+    } else {
+        Decoded {
             cp: 0xFFFD,
             width: 0,
-        };
+        }
     }
-    let b = s[at];
-    if b < 0x80 {
-        return Decoded {
-            cp: b as u32,
-            width: 1,
-        };
-    }
-    decode_wide(s, at)
 }
 
-// The same at a byte of the text. It calls `decode_wide` itself, which stays a function of its own since it has two callers: this function stays small
-// enough to become part of a loop.
+// The same at a byte of the text. It stays small enough to become part of a loop, since `decode_wide` is a function of its own.
 fn decode_in(s: &[u8], at: usize) -> Decoded
     requires { at < length s.now }
     ensures { result ≡ decode (drop at s.now) }
@@ -340,129 +305,195 @@ fn decode_in(s: &[u8], at: usize) -> Decoded
     decode_wide(s, at)
 }
 
+// The same for searches. The blanks of three bytes begin with E1 to E3: a sequence that begins so can be of row 4 alone, and is
+// decoded here.
+fn decode_near(s: &[u8], at: usize) -> Decoded
+    requires { at < length s.now }
+    ensures { result ≡ decode (drop at s.now) }
+{
+    match s[at] {
+        0xE1..=0xE3 if three_at(s, at) => Decoded {
+            cp: of_three(s, at),
+            width: 3,
+        },
+        _ => decode_in(s, at),
+    }
+}
+
 // Whether a place of well-formed text lies between two characters, or at either end.
 pub fn is_char_boundary(s: &[u8], at: usize) -> bool
     ensures { result ≡ is_boundary s.now at }
 {
-    if s.len() <= at {
-        return at == s.len();
+    match s.get(at) {
+        Some(b) => *b < 0x80 || at == 0 || 0xBF < *b,
+        None => at == s.len(),
     }
-    // Most bytes are ASCII, and each of these begins a character.
-    let b = s[at];
-    if b < 0x80 {
-        return true;
-    }
-    if at == 0 { true } else { 0xBF < b }
 }
 
 // The property White_Space, by its ranges.
+#[tactic(auto, unfolding(crate::specs::Blank::blank, crate::specs::Blank::blank_ranges, crate::specs::Pick::in_any))]
 pub fn is_blank(cp: u32) -> bool
     ensures { result ≡ blank cp }
 {
-    match cp {
+    matches!(
+        cp,
         0x09..=0x0D
-        | 0x20
-        | 0x85
-        | 0xA0
-        | 0x1680
-        | 0x2000..=0x200A
-        | 0x2028
-        | 0x2029
-        | 0x202F
-        | 0x205F
-        | 0x3000 => true,
-        _ => false,
+            | 0x20
+            | 0x85
+            | 0xA0
+            | 0x1680
+            | 0x2000..=0x200A
+            | 0x2028
+            | 0x2029
+            | 0x202F
+            | 0x205F
+            | 0x3000
+    )
+}
+
+// A test of characters by their code points.
+pub trait CharTest {
+    ghost test: { ℕ → Bool };
+
+    fn passes(cp: u32) -> bool
+        ensures { result ≡ test cp };
+}
+
+// What a search for the first character that passes knows without decoding.
+pub trait CharSearch: CharTest {
+    // Whether an ASCII byte passes, or None where that isn't known of the byte alone, and of each byte above ASCII.
+    fn of_byte(b: u8) -> Option<bool>
+        ensures { IsOfByte Self.test b result };
+
+    // How many bytes no character that passes begins among, or None where one passes at the place itself.
+    fn step(s: &[u8], at: usize) -> Option<usize>
+        requires { at < length s.now }
+        ensures { IsStep Self.test s.now at result }
+    {
+        decoded_step::<Self>(s, at)
     }
 }
 
-fn agree(a: bool, b: bool) -> bool
-    ensures { result ≡ same a b }
+// The step that decodes the character at the place.
+pub fn decoded_step<T: CharTest>(s: &[u8], at: usize) -> Option<usize>
+    requires { at < length s.now }
+    ensures { IsStep T.test s.now at result }
 {
-    if a { b } else { !b }
+    let d = decode_near(s, at);
+    if T::passes(d.cp) { None } else { Some(d.width) }
 }
 
-// The place of the first character, from a place on, that is blank (t is true) or isn't (t is false), or the length. The blanks of
-// three bytes begin with E1 to E3: a sequence that begins so can be of row 4 alone, and is decoded here.
-fn search_from(s: &[u8], from: usize, t: bool) -> usize
+// The place of the first character that passes, from a place on, or the length. Most bytes are ASCII, and known without a step: this
+// part stays small enough to become part of its callers.
+pub fn find_where<T: CharSearch>(s: &[u8], from: usize) -> usize
     requires { from ≤ length s.now }
-    ensures { Ended s.now from (find (blank_is t) (drop from s.now)) result }
+    ensures { Ended s.now from (find T.test (drop from s.now)) result }
 {
     let mut i = from;
     while i < s.len() {
-        if holds(s[i], 0xE1, 0xE3) {
-            if three_at(s, i) {
-                if agree(t, is_blank(of_three(s, i))) {
-                    return i;
-                }
-                i += 3;
-                continue;
-            }
+        match T::of_byte(s[i]) {
+            Some(false) => i += 1,
+            _ => return stop_at::<T>(s, i),
         }
-        let d = decode_in(s, i);
-        if agree(t, is_blank(d.cp)) {
-            return i;
-        }
-        i += d.width;
     }
     i
 }
 
-// The same. Most bytes are ASCII above the space, which are no blanks, and most blanks are spaces: neither needs decoding. From any
-// other byte on `search_from` goes on. It has two calls so that it stays a function of its own: this one stays small enough to
-// become part of its callers.
+// The same where the byte at the place passes or needs a step.
+fn stop_at<T: CharSearch>(s: &[u8], at: usize) -> usize
+    requires { at < length s.now }
+    ensures { Ended s.now at (find T.test (drop at s.now)) result }
+{
+    match T::of_byte(s[at]) {
+        Some(true) => at,
+        _ => search_where::<T>(s, at),
+    }
+}
+
+// The same by steps.
+#[inline(never)]
+fn search_where<T: CharSearch>(s: &[u8], from: usize) -> usize
+    requires { from ≤ length s.now }
+    ensures { Ended s.now from (find T.test (drop from s.now)) result }
+{
+    let mut i = from;
+    // A while: a step takes as many bytes as the test says.
+    while i < s.len() {
+        match T::step(s, i) {
+            Some(n) => i += n,
+            None => return i,
+        }
+    }
+    i
+}
+
+struct IsBlank;
+
+impl CharTest for IsBlank {
+    ghost test = { blank };
+
+    fn passes(cp: u32) -> bool {
+        is_blank(cp)
+    }
+}
+
+// Most bytes are above the space, and most blanks are spaces.
+impl CharSearch for IsBlank {
+    fn of_byte(b: u8) -> Option<bool> {
+        match b {
+            0x21..=0x7F => Some(false),
+            b' ' => Some(true),
+            _ => None,
+        }
+    }
+}
+
+struct IsNotBlank;
+
+impl CharTest for IsNotBlank {
+    ghost test = { not_blank };
+
+    fn passes(cp: u32) -> bool {
+        !is_blank(cp)
+    }
+}
+
+impl CharSearch for IsNotBlank {
+    fn of_byte(b: u8) -> Option<bool> {
+        match b {
+            0x21..=0x7F => Some(true),
+            b' ' => Some(false),
+            _ => None,
+        }
+    }
+}
+
+// The place of the first character, from a place on, that is blank (t is true) or isn't (t is false), or the length.
 pub fn find_from(s: &[u8], from: usize, t: bool) -> usize
     requires { from ≤ length s.now }
     ensures { Ended s.now from (find (blank_is t) (drop from s.now)) result }
 {
-    let mut i = from;
-    while i < s.len() {
-        if holds(s[i], 0x21, 0x7F) {
-            if !t {
-                return i;
-            }
-            i += 1;
-            continue;
-        }
-        if s[i] != b' ' {
-            if t {
-                return search_from(s, i, true);
-            }
-            return search_from(s, i, false);
-        }
-        if t {
-            return i;
-        }
-        i += 1;
+    if t {
+        find_where::<IsBlank>(s, from)
+    } else {
+        find_where::<IsNotBlank>(s, from)
     }
-    i
 }
 
 // The place of the first byte that equals b, or the length.
 pub fn find_byte(s: &[u8], b: u8) -> usize
     ensures { result ≡ find_byte (eqb b) s.now }
 {
-    let mut i: usize = 0;
-    while i < s.len() {
-        if b == s[i] {
-            return i;
-        }
-        i += 1;
-    }
-    i
+    s.iter().position(|x| b == *x).unwrap_or(s.len())
 }
 
 // The place of the first byte that is no ASCII digit, or the length.
 pub fn find_non_digit(s: &[u8]) -> usize
     ensures { result ≡ find_byte (λ b. not (digit b)) s.now }
 {
-    let mut i: usize = 0;
-    while i < s.len() {
-        if !holds(s[i], 0x30, 0x39) {
-            return i;
-        }
-        i += 1;
-    }
-    i
+    s.iter()
+        .position(|b| !b.is_ascii_digit())
+        .unwrap_or(s.len())
 }
 
 // The place of the first blank character, or the length.
@@ -478,6 +509,7 @@ fn kept_forward(s: &[u8]) -> usize
 {
     let mut end: usize = 0;
     let mut i: usize = 0;
+    // A while: it goes on by the character's width.
     while i < s.len() {
         let d = decode_in(s, i);
         i += d.width;
@@ -492,16 +524,15 @@ fn kept_forward(s: &[u8]) -> usize
 fn kept_len(s: &[u8]) -> usize
     ensures { Ended s.now 0 (kept (chars s.now)) result }
 {
-    let mut e = s.len();
-    while 0 < e {
-        let b = s[e - 1];
-        if 0x80 <= b {
-            return kept_forward(&s[..e]);
+    let mut rest = s;
+    while let [front @ .., last] = rest {
+        if !last.is_ascii() {
+            return kept_forward(rest);
         }
-        if !is_blank(b as u32) {
-            return e;
+        if !is_blank(u32::from(*last)) {
+            return rest.len();
         }
-        e -= 1;
+        rest = front;
     }
     0
 }
@@ -551,43 +582,33 @@ pub fn second_word(s: &[u8]) -> &[u8]
     &s[a2..e2]
 }
 
-fn digits_at(s: &[u8], from: usize) -> Parsed
-    ensures { number_of result ≡ digits (drop from s.now) }
+fn digits(s: &[u8]) -> Option<u32>
+    ensures { result ≡ digits s.now }
 {
-    if s.len() <= from {
-        return Parsed::NotANumber;
+    if s.is_empty() {
+        return None;
     }
-    let mut n: u64 = 0;
-    let mut i = from;
-    while i < s.len() {
-        let b = s[i];
-        if !holds(b, 0x30, 0x39) {
-            return Parsed::NotANumber;
+    let mut n: u32 = 0;
+    for b in s {
+        if !b.is_ascii_digit() {
+            return None;
         }
-        n = n * 10 + (b - 0x30) as u64;
-        if 4294967295 < n {
-            return Parsed::NotANumber;
-        }
-        i += 1;
+        n = n.checked_mul(10)?.checked_add(u32::from(*b - b'0'))?;
     }
-    Parsed::Value(n as u32)
+    Some(n)
 }
 
 // As `str::parse::<u32>`.
-pub fn parse(s: &[u8]) -> Parsed
-    ensures { number_of result ≡ parsed s.now }
+pub fn parse(s: &[u8]) -> Option<u32>
+    ensures { result ≡ parsed s.now }
 {
-    if s.len() == 0 {
-        return Parsed::NotANumber;
-    }
-    if s[0] == b'+' {
-        digits_at(s, 1)
-    } else {
-        digits_at(s, 0)
+    match s.strip_prefix(b"+") {
+        Some(rest) => digits(rest),
+        None => digits(s),
     }
 }
 
-// Whether eight bytes of two lists are the same. Two sums are compared, since the compiler makes one load of each.
+// Whether eight bytes of two lists are the same.
 fn equal_8(a: &[u8], b: &[u8], at: usize) -> bool
     requires { (at + 8 ≤ length a.now) × (at + 8 ≤ length b.now) }
     ensures { result ≡ Bytes.equal (take 8 (drop at a.now)) (take 8 (drop at b.now)) }
@@ -595,15 +616,8 @@ fn equal_8(a: &[u8], b: &[u8], at: usize) -> bool
     eight_bytes(a, at) == eight_bytes(b, at)
 }
 
-// Whether four bytes of two lists are the same.
-fn equal_4(a: &[u8], b: &[u8], at: usize) -> bool
-    requires { (at + 4 ≤ length a.now) × (at + 4 ≤ length b.now) }
-    ensures { result ≡ Bytes.equal (take 4 (drop at a.now)) (take 4 (drop at b.now)) }
-{
-    four_bytes(a, at) == four_bytes(b, at)
-}
-
-// Whether two long lists of one length are equal. Their ends are compared first, so that the blocks need no rest.
+// Whether two long lists of one length are equal. Their ends are compared first, so that the blocks need no rest. `==` takes 40 to
+// 70 % longer at equal lists of 12 bytes.
 fn equal_long(a: &[u8], b: &[u8]) -> bool
     requires { (length a.now ≡ length b.now) × (8 ≤ length a.now) }
     ensures { result ≡ Bytes.equal a.now b.now }
@@ -613,6 +627,7 @@ fn equal_long(a: &[u8], b: &[u8]) -> bool
         return false;
     }
     let mut i: usize = 0;
+    // A while: it goes on by eight bytes.
     while i < last {
         if !equal_8(a, b, i) {
             return false;
@@ -620,42 +635,6 @@ fn equal_long(a: &[u8], b: &[u8]) -> bool
         i += 8;
     }
     true
-}
-
-// Whether two lists of one length are equal from a place on, byte by byte.
-fn equal_from(a: &[u8], b: &[u8], from: usize) -> bool
-    requires { length a.now ≡ length b.now }
-    ensures { result ≡ Bytes.equal (drop from a.now) (drop from b.now) }
-{
-    let mut i = from;
-    while i < a.len() {
-        if a[i] != b[i] {
-            return false;
-        }
-        i += 1;
-    }
-    true
-}
-
-// Whether two short lists of one length are equal. Where one is a constant, a block is one comparison with a number, if no two
-// blocks overlap.
-fn equal_short(a: &[u8], b: &[u8]) -> bool
-    requires { length a.now ≡ length b.now }
-    ensures { result ≡ Bytes.equal a.now b.now }
-{
-    if 8 <= a.len() {
-        if !equal_8(a, b, 0) {
-            return false;
-        }
-        return equal_from(a, b, 8);
-    }
-    if 4 <= a.len() {
-        if !equal_4(a, b, 0) {
-            return false;
-        }
-        return equal_from(a, b, 4);
-    }
-    equal_from(a, b, 0)
 }
 
 // Whether two lists of bytes are equal.
@@ -666,24 +645,35 @@ pub fn equal(a: &[u8], b: &[u8]) -> bool
         return false;
     }
     if a.len() < 8 {
-        return equal_from(a, b, 0);
+        return equal_short(a, b);
     }
     equal_long(a, b)
 }
 
+// Whether two short lists of one length are equal. With `==` here, `equal` isn't made part of its callers, and takes 45 % longer at
+// lists of 12 bytes.
+fn equal_short(a: &[u8], b: &[u8]) -> bool
+    requires { length a.now ≡ length b.now }
+    ensures { result ≡ Bytes.equal a.now b.now }
+{
+    for i in 0..a.len() {
+        if a[i] != b[i] {
+            return false;
+        }
+    }
+    true
+}
+
+#[tactic(auto, using(crate::proofs::Blocks::equal_eq))]
 pub fn starts_with(s: &[u8], key: &[u8]) -> bool
     ensures { result ≡ starting key.now s.now }
 {
-    let n = key.len();
-    if s.len() < n {
-        return false;
-    }
-    equal_short(key, &s[..n])
+    s.starts_with(key)
 }
 
 // A capital for a small letter of ASCII.
 pub fn upper(b: u8) -> u8
     ensures { result ≡ capital b }
 {
-    if holds(b, b'a', b'z') { b - 32 } else { b }
+    b.to_ascii_uppercase()
 }

@@ -8,7 +8,7 @@ use mathlib.Core.Path.{◌≡◌, refl, sym, ap, subst, ◌∙◌}
 use mathlib.Core.Bool.{Bool, true, false, not, false≢true, ◌||◌}
 use mathlib.Core.List.{List, [], ◌∷◌}
 use mathlib.Core.Logic.{◌↔◌, ◌⊎◌, inl, inr}
-use mathlib.Core.Option.{Option, some, none}
+use Rattle.std.specs.Prelude.{Option, Some, None}
 use lib.Dec.{ltb}
 use lib.ListN.{length}
 use borrow.Author.Tests.{ltb-true, lt-ltb, not-false}
@@ -23,7 +23,8 @@ use Rattle.tape.proofs.OneNumber.{some-nodes, one-number-7, one-number-8, accept
 use Rattle.table.specs.Lines.{bad_table}
 use Rattle.table.proofs.NumberOne.{one-number-1, number-1-one}
 use Rattle.numbers.proofs.NumberNine.{one-number-9, number-9-one}
-use Rattle.definition.specs.Outcome.{Lent, at_place, of1, of2, of3, of_tape, of9, of10, short_list, refusal}
+use Rattle.definition.specs.Outcome.{Lent, of1, of2, of3, of_tape, of9, of10, short_list, refusal}
+use Rattle.refusals.specs.Refusal.{at_place}
 use Rattle.theorems.specs.Conditions.{conditions, condition_of, Condition}
 use Rattle.refusals.specs.Refusal.{Refusal, refuse, only_if, or_else, first_bad, First}
 
@@ -33,9 +34,9 @@ NoneFrom l a b = (number place : ℕ) → a ≤ number → number < b → Condit
 
 -- a part of the check that gives the numbers from a on and before b, each under its condition
 record Part (l : Lent) (x : Option Refusal) (a b : ℕ) : Type 0 where
-  given : (r : Refusal) → x ≡ some r → (a ≤ r.number) × (r.number < b) × Condition l r.number r.place × NoneFrom l a r.number
+  given : (r : Refusal) → x ≡ Some r → (a ≤ r.number) × (r.number < b) × Condition l r.number r.place × NoneFrom l a r.number
   back : (number place : ℕ) → a ≤ number → number < b → Condition l number place → NoneFrom l a number → x ≡ refuse number place
-  clear : x ≡ none → NoneFrom l a b
+  clear : x ≡ None → NoneFrom l a b
 
 -- the numbers that have a condition are 1 to 10
 within-length : (cs : List (ℕ → Type 0)) (k place : ℕ) → condition_of cs k place → k < length cs
@@ -48,26 +49,26 @@ within-ten l (suc k) place h = let w : k < 10 = within-length (conditions l) k p
 within-ten l zero place h = elim h [ ]
 
 -- a refusal by its number and place
-same-refusal : (x : Option Refusal) (r : Refusal) (number place : ℕ) → x ≡ some r → r.number ≡ number → r.place ≡ place → x ≡ refuse number place
-same-refusal x r number place e n p = e ∙ ap some (λ i. record { number = n i; place = p i })
+same-refusal : (x : Option Refusal) (r : Refusal) (number place : ℕ) → x ≡ Some r → r.number ≡ number → r.place ≡ place → x ≡ refuse number place
+same-refusal x r number place e n p = e ∙ ap Some (λ i. record { number = n i; place = p i })
 
 -- a part before another
 module _ (l : Lent) (y : Option Refusal) (a b c : ℕ) (ab : a ≤ b) (bc : b ≤ c) where
-  joined : (x : Option Refusal) → Part l x a b → (x ≡ none → Part l y b c) → Part l (or_else x y) a c
-  joined (some q) p later =
+  joined : (x : Option Refusal) → Part l x a b → (x ≡ None → Part l y b c) → Part l (or_else x y) a c
+  joined (Some q) p later =
       record {
         given = λ r e. let g = p.given r e in let lt = g.1 in (g.0, omega arith, g.2, g.3);
         back = λ number place ge lt h no-earlier. choose number place ge h no-earlier (dec_lt number b);
         clear = λ e. refused q e;
       }
     where
-      choose : (number place : ℕ) → a ≤ number → Condition l number place → NoneFrom l a number → Dec (number < b) → some q ≡ refuse number place
+      choose : (number place : ℕ) → a ≤ number → Condition l number place → NoneFrom l a number → Dec (number < b) → Some q ≡ refuse number place
       choose number place ge h no-earlier (yes k) = p.back number place ge k h no-earlier
       choose number place ge h no-earlier (no k) =
           let g = p.given q refl in
           let lt = g.1 in
           absurd (no-earlier q.number q.place g.0 (omega arith) g.2)
-  joined none p later =
+  joined None p later =
       record {
         given = λ r e. let g = (later refl).given r e in let ge = g.0 in (omega arith, g.1, g.2, λ number place from lt h. either number place from h (dec_lt number b) (λ k. g.3 number place k lt h));
         back = λ number place ge lt h no-earlier. choose number place ge lt h no-earlier (dec_lt number b);
@@ -83,7 +84,7 @@ module _ (l : Lent) (y : Option Refusal) (a b c : ℕ) (ab : a ≤ b) (bc : b �
       choose number place ge lt h no-earlier (no k) = (later refl).back number place (omega arith) lt h (λ m q from less. no-earlier m q (omega arith) less)
 
 -- a part that gives one number
-module _ (l : Lent) (x : Option Refusal) (k : ℕ) (is : (r : Refusal) → x ≡ some r → r.number ≡ k) (under : (place : ℕ) → (x ≡ refuse k place) ↔ Condition l k place) where
+module _ (l : Lent) (x : Option Refusal) (k : ℕ) (is : (r : Refusal) → x ≡ Some r → r.number ≡ k) (under : (place : ℕ) → (x ≡ refuse k place) ↔ Condition l k place) where
   single : Part l x k (suc k)
   single =
       record {
@@ -93,18 +94,18 @@ module _ (l : Lent) (x : Option Refusal) (k : ℕ) (is : (r : Refusal) → x ≡
       }
 
 -- a part that gives a place or none
-at-place : (k : ℕ) (x : Option ℕ) (r : Refusal) → at_place k x ≡ some r → (r.number ≡ k) × (x ≡ some r.place)
-at-place k none r e = refused r (sym e)
-at-place k (some place) r e = let o = only true k place r e in (o.1, ap some (sym o.2))
+at-place : (k : ℕ) (x : Option ℕ) (r : Refusal) → at_place k x ≡ Some r → (r.number ≡ k) × (x ≡ Some r.place)
+at-place k None r e = refused r (sym e)
+at-place k (Some place) r e = let o = only true k place r e in (o.1, ap Some (sym o.2))
 
 -- every number that the reading gives is 7 or 8
-read_number : (t : List ℕ) (k i : ℕ) (s : List ℕ) (r : Refusal) → read t k i s ≡ some r → (r.number ≡ 7) ⊎ (r.number ≡ 8)
+read_number : (t : List ℕ) (k i : ℕ) (s : List ℕ) (r : Refusal) → read t k i s ≡ Some r → (r.number ≡ 7) ⊎ (r.number ≡ 8)
 unfolding read
 read_number t zero i [] r e = refused r (sym e)
 read_number t zero i (x ∷ s) r e = inl (only true 7 i r e).1
 read_number t (suc k) i s r e = by (step t i s) (step-odd t i s) e (read_number t k (suc i))
   where
-    by : (q : Step) → Odd q → resume q i (read t k (suc i)) ≡ some r → ((s' : List ℕ) (r : Refusal) → read t k (suc i) s' ≡ some r → (r.number ≡ 7) ⊎ (r.number ≡ 8)) → (r.number ≡ 7) ⊎ (r.number ≡ 8)
+    by : (q : Step) → Odd q → resume q i (read t k (suc i)) ≡ Some r → ((s' : List ℕ) (r : Refusal) → read t k (suc i) s' ≡ Some r → (r.number ≡ 7) ⊎ (r.number ≡ 8)) → (r.number ≡ 7) ⊎ (r.number ≡ 8)
     by (go s') o w later = later s' r w
     by (stop n) (inl z) w later = inl ((only true n i r w).1 ∙ z)
     by (stop n) (inr z) w later = inr ((only true n i r w).1 ∙ z)
@@ -170,10 +171,10 @@ module _ (l : Lent) where
   gives-6 : 1 + (n - 1) ≡ n → Part l part6 6 7
   gives-6 all = single l part6 6 (λ r e. (first_of 6 (bad_span s t) (n - 1) 1 r e).0) (λ place. (λ e. (subst (λ (m : ℕ). First (bad_span s t) 1 m place) all (first_of 6 (bad_span s t) (n - 1) 1 _ e).1), λ h. first-is 6 (bad_span s t) (n - 1) 1 place (subst (λ (m : ℕ). First (bad_span s t) 1 m place) (sym all) h)))
 
-  seven-or-eight : (r : Refusal) → part78 ≡ some r → (r.number ≡ 7) ⊎ (r.number ≡ 8)
+  seven-or-eight : (r : Refusal) → part78 ≡ Some r → (r.number ≡ 7) ⊎ (r.number ≡ 8)
   seven-or-eight r e = by (which (only_if (not (good_root t)) (refuse 7 0)) (read t (n - 1) 1 []) r e)
     where
-      by : (only_if (not (good_root t)) (refuse 7 0) ≡ some r) ⊎ ((only_if (not (good_root t)) (refuse 7 0) ≡ none) × (read t (n - 1) 1 [] ≡ some r)) → (r.number ≡ 7) ⊎ (r.number ≡ 8)
+      by : (only_if (not (good_root t)) (refuse 7 0) ≡ Some r) ⊎ ((only_if (not (good_root t)) (refuse 7 0) ≡ None) × (read t (n - 1) 1 [] ≡ Some r)) → (r.number ≡ 7) ⊎ (r.number ≡ 8)
       by (inl x) = inl (only (not (good_root t)) 7 0 r x).1
       by (inr x) = read_number t (n - 1) 1 [] r x.1
 
@@ -192,7 +193,7 @@ module _ (l : Lent) where
           clear = λ e number place ge lt h. clear e number place ge lt h (dec_lt number 8);
         }
       where
-        there : (r : Refusal) → part78 ≡ some r → (r.number ≡ 7) ⊎ (r.number ≡ 8) → (7 ≤ r.number) × (r.number < 9) × Condition l r.number r.place × NoneFrom l 7 r.number
+        there : (r : Refusal) → part78 ≡ Some r → (r.number ≡ 7) ⊎ (r.number ≡ 8) → (7 ≤ r.number) × (r.number < 9) × Condition l r.number r.place × NoneFrom l 7 r.number
         there r e (inl z) = (
           omega arith,
           omega arith,
@@ -212,14 +213,14 @@ module _ (l : Lent) where
         back number place ge lt h no-earlier (no k) true y = let z : number ≡ 8 = omega arith in rw z (at_8 place y (rw z at h))
         back number place ge lt h no-earlier (no k) false y = absurd (no-earlier 7 0 (omega arith) (omega arith) (inl (y, refl)))
 
-        clear : part78 ≡ none → (number place : ℕ) → 7 ≤ number → number < 9 → Condition l number place → Dec (number < 8) → ⊥
+        clear : part78 ≡ None → (number place : ℕ) → 7 ≤ number → number < 9 → Condition l number place → Dec (number < 8) → ⊥
         clear e number place ge lt h (yes k) = let z : number ≡ 7 = omega arith in refused _ (sym (at_7 place (rw z at h)) ∙ e)
         clear e number place ge lt h (no k) =
             let z : number ≡ 8 = omega arith in
             let g = not-false (good_root t) (only-not (not (good_root t)) 7 0 (neither (only_if (not (good_root t)) (refuse 7 0)) (read t (n - 1) 1 []) e).0) in
             refused _ (sym (at_8 place g (rw z at h)) ∙ e)
 
-  plain_of : part4 ≡ none → part5 ≡ none → part6 ≡ none → GoodNodes s t
+  plain_of : part4 ≡ None → part5 ≡ None → part6 ≡ None → GoodNodes s t
   plain_of a b c =
       let e = only-not (bad_length t) 4 0 a in
       let h = some-nodes s t e in
@@ -251,9 +252,9 @@ module _ (l : Lent) where
     λ h. let w = within-ten l number place h.0 in whole.back number place w.0 w.1 h.0 (λ earlier at from lt c. h.1 earlier at lt c),
   )
 
-  pub no_number : (refusal l ≡ none) ↔ ((number place : ℕ) → Condition l number place → ⊥)
+  pub no_number : (refusal l ≡ None) ↔ ((number place : ℕ) → Condition l number place → ⊥)
   no_number = (λ e number place h. let w = within-ten l number place h in whole.clear e number place w.0 w.1 h, λ h. by h (refusal l) refl)
     where
-      by : ((number place : ℕ) → Condition l number place → ⊥) → (x : Option Refusal) → refusal l ≡ x → x ≡ none
-      by h none e = refl
-      by h (some r) e = absurd (h r.number r.place (whole.given r e).2)
+      by : ((number place : ℕ) → Condition l number place → ⊥) → (x : Option Refusal) → refusal l ≡ x → x ≡ None
+      by h None e = refl
+      by h (Some r) e = absurd (h r.number r.place (whole.given r e).2)

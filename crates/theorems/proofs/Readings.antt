@@ -5,7 +5,7 @@ use native.Mathlib.Omega.{arith}
 use mathlib.Core.Path.{◌≡◌, refl}
 use mathlib.Core.Bool.{Bool, true, false, not}
 use mathlib.Core.List.{List, [], ◌∷◌}
-use mathlib.Core.Option.{some, none}
+use Rattle.std.specs.Prelude.{Some, None}
 use lib.Dec.{eqb, leb}
 use lib.ListN.{take, drop}
 use borrow.Author.Tests.{ne_eqb, leb-true, leb-false}
@@ -27,7 +27,7 @@ all_digits_lem (b ∷ s) = go (digit b) refl (all_digits_lem s)
     go false h later = refl
 
 -- and make a number that is read if it is low enough
-read-digits : (s : List ℕ) (n : ℕ) → digits_end s ≡ suc n → digits (take (suc n) s) ≡ pick (leb (value_from 0 (take (suc n) s)) 4294967295) (some (value_from 0 (take (suc n) s))) none
+read-digits : (s : List ℕ) (n : ℕ) → digits_end s ≡ suc n → digits (take (suc n) s) ≡ pick (leb (value_from 0 (take (suc n) s)) 4294967295) (Some (value_from 0 (take (suc n) s))) None
 unfolding find_byte digits digits_from
 read-digits [] n e = absurd (omega (arith, e))
 read-digits (b ∷ t) n e = let a : all_digits (b ∷ take n t) ≡ true = rw e at (all_digits_lem (b ∷ t)) in rw a
@@ -36,7 +36,7 @@ part-is : (s : List ℕ) → ReadingIs s (part_of s)
 unfolding part_of
 part-is s = go (digits_end s) refl
   where
-    large : (n : ℕ) → digits_end s ≡ suc n → (b : Bool) → leb (value_from 0 (take (suc n) s)) 4294967295 ≡ b → ReadingIs s (with_letter (pick b (some (value_from 0 (take (suc n) s))) none) (letter_of (drop (suc n) s)))
+    large : (n : ℕ) → digits_end s ≡ suc n → (b : Bool) → leb (value_from 0 (take (suc n) s)) 4294967295 ≡ b → ReadingIs s (with_letter (pick b (Some (value_from 0 (take (suc n) s))) None) (letter_of (drop (suc n) s)))
     large n e true h = rw e (omega arith, leb-true _ _ h, refl, refl)
     large n e false h = rw e (omega arith, leb-false _ _ h)
 

@@ -5,7 +5,7 @@ use mathlib.Core.Path.{◌≡◌, refl, ap, ◌∙◌}
 use mathlib.Core.Bool.{true, false, not, ◌&&◌, ◌||◌}
 use mathlib.Core.List.{List, [], ◌∷◌, ◌++◌}
 use mathlib.Core.Logic.{◌↔◌}
-use mathlib.Core.Option.{Option, some, none}
+use Rattle.std.specs.Prelude.{Option, Some, None, Result}
 use lib.Dec.{ltb}
 use lib.ListN.{length, take, drop}
 use seplogic.Ra.Ura.{Ura}
@@ -60,8 +60,11 @@ use Rattle.definition.proofs.Unreadable as unreadable
 use Rattle.definition.proofs.Counted as counted
 use Rattle.definition.proofs.Worked as worked
 use Rattle.validate.specs.Entry.{answer_of}
-use Rattle.validate.specs.declared.Answer.{Answer}
-use Rattle.validate.specs.contracts.Answer as answers
+use Rattle.validate.specs.declared.Report.{Report}
+use Rattle.refusals.specs.declared.Refusal as code
+use Rattle.std.specs.contracts.result.Result as results
+use Rattle.validate.specs.contracts.Report as reports
+use Rattle.refusals.specs.contracts.Refusal as refusals
 use Rattle.validate.proofs.check as entry
 use Rattle.validate.specs.contracts.check as entry-contract
 use Rattle.validate.proofs.Lists as lists
@@ -104,7 +107,7 @@ use Rattle.refusals.specs.Refusal.{Refusal, refuse, node_list_too_short}
 
 -- ---- What `validate::check` promises
 
--- check(table: &[u8], source: &[u8], tape: &[u8], seen: &mut [u32], opens: &mut [OpenStart], list: &mut [u64]) -> Answer
+-- check(table: &[u8], source: &[u8], tape: &[u8], seen: &mut [u32], opens: &mut [OpenStart], list: &mut [u64]) -> Result<Report, Refusal>
 abbrev pub check_signature : Signature
 check_signature =
     record {
@@ -118,11 +121,11 @@ check_signature =
           ∷ SliceRefMutOf (4 ∷ []) tt (plain (λ κs. open-start.the_row)) (λ κs. tt)
           ∷ SliceRefMutOf (5 ∷ []) tt (plain (λ κs. u64)) (λ κs. tt)
           ∷ [];
-      result = plain (λ κs. answers.the_row);
+      result = plain (λ κs. results.the_row reports.the_row refusals.the_row);
     }
 
 -- what it says of all that is lent, of its answer r, and of the lists at exit
-abbrev pub check_ensures : Lent → Answer → (seen : List ℕ) (opens : List OpenStart) (list : List ℕ) → List (Type 0)
+abbrev pub check_ensures : Lent → Result Report code.Refusal → (seen : List ℕ) (opens : List OpenStart) (list : List ℕ) → List (Type 0)
 check_ensures l r seen opens list =
     (answer_of r ≡ answer l)
     ∷ (list ≡ list_after l)
@@ -158,17 +161,17 @@ one-number l number place = composed.one_number l number place
 
 -- "A document, source and tape under a table, is accepted, or checked, when none of numbers 1 to 10 below turns it back."
 -- No number is given exactly if none has its condition anywhere.
-pub no-number : (l : Lent) → (refusal l ≡ none) ↔ ((number place : ℕ) → Condition l number place → ⊥)
+pub no-number : (l : Lent) → (refusal l ≡ None) ↔ ((number place : ℕ) → Condition l number place → ⊥)
 no-number l = composed.no_number l
 
 -- "Source: UTF-8, at most 1,048,576 bytes."
 -- No place is given exactly if the text is made of rows of the Unicode Standard's Table 3-7.
-pub utf8-exact : (s : List ℕ) → (first_ill_formed s ≡ none) ↔ Made s
+pub utf8-exact : (s : List ℕ) → (first_ill_formed s ≡ None) ↔ Made s
 utf8-exact s = exact.utf8-exact s
 
 -- "The source isn't UTF-8; place: first byte of the first ill-formed sequence."
 -- A place is given exactly if the text before it is made of rows and no row begins there.
-pub utf8-place : (s : List ℕ) (at : ℕ) → (first_ill_formed s ≡ some at) ↔ FirstIllFormed s at
+pub utf8-place : (s : List ℕ) (at : ℕ) → (first_ill_formed s ≡ Some at) ↔ FirstIllFormed s at
 utf8-place s at = exact.utf8-place s at
 
 -- "A span from node 1 on leaves the source or splits a character; place: that node."
@@ -177,7 +180,7 @@ pub boundary : (s : List ℕ) → Made s → (at : ℕ) → is_boundary s at ≡
 boundary s made at = characters.boundary made at
 
 -- In a source that 3 doesn't turn back, number 6's test is that the span leaves the source, or that its start or its end doesn't lie between two characters.
-pub span-is : (s t : List ℕ) (i : ℕ) → first_ill_formed s ≡ none
+pub span-is : (s t : List ℕ) (i : ℕ) → first_ill_formed s ≡ None
     → bad_span s t i ≡ (ltb (length s) (start_at t i + len_at t i) || (not (between (chars s) (start_at t i)) || not (between (chars s) (start_at t i + len_at t i))))
 span-is s t i well-formed = well.span-is s t i well-formed
 
@@ -187,13 +190,13 @@ pub splits-is : (text : List ℕ) → Made text → (e : Option Entry) → split
 splits-is text made e = labels.splits-is made e
 
 -- The text and the name of every node but the root of a checked document are well-formed, and so are the labels of its Chapters and Verses; so that a row of Table 3-7 begins at every character, and U+FFFD stands for no ill-formed byte.
-pub node-made : (l : Lent) → refusal l ≡ none → (i : ℕ) → 1 ≤ i → i < count l.tape → Made (node_at l.source l.tape i).text
+pub node-made : (l : Lent) → refusal l ≡ None → (i : ℕ) → 1 ≤ i → i < count l.tape → Made (node_at l.source l.tape i).text
 node-made l none-given i from inside = well.node_made l none-given i from inside
 
-pub name-made : (l : Lent) → refusal l ≡ none → (i : ℕ) → 1 ≤ i → i < count l.tape → Made (name_of (node_at l.source l.tape i).text)
+pub name-made : (l : Lent) → refusal l ≡ None → (i : ℕ) → 1 ≤ i → i < count l.tape → Made (name_of (node_at l.source l.tape i).text)
 name-made l none-given i from inside = well.name-made l none-given i from inside
 
-pub label-made : (l : Lent) → refusal l ≡ none → (i : ℕ) → 1 ≤ i → i < count l.tape → numbered (kind_at l.tape i) ≡ true → Made (label_of (info_at l.table l.tape i) (node_at l.source l.tape i).text)
+pub label-made : (l : Lent) → refusal l ≡ None → (i : ℕ) → 1 ≤ i → i < count l.tape → numbered (kind_at l.tape i) ≡ true → Made (label_of (info_at l.table l.tape i) (node_at l.source l.tape i).text)
 label-made l none-given i from inside number = well.label-made l none-given i from inside number
 
 pub each-decodes : (s : List ℕ) → Made s → (at : ℕ) → between (chars s) at ≡ true → at < length s → 0 < width_of (drop at s)
@@ -201,7 +204,7 @@ each-decodes s made at between-two inside = decoding.each-decodes made at (chara
 
 -- "Read nodes from 1 with the opens not yet closed, the root outermost. A close (kinds MarkerClose, BlockEnd) at i must be the link of the innermost open."
 -- None of the numbers 4 to 8 is given exactly if the tape is `Accepted`: its length, kinds and spans are good, the root's link is as module 2 has it, and the nodes before it nest at most 64 deep.
-pub accepted : (s t : List ℕ) → (tape_refusal s t ≡ none) ↔ Accepted s t
+pub accepted : (s t : List ℕ) → (tape_refusal s t ≡ None) ↔ Accepted s t
 accepted s t = tape.accepted s t
 
 -- "Each gives number and place and writes nothing."
@@ -209,14 +212,14 @@ pub refused-unchanged : (l : Lent) (number place : ℕ) → refusal l ≡ refuse
 refused-unchanged l number place given = (rw given, rw given, rw given)
 
 -- "After a checked document the first n entries of both working lists are zero (n nodes), the rest unchanged."
-pub working-lists-cleared : (l : Lent) → refusal l ≡ none → (seen_after l ≡ cleared 0 (count l.tape) l.seen) × (open_after l ≡ cleared no_start (count l.tape) l.open_starts)
+pub working-lists-cleared : (l : Lent) → refusal l ≡ None → (seen_after l ≡ cleared 0 (count l.tape) l.seen) × (open_after l ≡ cleared no_start (count l.tape) l.open_starts)
 working-lists-cleared l none-given = (rw none-given, rw none-given)
 
 -- ---- Demand 3
 
 -- "Two documents begin alike when the shorter's source is a beginning of the longer's, and its nodes from 1 on before the root's link, which are its top-level nodes with all inside them, are the longer's first nodes from 1 on; what the longer adds are its nodes after these, or none; root fields aren't compared, and no MarkerOpen that the longer adds starts at a byte where one of the shorter's starts, since attachment goes by start offset."
 -- Of two checked documents under one table that begin alike, the shorter's findings, closing findings aside, are a beginning of the longer's.
-pub longer-keeps-findings : (l l' : Lent) → l.table ≡ l'.table → refusal l ≡ none → refusal l' ≡ none → BeginAlike l.source l.tape l'.source l'.tape → Beginning (running l.table (top l.source l.tape)) (running l'.table (top l'.source l'.tape))
+pub longer-keeps-findings : (l l' : Lent) → l.table ≡ l'.table → refusal l ≡ None → refusal l' ≡ None → BeginAlike l.source l.tape l'.source l'.tape → Beginning (running l.table (top l.source l.tape)) (running l'.table (top l'.source l'.tape))
 longer-keeps-findings l l' table short long alike = demand3.longer-keeps-findings l l' table short long alike
 
 -- "A visited start that no end takes is unclosed, and its finding is a MilestoneMismatch of form 0 with its node."
@@ -225,33 +228,33 @@ pub unclosed-listed : (table : List ℕ) (f : Forest) → those is_unclosed (fin
 unclosed-listed table f = unclosed.unclosed-listed table f
 
 -- Of the unclosed starts in the longer's list, those with a node of the shorter are those of the shorter's list that no end among the added nodes takes, in the same order and with all fields alike.
-pub longer-unclosed : (l l' : Lent) → l.table ≡ l'.table → refusal l ≡ none → refusal l' ≡ none → BeginAlike l.source l.tape l'.source l'.tape
+pub longer-unclosed : (l l' : Lent) → l.table ≡ l'.table → refusal l ≡ None → refusal l' ≡ None → BeginAlike l.source l.tape l'.source l'.tape
     → those (λ e. is_unclosed e && ltb e.node (link_at l.tape 0)) (list_of l')
     ≡ those (λ e. is_unclosed e && not (taken_from (link_at l.tape 0) e.node (marks (visits l'.table (top l'.source l'.tape))))) (list_of l)
 longer-unclosed l l' table short long alike = unclosed.longer-unclosed l l' table short long alike
 
 -- "its lists are those that the check writes, by demand 2 those of the definition"
 -- The first 8k words of both lists at exit are the same, for every k up to the number of the shorter's findings, closing findings aside, for which both lists have room; by `written-words` they are the words of the first k findings.
-pub longer-keeps-words : (l l' : Lent) → l.table ≡ l'.table → refusal l ≡ none → refusal l' ≡ none → BeginAlike l.source l.tape l'.source l'.tape
+pub longer-keeps-words : (l l' : Lent) → l.table ≡ l'.table → refusal l ≡ None → refusal l' ≡ None → BeginAlike l.source l.tape l'.source l'.tape
     → (k : ℕ) → k ≤ length (running l.table (top l.source l.tape)) → k ≤ room l.list → k ≤ room l'.list
     → take (8 * k) (list_after l') ≡ take (8 * k) (list_after l)
 longer-keeps-words l l' table short long alike k = lists.longer-keeps-words l l' table short long alike k
 
 -- The second half for the words of lists that aren't cut: `findings_in` reads eight words as a finding.
-pub longer-unclosed-words : (l l' : Lent) → l.table ≡ l'.table → refusal l ≡ none → refusal l' ≡ none → BeginAlike l.source l.tape l'.source l'.tape → (checked_of l).cut ≡ false → (checked_of l').cut ≡ false
+pub longer-unclosed-words : (l l' : Lent) → l.table ≡ l'.table → refusal l ≡ None → refusal l' ≡ None → BeginAlike l.source l.tape l'.source l'.tape → (checked_of l).cut ≡ false → (checked_of l').cut ≡ false
     → those (λ e. is_unclosed e && ltb e.node (link_at l.tape 0)) (findings_in (take (8 * (checked_of l').total) (list_after l')))
     ≡ those (λ e. is_unclosed e && not (taken_from (link_at l.tape 0) e.node (marks (visits l'.table (top l'.source l'.tape))))) (findings_in (take (8 * (checked_of l).total) (list_after l)))
 longer-unclosed-words l l' table short long alike uncut uncut' = lists.longer-unclosed-words l l' table short long alike uncut uncut'
 
 -- The words of a list that isn't cut are its findings.
-pub uncut-words : (l : Lent) → refusal l ≡ none → (checked_of l).cut ≡ false → findings_in (take (8 * (checked_of l).total) (list_after l)) ≡ list_of l
+pub uncut-words : (l : Lent) → refusal l ≡ None → (checked_of l).cut ≡ false → findings_in (take (8 * (checked_of l).total) (list_after l)) ≡ list_of l
 uncut-words l none-given uncut = lists.uncut-words l none-given uncut
 
 -- Two documents meet these premises: neither is turned back, and they begin alike. By `worked-examples` the shorter's list has one unclosed start, which the longer's added end takes: the longer's list has none.
-pub shorter-accepted : refusal (examples.lent_of examples.shorter_document) ≡ none
+pub shorter-accepted : refusal (examples.lent_of examples.shorter_document) ≡ None
 shorter-accepted = pair.shorter-accepted
 
-pub longer-accepted : refusal (examples.lent_of examples.longer_document) ≡ none
+pub longer-accepted : refusal (examples.lent_of examples.longer_document) ≡ None
 longer-accepted = pair.longer-accepted
 
 pub begin-alike : BeginAlike (examples.lent_of examples.shorter_document).source (examples.lent_of examples.shorter_document).tape (examples.lent_of examples.longer_document).source (examples.lent_of examples.longer_document).tape
@@ -266,7 +269,7 @@ open-starts-are-untaken table f = untaken.open-starts-are-untaken table f
 
 -- "State for every accepted document and every milestone base: visited starts plus visited ends equal twice the pairs plus the MilestoneMismatch findings of that base in the whole list. Pairs are counted by module 9's taking rule over the order of visits, never from the open starts."
 -- Every list of bytes is taken as a base; where no milestone has it, all four are 0. `visits` are the visited milestones in their order, and `marks` say of each which end took it. That the document is accepted isn't needed (`account`).
-pub quotation-account : (l : Lent) → refusal l ≡ none → (base : List ℕ)
+pub quotation-account : (l : Lent) → refusal l ≡ None → (base : List ℕ)
     → visited_starts base (visits l.table (top l.source l.tape)) + visited_ends base (visits l.table (top l.source l.tape))
     ≡ 2 * pairs_of base (marks (visits l.table (top l.source l.tape))) + mismatches_of base (node_at l.source l.tape) (list_of l)
 quotation-account l none-given base = paired.quotation-account l none-given base
@@ -277,7 +280,7 @@ pub account : (table s t base : List ℕ)
 account table s t base = paired.account table s t base
 
 -- For the words that the check writes, where the list isn't cut.
-pub account-of-words : (l : Lent) → refusal l ≡ none → (checked_of l).cut ≡ false → (base : List ℕ)
+pub account-of-words : (l : Lent) → refusal l ≡ None → (checked_of l).cut ≡ false → (base : List ℕ)
     → visited_starts base (visits l.table (top l.source l.tape)) + visited_ends base (visits l.table (top l.source l.tape))
     ≡ 2 * pairs_of base (marks (visits l.table (top l.source l.tape))) + mismatches_of base (node_at l.source l.tape) (findings_in (take (8 * (checked_of l).total) (list_after l)))
 account-of-words l none-given uncut base = lists.account-of-words l none-given uncut base
@@ -288,7 +291,7 @@ pub account-by : (fits : Fits) → ((y x : Milestone) → fits y x ≡ true → 
 account-by fits by-base table f at found base = paired.account-by fits by-base table f at found base
 
 -- Nested, crossing and unclosed quotations of two bases. Of `qt` there are 2 starts, 3 ends, 2 pairs and 1 mismatch, of `qt1` 3 starts, 1 end, 1 pair and 2 mismatches; the document is accepted.
-pub quotation-example : (examples.account_of (ascii "qt") examples.quotations ≡ 2 ∷ 3 ∷ 2 ∷ 1 ∷ []) × (examples.account_of (ascii "qt1") examples.quotations ≡ 3 ∷ 1 ∷ 1 ∷ 2 ∷ []) × (refusal (examples.lent_of examples.quotations) ≡ none)
+pub quotation-example : (examples.account_of (ascii "qt") examples.quotations ≡ 2 ∷ 3 ∷ 2 ∷ 1 ∷ []) × (examples.account_of (ascii "qt1") examples.quotations ≡ 3 ∷ 1 ∷ 1 ∷ 2 ∷ []) × (refusal (examples.lent_of examples.quotations) ≡ None)
 quotation-example = worked.quotation-example
 
 -- ---- A checked document's numbers, words, texts and tally
@@ -300,7 +303,7 @@ counts-add-up l = counted.counts-add-up l
 
 -- "A checked document gives total, written, verses visited, errors, warnings, infos."
 -- The verses visited are no more than the nodes.
-pub verses-few : (l : Lent) → refusal l ≡ none → (checked_of l).verses ≤ count l.tape
+pub verses-few : (l : Lent) → refusal l ≡ None → (checked_of l).verses ≤ count l.tape
 verses-few l none-given = counted.verses_few l none-given
 
 -- "an invented total, or Cut from a list not full, contradicts demand 1"
@@ -313,22 +316,22 @@ cut-is-full l cut = counted.cut-is-full l cut
 
 -- "Written is the smaller of total and the list's length divided by 8, rounded down; words beyond are untouched"
 -- The list at exit holds the words of the findings that fit, and then what it held.
-pub written-words : (l : Lent) → refusal l ≡ none → list_after l ≡ encode (take (room l.list) (list_of l)) ++ drop (8 * length (take (room l.list) (list_of l))) l.list
+pub written-words : (l : Lent) → refusal l ≡ None → list_after l ≡ encode (take (room l.list) (list_of l)) ++ drop (8 * length (take (room l.list) (list_of l))) l.list
 written-words l none-given = lists.written-words l none-given
 
 -- "Message (after 1 to 9): code and form unknown to validate.rs, node or owner not on the tape, letter over 127, or the node lacks what the text needs"
 -- Every finding of a checked document has its text, so number 12 turns none of them back.
-pub finding-has-message : (l : Lent) → refusal l ≡ none → AllOf (λ (f : Finding). (text : List ℕ) × (message_text l.table l.source l.tape (request_of f) ≡ some text)) (list_of l)
+pub finding-has-message : (l : Lent) → refusal l ≡ None → AllOf (λ (f : Finding). (text : List ℕ) × (message_text l.table l.source l.tape (request_of f) ≡ Some text)) (list_of l)
 finding-has-message l none-given = message.finding-has-message l none-given
 
 -- "Tally gives 35 counts by code."; document 02, K6: "Tally has 36 counts".
 -- The counts of a list that number 11 does not turn back sum to its number of records.
-pub tally-sums : (words : List ℕ) → tally_refusal words ≡ none → sum (tally_of words) ≡ whole_records words
+pub tally-sums : (words : List ℕ) → tally_refusal words ≡ None → sum (tally_of words) ≡ whole_records words
 tally-sums words none-given = sums.tally-sums words none-given
 
 -- "All but verses are lengths of the defined list or its parts"
 -- The tally of a checked document's list that is not cut sums to its total.
-pub tally-total : (l : Lent) → refusal l ≡ none → 8 * length (list_of l) ≤ length l.list → sum (tally_of (take (8 * length (list_of l)) (list_after l))) ≡ length (list_of l)
+pub tally-total : (l : Lent) → refusal l ≡ None → 8 * length (list_of l) ≤ length l.list → sum (tally_of (take (8 * length (list_of l)) (list_after l))) ≡ length (list_of l)
 tally-total l none-given fits = totals.tally-total l none-given fits
 
 -- ---- The listing
@@ -360,14 +363,14 @@ listing-example = printed.listing-example
 
 -- "Column becomes one plus the number of code points that begin at or after the line's start and before the finding's."
 -- In well-formed text it is one plus the number of bytes outside 80 to BF from the line's start to the place.
-pub column-first-bytes : (s : List ℕ) → first_ill_formed s ≡ none → (at : ℕ) → column_at s at ≡ suc (how_many outside80_bf (line_before s at))
+pub column-first-bytes : (s : List ℕ) → first_ill_formed s ≡ None → (at : ℕ) → column_at s at ≡ suc (how_many outside80_bf (line_before s at))
 column-first-bytes s well-formed at = columns.column-first-bytes s well-formed at
 
 -- It is at most document 01's column, which counts bytes, and equal where the bytes from the line's start to the place are ASCII.
-pub column-at-most-bytes : (s : List ℕ) → first_ill_formed s ≡ none → (at : ℕ) → at ≤ length s → column_at s at ≤ (line_and_column s at).column
+pub column-at-most-bytes : (s : List ℕ) → first_ill_formed s ≡ None → (at : ℕ) → at ≤ length s → column_at s at ≤ (line_and_column s at).column
 column-at-most-bytes s well-formed at inside = columns.column-at-most-bytes s well-formed at inside
 
-pub column-ascii : (s : List ℕ) → first_ill_formed s ≡ none → (at : ℕ) → at ≤ length s → AllOf (λ (b : ℕ). b < 0x80) (line_before s at) → column_at s at ≡ (line_and_column s at).column
+pub column-ascii : (s : List ℕ) → first_ill_formed s ≡ None → (at : ℕ) → at ≤ length s → AllOf (λ (b : ℕ). b < 0x80) (line_before s at) → column_at s at ≡ (line_and_column s at).column
 column-ascii s well-formed at inside low = columns.column-ascii s well-formed at inside low
 
 -- The whole output for a document with Greek: its finding stands at column 12, which in bytes is 17.
@@ -414,11 +417,11 @@ pub read-yields : (t s : List ℕ) (xs : List ReadNode) → Legible t s → outc
 read-yields t s xs legible passes = reader.read-yields t s xs legible passes
 
 -- Of the check: lent a text's own tape it never answers 5, 6, 7 or 9, and 4 over 65,535 nodes alone, whatever else is lent.
-pub read-checked : (t s nodes seen : List ℕ) (starts : List OpenStart) (list : List ℕ) → read_refusal t s nodes ≡ none → ReadChecked t s nodes seen starts list
+pub read-checked : (t s nodes seen : List ℕ) (starts : List OpenStart) (list : List ℕ) → read_refusal t s nodes ≡ None → ReadChecked t s nodes seen starts list
 read-checked t s nodes seen starts list none-given = reader.read-checked t s nodes seen starts list none-given
 
 -- "lent lists keep what lies beyond the written part", and a refusal writes nothing.
-pub read-refused-unchanged : (t s nodes : List ℕ) (r : Refusal) → read_refusal t s nodes ≡ some r → nodes_after t s nodes ≡ nodes
+pub read-refused-unchanged : (t s nodes : List ℕ) (r : Refusal) → read_refusal t s nodes ≡ Some r → nodes_after t s nodes ≡ nodes
 read-refused-unchanged t s nodes r e = outputs.refused-unchanged t s nodes r e
 
 pub read-beyond : (t s nodes : List ℕ) → drop (16 * node_count (nodes_read t s)) (nodes_after t s nodes) ≡ drop (16 * node_count (nodes_read t s)) nodes
@@ -449,7 +452,7 @@ pub without-unreadable : (table : List ℕ) (f : Forest) → those is_readable (
 without-unreadable table f = unreadable.without-unreadable table f
 
 -- So are the words that the check writes, where the list isn't cut.
-pub without-unreadable-words : (l : Lent) → refusal l ≡ none → (checked_of l).cut ≡ false → those is_readable (findings_in (take (8 * (checked_of l).total) (list_after l))) ≡ base_findings l.table (top l.source l.tape)
+pub without-unreadable-words : (l : Lent) → refusal l ≡ None → (checked_of l).cut ≡ false → those is_readable (findings_in (take (8 * (checked_of l).total) (list_after l))) ≡ base_findings l.table (top l.source l.tape)
 without-unreadable-words l none-given whole = ap (those is_readable) (lists.uncut-words l none-given whole) ∙ without-unreadable l.table (top l.source l.tape)
 
 -- A document with both forms, by computation.
@@ -473,5 +476,5 @@ worked-accepted = worked.worked-accepted
 
 -- "`parse` to u32: one optional `+`, then one or more digits, value at most 4,294,967,295."
 -- The decimal digits in which texts show a number are read as that number.
-pub decimal-parsed : (n : ℕ) → n ≤ 4294967295 → parsed (decimal n) ≡ some n
+pub decimal-parsed : (n : ℕ) → n ≤ 4294967295 → parsed (decimal n) ≡ Some n
 decimal-parsed n h = decimals.decimal-parsed n h

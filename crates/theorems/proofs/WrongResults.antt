@@ -5,7 +5,9 @@ use native.Mathlib.Omega.{arith}
 use mathlib.Core.Path.{◌≡◌, refl, ◌∙◌, sym, ap, subst}
 use mathlib.Core.Bool.{Bool, true, false, ◌&&◌, false≢true}
 use mathlib.Core.List.{List, [], ◌∷◌, ◌++◌}
-use mathlib.Core.Option.{Option, some, none, none-ne-some}
+use Rattle.std.specs.Prelude.{Option, Some, None, Ok}
+use Rattle.refusals.specs.Refusal.{refuse}
+use Rattle.std.proofs.lemmas.Option.{none-some}
 use lib.Dec.{leb, ltb}
 use lib.ListN.{length, get_or, set}
 use borrow.Author.Tests.{eqb-false, ltb-true, leb-true}
@@ -59,20 +61,16 @@ use Rattle.definition.proofs.Worked.{worked-examples, worked-accepted}
 use Rattle.state.specs.Inner.{Opens, state_of, anchor_of, open_nodes, latest, counts_of, with_counts, with_anchor}
 use Rattle.state.specs.InnerSetters.{put_has_id, put_has_chapter}
 use Rattle.state.specs.declared.State.{State}
-use Rattle.milestones.specs.Inner.{AmongMilestones, among_milestones, step_means, Placed, base_at, nearest_in, found_entry, removed, opens_by, paired_by, open_after_pair, with_opens}
+use Rattle.milestones.specs.declared.MilestoneSide.{MilestoneSide}
+use Rattle.milestones.specs.declared.MilestoneSide.TheVariants as side
+use Rattle.milestones.specs.Inner.{AmongMilestones, among_milestones, step_means, Placed, base_at, nearest_in, removed, opens_by, paired_by, with_opens}
 use Rattle.milestones.specs.Inner as among
 use Rattle.milestones.specs.InnerStep.{Milestoned, Steppable}
-use Rattle.milestones.specs.declared.Found.TheVariants.{At, Nothing}
-use Rattle.milestones.specs.declared.Step.{Step}
-use Rattle.milestones.specs.declared.Step.TheVariants as step
-use Rattle.milestones.specs.declared.Paired.TheVariants as paired
 use Rattle.closing.specs.Inner.{Left}
 use Rattle.walk.specs.Inner.{nowhere, behind, Ready, Visitable, Visited, visit_findings, visit_state, Passable, PassedBy, numbers_after}
 use Rattle.validate.specs.Entry.{lent, answer_of}
 use Rattle.validate.specs.Inner.{fresh, from_table, Fit, Ran, Finished}
 use Rattle.validate.specs.declared.Report.{Report}
-use Rattle.validate.specs.declared.Answer.{Answer}
-use Rattle.validate.specs.declared.Answer.TheVariants as answers
 use Rattle.message_texts.specs.Filled.{filled, joined, all_texts, code_of, form_of}
 use Rattle.message_texts.specs.Texts.{document_texts, number_texts, marker_texts, attribute_texts}
 use Rattle.messages.specs.Message.{Request, shown_of, message_text}
@@ -80,10 +78,7 @@ use Rattle.messages.specs.Answer.{first_nine, message_answer, message_after, mes
 use Rattle.messages.specs.Answer as text-answer
 use Rattle.messages.specs.Messages.{texts_from, ends_from, messages_answer, messages_after, ends_after, messages_answer_of}
 use Rattle.messages.specs.Messages as text-answers
-use Rattle.messages.specs.declared.MessageAnswer.TheVariants as message-answers
-use Rattle.messages.specs.declared.MessagesAnswer.TheVariants as messages-answers
-use Rattle.tally.specs.Tally.{tally_refusal, with_code, counts_from, counts_after, tally_answer_of}
-use Rattle.tally.specs.declared.Tallied.TheVariants as tallied
+use Rattle.tally.specs.Tally.{tally_refusal, with_code, counts_from, counts_after}
 use Rattle.listing.specs.Lines.{too_large_lines, refused_lines, checked_lines, finding_lines, severity_names, code_names, name_at, place_from}
 use Rattle.listing.specs.Columns.{line_start, beginnings, count_between, column_at}
 use Rattle.listing.specs.LinesAndColumns.{each_from, lines_from, columns_from}
@@ -96,7 +91,7 @@ use Rattle.reader_spec.specs.Pass as passes
 use Rattle.reader_spec.specs.Rows as rows
 use Rattle.reader_spec.specs.Answer as reading-answer
 use Rattle.reader.specs.Output.{Printed}
-use Rattle.harkoxin.specs.Words.{answer_words, message_words, messages_words, tally_words, mark_words, read_words}
+use Rattle.harkoxin.specs.Words.{verdict_of, answer_words, message_words, messages_words, tally_words, mark_words, read_words}
 use Rattle.harkoxin.specs.Report.{report_answer, report_text}
 use Rattle.theorems.specs.ListingExample.{table_file, output}
 use Rattle.theorems.proofs.Printed.{listing-example}
@@ -120,8 +115,8 @@ word_in k words = get_or words k 0
 
 -- the entry that a search finds, or how many open starts a marker leaves, from 1; 0 for none
 abbrev from_one : Option ℕ → ℕ
-from_one none = 0
-from_one (some k) = suc k
+from_one None = 0
+from_one (Some k) = suc k
 
 -- the number of the first node
 abbrev first_number : List Node → ℕ
@@ -167,8 +162,8 @@ mark_number_said (marks.marked m) = 0
 
 -- 1 for a refusal, 0 for none
 abbrev turned_back : Option Refusal → ℕ
-turned_back none = 0
-turned_back (some r) = 1
+turned_back None = 0
+turned_back (Some r) = 1
 
 -- ---- milestones::push
 
@@ -206,24 +201,24 @@ nearest-allowed = (record { room = leb-true 2 2 refl; spanned = spanned; bases =
     bases (suc (suc j)) l = absurd (omega arith)
 
 -- the right results
-nearest-right : (nearest_here 2 28 2 ≡ some 1) × (nearest_here 1 28 2 ≡ some 0) × (nearest_here 2 1 2 ≡ none)
+nearest-right : (nearest_here 2 28 2 ≡ Some 1) × (nearest_here 1 28 2 ≡ Some 0) × (nearest_here 2 1 2 ≡ None)
 unfolding nearest_in ascii worked.example9 worked.tape_of equal name_part bytes_before chars_past word blank in_any blank_ranges utf8.decode utf8.decoded utf8.width_of utf8.width_by utf8.table3_7 utf8.begins
 nearest-right = (refl, refl, refl)
 
 -- a search that finds nothing
-nearest-nothing : found_entry Nothing ≡ nearest_here 2 28 2 → ⊥
+nearest-nothing : None ≡ nearest_here 2 28 2 → ⊥
 nearest-nothing e = eqb-false 0 2 refl (ap from_one (e ∙ nearest-right.0))
 
 -- a search that finds the earliest start and not the latest
-nearest-earliest : found_entry (At 0) ≡ nearest_here 2 28 2 → ⊥
+nearest-earliest : Some 0 ≡ nearest_here 2 28 2 → ⊥
 nearest-earliest e = eqb-false 1 2 refl (ap from_one (e ∙ nearest-right.0))
 
 -- a search that looks past the first k entries
-nearest-past : found_entry (At 1) ≡ nearest_here 1 28 2 → ⊥
+nearest-past : Some 1 ≡ nearest_here 1 28 2 → ⊥
 nearest-past e = eqb-false 2 1 refl (ap from_one (e ∙ nearest-right.1))
 
 -- a search that takes any base for its own: `id` stands at byte 1
-nearest-any : found_entry (At 1) ≡ nearest_here 2 1 2 → ⊥
+nearest-any : Some 1 ≡ nearest_here 2 1 2 → ⊥
 nearest-any e = eqb-false 2 0 refl (ap from_one (e ∙ nearest-right.2))
 
 -- ---- milestones::remove
@@ -246,14 +241,14 @@ remove-empties e = eqb-false 0 7 refl (ap (node_in 1) e)
 -- ---- milestones::pair
 
 -- the open starts, and how many they are, after a marker of example 9 that finds the start of node 5 open
-abbrev opens_here : Step → List OpenStart
+abbrev opens_here : Option MilestoneSide → List OpenStart
 opens_here s = opens_by here.source here.tape (start 5 ∷ no_start ∷ []) 1 (step_means here.source s)
 
-abbrev paired_here : Step → Option ℕ
+abbrev paired_here : Option MilestoneSide → Option ℕ
 paired_here s = paired_by here.source here.tape (start 5 ∷ no_start ∷ []) 1 (step_means here.source s)
 
 -- these inputs meet what it requires, with an end whose base stands at byte 28
-pair-allowed : Opens here.source here.tape (start 5 ∷ no_start ∷ []) 1 × (1 < length (start 5 ∷ no_start ∷ [])) × Placed here.source (step.End 28 2)
+pair-allowed : Opens here.source here.tape (start 5 ∷ no_start ∷ []) 1 × (1 < length (start 5 ∷ no_start ∷ [])) × Placed here.source (Some (side.End 28 2))
 unfolding ascii worked.example9 worked.tape_of name_part bytes_before chars_past word blank in_any blank_ranges utf8.decode utf8.decoded utf8.width_of utf8.width_by utf8.table3_7 utf8.begins
 pair-allowed = (record { room = leb-true 1 2 refl; spanned = spanned; bases = bases }, ltb-true 1 2 refl, leb-true 30 57 refl)
   where
@@ -266,32 +261,32 @@ pair-allowed = (record { room = leb-true 1 2 refl; spanned = spanned; bases = ba
     bases (suc j) l = absurd (omega arith)
 
 -- the right results of an end with this base, and of one with the base `id`, which stands at byte 1
-pair-right : (paired_here (step.End 28 2) ≡ some 0) × (paired_here (step.End 1 2) ≡ none)
+pair-right : (paired_here (Some (side.End 28 2)) ≡ Some 0) × (paired_here (Some (side.End 1 2)) ≡ None)
 unfolding nearest_in ascii worked.example9 worked.tape_of equal name_part bytes_before chars_past word blank in_any blank_ranges utf8.decode utf8.decoded utf8.width_of utf8.width_by utf8.table3_7 utf8.begins
 pair-right = (refl, refl)
 
 -- a start that is not added
-pair-start-lost : start 5 ∷ no_start ∷ [] ≡ opens_here (step.Start (start 7)) → ⊥
+pair-start-lost : start 5 ∷ no_start ∷ [] ≡ opens_here (Some (side.Start (start 7))) → ⊥
 pair-start-lost e = eqb-false 0 7 refl (ap (node_in 1) e)
 
 -- a start that is not counted
-pair-start-uncounted : open_after_pair (paired.Now 1) ≡ paired_here (step.Start (start 7)) → ⊥
+pair-start-uncounted : Some 1 ≡ paired_here (Some (side.Start (start 7))) → ⊥
 pair-start-uncounted e = eqb-false 2 3 refl (ap from_one e)
 
 -- a marker that is neither and is added
-pair-neither-added : start 5 ∷ start 7 ∷ [] ≡ opens_here step.Neither → ⊥
+pair-neither-added : start 5 ∷ start 7 ∷ [] ≡ opens_here None → ⊥
 pair-neither-added e = eqb-false 7 0 refl (ap (node_in 1) e)
 
 -- an end that leaves its start open
-pair-end-keeps : open_after_pair (paired.Now 1) ≡ paired_here (step.End 28 2) → ⊥
+pair-end-keeps : Some 1 ≡ paired_here (Some (side.End 28 2)) → ⊥
 pair-end-keeps e = eqb-false 2 1 refl (ap from_one (e ∙ pair-right.0))
 
 -- an end that misses its start
-pair-end-alone : open_after_pair paired.Alone ≡ paired_here (step.End 28 2) → ⊥
+pair-end-alone : None ≡ paired_here (Some (side.End 28 2)) → ⊥
 pair-end-alone e = eqb-false 0 1 refl (ap from_one (e ∙ pair-right.0))
 
 -- an end that takes a start of another base
-pair-end-any : open_after_pair (paired.Now 0) ≡ paired_here (step.End 1 2) → ⊥
+pair-end-any : Some 0 ≡ paired_here (Some (side.End 1 2)) → ⊥
 pair-end-any e = eqb-false 1 0 refl (ap from_one (e ∙ pair-right.1))
 
 -- ---- milestones::milestone
@@ -366,7 +361,7 @@ abbrev paragraph_info : MarkerInfo
 paragraph_info = record { name_start = 123; name_len = 1; category = Paragraph; text_role = Boundary }
 
 -- what the code's answer says of it
-abbrev meant : Step → AmongMilestones
+abbrev meant : Option MilestoneSide → AmongMilestones
 meant s = step_means here.source s
 
 -- as numbers: 0 for neither; 1 for a start, its node and the length of its base; 2 for an end, and the bytes of its base
@@ -385,32 +380,32 @@ unfolding ascii worked.example9 worked.tape_of equal name_part bytes_before char
 step-of-right = (refl, refl, refl)
 
 -- a start read as neither
-step-of-start-passed : meant step.Neither ≡ among_here milestone_info 5 → ⊥
+step-of-start-passed : meant None ≡ among_here milestone_info 5 → ⊥
 step-of-start-passed e = eqb-false 0 1 refl (ap (λ m. word_in 0 (as_numbers m)) (e ∙ step-of-right.0))
 
 -- a start read as an end
-step-of-start-ends : (at len : ℕ) → meant (step.End at len) ≡ among_here milestone_info 5 → ⊥
+step-of-start-ends : (at len : ℕ) → meant (Some (side.End at len)) ≡ among_here milestone_info 5 → ⊥
 step-of-start-ends at len e = eqb-false 2 1 refl (ap (λ m. word_in 0 (as_numbers m)) (e ∙ step-of-right.0))
 
 -- a start with another node
-step-of-other-node : meant (step.Start (start 7)) ≡ among_here milestone_info 5 → ⊥
+step-of-other-node : meant (Some (side.Start (start 7))) ≡ among_here milestone_info 5 → ⊥
 step-of-other-node e = eqb-false 7 5 refl (ap (λ m. word_in 1 (as_numbers m)) (e ∙ step-of-right.0))
 
 -- a start with the length of its whole name
-step-of-whole-name : meant (step.Start (record { node = 5; base_len = 4 })) ≡ among_here milestone_info 5 → ⊥
+step-of-whole-name : meant (Some (side.Start (record { node = 5; base_len = 4 }))) ≡ among_here milestone_info 5 → ⊥
 step-of-whole-name e = eqb-false 4 2 refl (ap (λ m. word_in 2 (as_numbers m)) (e ∙ step-of-right.0))
 
 -- an end with another base: `id`, which stands at byte 1
-step-of-other-base : meant (step.End 1 2) ≡ among_here milestone_info 9 → ⊥
+step-of-other-base : meant (Some (side.End 1 2)) ≡ among_here milestone_info 9 → ⊥
 unfolding ascii worked.example9
 step-of-other-base e = eqb-false 0x69 0x71 refl (ap (λ m. word_in 1 (as_numbers m)) (e ∙ step-of-right.1))
 
 -- an end whose base leaves the source
-step-of-leaves-source : (source : List ℕ) (len : ℕ) → Placed source (step.End (length source) (suc len)) → ⊥
+step-of-leaves-source : (source : List ℕ) (len : ℕ) → Placed source (Some (side.End (length source) (suc len))) → ⊥
 step-of-leaves-source source len p = absurd (omega arith)
 
 -- a start under an entry of another category
-step-of-any-category : meant (step.Start (start 5)) ≡ among_here paragraph_info 5 → ⊥
+step-of-any-category : meant (Some (side.Start (start 5))) ≡ among_here paragraph_info 5 → ⊥
 step-of-any-category e = eqb-false 1 0 refl (ap (λ m. word_in 0 (as_numbers m)) (e ∙ step-of-right.2))
 
 -- ---- closing::clear_opens
@@ -518,21 +513,26 @@ empty-list : list_after empty ≡ 0 ∷ []
 unfolding ascii worked.example_table equal lines.lines lines.categories lines.roles refusal utf8.scan utf8.first_ill_formed lines.bad_from lines.bad_table reading.tape_refusal all one_of
 empty-list = refl
 
+-- the verdict of a checked document is no refusal's
+is-no-refusal : (cut : Bool) → verdict_of cut ≡ 2 → ⊥
+is-no-refusal true e = eqb-false 1 2 refl e
+is-no-refusal false e = eqb-false 0 2 refl e
+
 -- a check that turns back a good document
-check-refuses : (number place : ℕ) → answer_of (answers.Refused number place) ≡ answer roomy → ⊥
+check-refuses : (number place : ℕ) → outcome.refused (record { number = number; place = place }) ≡ answer roomy → ⊥
 check-refuses number place e = eqb-false 2 0 refl (ap (said 0) e ∙ ap (word_in 0) answers-right.0)
 
 -- a check that finds nothing
-check-finds-nothing : (r : Report) → r.total ≡ 0 → answer_of (answers.Checked r) ≡ answer roomy → ⊥
+check-finds-nothing : (r : Report) → r.total ≡ 0 → answer_of (Ok r) ≡ answer roomy → ⊥
 check-finds-nothing r nothing e = eqb-false 0 1 refl (sym nothing ∙ ap (said 3) e ∙ ap (word_in 3) answers-right.0)
 
 -- a check that calls a whole list cut
-check-whole-as-cut : (r : Report) → answer_of (answers.Cut r) ≡ answer roomy → ⊥
-check-whole-as-cut r e = eqb-false 1 0 refl (ap (said 0) e ∙ ap (word_in 0) answers-right.0)
+check-whole-as-cut : (r : Report) → r.is_cut ≡ true → answer_of (Ok r) ≡ answer roomy → ⊥
+check-whole-as-cut r cut e = eqb-false 1 0 refl (ap verdict_of (sym cut) ∙ ap (said 0) e ∙ ap (word_in 0) answers-right.0)
 
 -- a check that calls a cut list whole
-check-cut-as-whole : (r : Report) → answer_of (answers.Checked r) ≡ answer cramped → ⊥
-check-cut-as-whole r e = eqb-false 0 1 refl (ap (said 0) e ∙ ap (word_in 0) answers-right.1)
+check-cut-as-whole : (r : Report) → r.is_cut ≡ false → answer_of (Ok r) ≡ answer cramped → ⊥
+check-cut-as-whole r whole e = eqb-false 0 1 refl (ap verdict_of (sym whole) ∙ ap (said 0) e ∙ ap (word_in 0) answers-right.1)
 
 -- a check that leaves the list unwritten
 check-unwritten : repeated 0 8 ≡ list_after roomy → ⊥
@@ -550,15 +550,15 @@ unfolding repeated
 check-opens-kept e = eqb-false 5 0 refl (ap (node_in 0) (e ∙ checked-right.2))
 
 -- a check that passes a document without a node
-check-passes-empty : (r : Report) → answer_of (answers.Checked r) ≡ answer empty → ⊥
-check-passes-empty r e = eqb-false 0 2 refl (ap (said 0) e ∙ ap (word_in 0) answers-right.2)
+check-passes-empty : (r : Report) → answer_of (Ok r) ≡ answer empty → ⊥
+check-passes-empty r e = is-no-refusal r.is_cut (ap (said 0) e ∙ ap (word_in 0) answers-right.2)
 
 -- a refusal with another number
-check-other-number : (place : ℕ) → answer_of (answers.Refused 10 place) ≡ answer empty → ⊥
+check-other-number : (place : ℕ) → outcome.refused (record { number = 10; place = place }) ≡ answer empty → ⊥
 check-other-number place e = eqb-false 10 4 refl (ap (said 1) e ∙ ap (word_in 1) answers-right.2)
 
 -- a refusal with another place
-check-other-place : answer_of (answers.Refused 4 1) ≡ answer empty → ⊥
+check-other-place : outcome.refused (record { number = 4; place = 1 }) ≡ answer empty → ⊥
 check-other-place e = eqb-false 1 0 refl (ap (said 2) e ∙ ap (word_in 2) answers-right.2)
 
 -- a refusal that writes to the list
@@ -566,8 +566,8 @@ check-refused-writes : 1 ∷ [] ≡ list_after empty → ⊥
 check-refused-writes e = eqb-false 1 0 refl (ap (word_in 0) (e ∙ empty-list))
 
 -- a check that passes a list of open starts which is too short
-check-passes-short : (r : Report) → answer_of (answers.Checked r) ≡ answer too_short → ⊥
-check-passes-short r e = eqb-false 0 2 refl (ap (said 0) e ∙ ap (word_in 0) answers-right.3)
+check-passes-short : (r : Report) → answer_of (Ok r) ≡ answer too_short → ⊥
+check-passes-short r e = is-no-refusal r.is_cut (ap (said 0) e ∙ ap (word_in 0) answers-right.3)
 
 -- a refusal that writes the finding
 check-refused-finds : words5 ≡ list_after too_short → ⊥
@@ -658,15 +658,15 @@ unfolding ascii worked.shorter_document worked.example_table worked.tape_of utf8
 message-text = (refl, refl)
 
 -- number 12 for a code that has a text
-message-refused : (place : ℕ) → message_answer_of (message-answers.Refused 12 place) ≡ answer_here (asked 16 0) 40 → ⊥
+message-refused : (place : ℕ) → text-answer.refused (record { number = 12; place = place }) ≡ answer_here (asked 16 0) 40 → ⊥
 message-refused place e = eqb-false 12 0 refl (ap number_said (e ∙ message-right.0))
 
 -- a text for a code that has none
-message-invented : (n : ℕ) → message_answer_of (message-answers.Written n) ≡ answer_here (asked 0 0) 40 → ⊥
+message-invented : (n : ℕ) → message_answer_of (Ok n) ≡ answer_here (asked 0 0) 40 → ⊥
 message-invented n e = eqb-false 0 12 refl (ap number_said (e ∙ message-right.2))
 
 -- a text that is cut where it has too little room
-message-cut : (n : ℕ) → message_answer_of (message-answers.Written n) ≡ answer_here (asked 16 0) 9 → ⊥
+message-cut : (n : ℕ) → message_answer_of (Ok n) ≡ answer_here (asked 16 0) 9 → ⊥
 message-cut n e = eqb-false 0 13 refl (ap number_said (e ∙ message-right.1))
 
 -- the text of form 1 in place of form 0: it has `e` where the other has `s`
@@ -697,15 +697,15 @@ unfolding ascii worked.shorter_document worked.example_table worked.tape_of utf8
 messages-right = (refl, refl, refl, refl)
 
 -- no text for a list that has a finding
-messages-none : (bytes : ℕ) → messages_answer_of (messages-answers.All 0 bytes) ≡ answers_here 40 → ⊥
+messages-none : (bytes : ℕ) → messages_answer_of (Ok (record { records = 0; bytes = bytes; stop = None })) ≡ answers_here 40 → ⊥
 messages-none bytes e = eqb-false 0 1 refl (ap records_said (e ∙ messages-right.0))
 
 -- texts that stop though there is room
-messages-stopped : (bytes number place : ℕ) → messages_answer_of (messages-answers.Stopped 1 bytes number place) ≡ answers_here 40 → ⊥
+messages-stopped : (bytes number place : ℕ) → text-answers.stopped 1 bytes (record { number = number; place = place }) ≡ answers_here 40 → ⊥
 messages-stopped bytes number place e = eqb-false 1 0 refl (ap verdict_said (e ∙ messages-right.0))
 
 -- texts that are all written though there is no room
-messages-all : (records bytes : ℕ) → messages_answer_of (messages-answers.All records bytes) ≡ answers_here 9 → ⊥
+messages-all : (records bytes : ℕ) → messages_answer_of (Ok (record { records = records; bytes = bytes; stop = None })) ≡ answers_here 9 → ⊥
 messages-all records bytes e = eqb-false 0 1 refl (ap verdict_said (e ∙ messages-right.1))
 
 -- a text that is not written
@@ -747,21 +747,21 @@ unfolding repeated
 tally-added e = eqb-false 10 1 refl (ap (word_in 16) (e ∙ tally-right))
 
 -- a good record that is turned back
-tally-refuses : (number place : ℕ) → tally_answer_of (tallied.Refused number place) ≡ tally_refusal words5 → ⊥
+tally-refuses : (number place : ℕ) → refuse number place ≡ tally_refusal words5 → ⊥
 unfolding tally_refusal first_bad
 tally-refuses number place e = eqb-false 1 0 refl (ap turned_back e)
 
 -- a bad record that is let in
-tally-bad-severity : tally_answer_of tallied.Counted ≡ tally_refusal bad_severity → ⊥
+tally-bad-severity : None ≡ tally_refusal bad_severity → ⊥
 unfolding tally_refusal first_bad
 tally-bad-severity e = eqb-false 0 1 refl (ap turned_back e)
 
-tally-bad-code : tally_answer_of tallied.Counted ≡ tally_refusal bad_code → ⊥
+tally-bad-code : None ≡ tally_refusal bad_code → ⊥
 unfolding tally_refusal first_bad
 tally-bad-code e = eqb-false 0 1 refl (ap turned_back e)
 
 -- a list that is let in though its length is no multiple of 8
-tally-bad-length : tally_answer_of tallied.Counted ≡ tally_refusal (0 ∷ words5) → ⊥
+tally-bad-length : None ≡ tally_refusal (0 ∷ words5) → ⊥
 unfolding tally_refusal first_bad
 tally-bad-length e = eqb-false 0 1 refl (ap turned_back e)
 
@@ -810,26 +810,26 @@ put-checked-swapped p = eqb-false 0x30 0x31 refl (ap (word_in 23) p.list)
 
 -- a document whose check is cut, with one finding that it found and none that it wrote
 abbrev cut_report : Report
-cut_report = record { total = 1; written = 0; verses = 0; errors = 1; warnings = 0; infos = 0 }
+cut_report = record { total = 1; written = 0; is_cut = true; verses = 0; errors = 1; warnings = 0; infos = 0 }
 
 -- the number written in place of the total
-head-written : (l l' : List ℕ) (r : ℕ) → Put (head_lines (answer_of (answers.Cut cut_report))) l 0 l' r → l' ≡ over l 0 (checked_lines 1 0 0 0) → l ≡ repeated 0 55 → ⊥
+head-written : (l l' : List ℕ) (r : ℕ) → Put (head_lines (answer_of (Ok cut_report))) l 0 l' r → l' ≡ over l 0 (checked_lines 1 0 0 0) → l ≡ repeated 0 55 → ⊥
 unfolding checked_lines ascii decimal decimal_fuel repeated over
 head-written l l' r p e z = eqb-false 0x30 0x31 refl (ap (word_in 53) (ap (λ (o : List ℕ). over o 0 (checked_lines 1 0 0 0)) (sym z) ∙ sym e ∙ p.list ∙ ap (λ (o : List ℕ). over o 0 (checked_lines 1 0 0 1)) z))
 
 -- a refusal's head for a checked document: 34 bytes in place of 55
-head-refused : (l l' : List ℕ) → Put (head_lines (answer_of (answers.Cut cut_report))) l 0 l' 34 → ⊥
+head-refused : (l l' : List ℕ) → Put (head_lines (answer_of (Ok cut_report))) l 0 l' 34 → ⊥
 unfolding checked_lines ascii decimal decimal_fuel
 head-refused l l' p = eqb-false 34 55 refl p.end
 
 -- ---- listing::held
 
 -- the total in place of what is written
-held-total : 1 ≡ held_count (answer_of (answers.Cut cut_report)) → ⊥
+held-total : 1 ≡ held_count (answer_of (Ok cut_report)) → ⊥
 held-total e = eqb-false 1 0 refl e
 
 -- findings held after a refusal
-held-refused : (n : ℕ) → suc n ≡ held_count (answer_of (answers.Refused 4 0)) → ⊥
+held-refused : (n : ℕ) → suc n ≡ held_count (outcome.refused (record { number = 4; place = 0 })) → ⊥
 held-refused n e = omega (arith, e)
 
 -- ---- listing::put_finding
@@ -969,12 +969,12 @@ messages-words-bytes e = eqb-false 0 37 refl (ap (word_in 4) e)
 -- ---- harkoxin::harkoxin_tally
 
 -- a refusal without its verdict
-tally-words-verdict : 0 ∷ 11 ∷ 3 ∷ [] ≡ over (repeated 0 3) 0 (tally_words (some (record { number = 11; place = 3 }))) → ⊥
+tally-words-verdict : 0 ∷ 11 ∷ 3 ∷ [] ≡ over (repeated 0 3) 0 (tally_words (Some (record { number = 11; place = 3 }))) → ⊥
 unfolding repeated over
 tally-words-verdict e = eqb-false 0 2 refl (ap (word_in 0) e)
 
 -- the place as the number, and the number as the place
-tally-words-turned : 2 ∷ 3 ∷ 11 ∷ [] ≡ over (repeated 0 3) 0 (tally_words (some (record { number = 11; place = 3 }))) → ⊥
+tally-words-turned : 2 ∷ 3 ∷ 11 ∷ [] ≡ over (repeated 0 3) 0 (tally_words (Some (record { number = 11; place = 3 }))) → ⊥
 unfolding repeated over
 tally-words-turned e = eqb-false 3 11 refl (ap (word_in 1) e)
 
@@ -1072,8 +1072,8 @@ after_chapter = put_has_id true (put_has_chapter true (with_anchor fresh 4))
 
 -- the kind of an anchor, 0 for none
 abbrev anchor_kind : Option Anchor → ℕ
-anchor_kind none = 0
-anchor_kind (some a) = a.kind
+anchor_kind None = 0
+anchor_kind (Some a) = a.kind
 
 -- the right results: the children of `\p` have one warning in example 1; the anchor after its nodes is the chapter; the `\ca` of example 5 have no finding, from the start on or after the chapter
 walk-right : (counted (warnings 0) (walk_from worked.example1 1 9 fresh).findings ≡ warnings 1) × (anchor_kind (walk_from worked.example1 1 9 fresh).anchor ≡ 3) × (counted (warnings 0) (walk_from worked.example5 1 13 fresh).findings ≡ warnings 0) × (counted (warnings 0) (walk_from worked.example5 5 13 after_chapter).findings ≡ warnings 0)
@@ -1108,9 +1108,9 @@ unfoldable packed : List entries.Entry → List ℕ
 packed [] = []
 packed (e ∷ es) = pack e ∷ packed es
 
-packed-each : (es : List entries.Entry) (k : ℕ) (e : entries.Entry) → entries.nth es k ≡ some e → get_or (packed es) k 0 ≡ pack e
+packed-each : (es : List entries.Entry) (k : ℕ) (e : entries.Entry) → entries.nth es k ≡ Some e → get_or (packed es) k 0 ≡ pack e
 unfolding packed entries.nth
-packed-each [] k e h = absurd (none-ne-some e h)
+packed-each [] k e h = absurd (none-some e h)
 packed-each (x ∷ es) zero e h = let same : x ≡ e = cc in ap pack same
 packed-each (x ∷ es) (suc k) e h = packed-each es k e h
 
@@ -1137,9 +1137,9 @@ sound-of t e h =
       role_low = ltb-true _ _ (and_right (ltb e.category 8) _ h₄);
     }
 
-sound-each : (t : List ℕ) (es : List entries.Entry) → all_bounded t es ≡ true → (k : ℕ) (e : entries.Entry) → entries.nth es k ≡ some e → Sound t e
+sound-each : (t : List ℕ) (es : List entries.Entry) → all_bounded t es ≡ true → (k : ℕ) (e : entries.Entry) → entries.nth es k ≡ Some e → Sound t e
 unfolding all_bounded entries.nth
-sound-each t [] h k e is = absurd (none-ne-some e is)
+sound-each t [] h k e is = absurd (none-some e is)
 sound-each t (x ∷ es) h zero e is = let same : x ≡ e = cc in subst (Sound t) same (sound-of t x (and_left (bounded t x) (all_bounded t es) h))
 sound-each t (x ∷ es) h (suc k) e is = sound-each t es (and_right (bounded t x) (all_bounded t es) h) k e is
 
@@ -1172,7 +1172,7 @@ AcceptedIn x = Accepted x.source (tape_in x)
 examples-accepted : AcceptedIn worked.example1 × AcceptedIn worked.example5 × AcceptedIn worked.example9 × AcceptedIn worked.example13 × AcceptedIn worked.shorter_document
 unfolding worked.examples worked.refusals_of worked.none_of
 examples-accepted =
-    let of : (k : ℕ) → get_or (worked.refusals_of worked.examples) k none ≡ get_or (worked.none_of worked.examples) k none = λ k. ap (λ (rs : List (Option Refusal)). get_or rs k none) worked-accepted in
+    let of : (k : ℕ) → get_or (worked.refusals_of worked.examples) k None ≡ get_or (worked.none_of worked.examples) k None = λ k. ap (λ (rs : List (Option Refusal)). get_or rs k None) worked-accepted in
     (checked-accepted (worked.lent_of worked.example1) (of 0), checked-accepted (worked.lent_of worked.example5) (of 4), checked-accepted (worked.lent_of worked.example9) (of 8), checked-accepted (worked.lent_of worked.example13) (of 12), checked-accepted (worked.lent_of worked.shorter_document) (of 15))
 
 -- no open start
@@ -1182,7 +1182,7 @@ none_open s t opens = record { room = omega arith; spanned = λ j l. absurd (ome
 -- ---- walk::visit
 
 -- `\p` is entry 3 of the examples' table
-paragraph-entry : entries.nth (entries.entries worked.example_table) 3 ≡ some (entries.entry_of_info paragraph_info)
+paragraph-entry : entries.nth (entries.entries worked.example_table) 3 ≡ Some (entries.entry_of_info paragraph_info)
 unfolding ascii worked.example_table equal lines.lines lines.categories lines.roles entries.position entries.entries_of entries.entries entries.nth
 paragraph-entry = refl
 
@@ -1423,7 +1423,7 @@ run-verse-uncounted l l' q uncounted p = eqb-false 0 1 refl (sym uncounted ∙ p
 -- ---- validate::checked
 
 -- what is promised of the document with one finding, whose list has just room for it
-abbrev FinishedHere : List ℕ → List OpenStart → List ℕ → Answer → Type 0
+abbrev FinishedHere : List ℕ → List OpenStart → List ℕ → Report → Type 0
 FinishedHere seen opens l r = Finished roomy.table roomy.source roomy.tape roomy.seen roomy.open_starts roomy.list seen opens l r
 
 -- it meets what is required
@@ -1437,25 +1437,21 @@ unfolding put overlay checked_of of_severity ascii worked.shorter_document worke
 finished-right = (refl, refl)
 
 -- an answer that calls the full list cut
-checked-full-as-cut : (seen l : List ℕ) (opens : List OpenStart) (r : Report) → FinishedHere seen opens l (answers.Cut r) → ⊥
-checked-full-as-cut seen l opens r p = eqb-false 1 0 refl (ap (said 0) p.answers ∙ ap (word_in 0) finished-right.0)
-
--- an answer that turns the document back
-checked-refuses : (seen l : List ℕ) (opens : List OpenStart) (number place : ℕ) → FinishedHere seen opens l (answers.Refused number place) → ⊥
-checked-refuses seen l opens number place p = eqb-false 2 0 refl (ap (said 0) p.answers ∙ ap (word_in 0) finished-right.0)
+checked-full-as-cut : (seen l : List ℕ) (opens : List OpenStart) (r : Report) → r.is_cut ≡ true → FinishedHere seen opens l r → ⊥
+checked-full-as-cut seen l opens r cut p = eqb-false 1 0 refl (ap verdict_of (sym cut) ∙ ap (said 0) (ap outcome.checked p.answers) ∙ ap (word_in 0) finished-right.0)
 
 -- the finding left unwritten
-checked-unwritten : (seen : List ℕ) (opens : List OpenStart) (r : Answer) → FinishedHere seen opens (repeated 0 8) r → ⊥
+checked-unwritten : (seen : List ℕ) (opens : List OpenStart) (r : Report) → FinishedHere seen opens (repeated 0 8) r → ⊥
 unfolding repeated
 checked-unwritten seen opens r p = eqb-false 0 16 refl (ap (word_in 1) (p.words ∙ finished-right.1))
 
 -- the chapters seen left in their list
-checked-seen-kept : (l : List ℕ) (opens : List OpenStart) (r : Answer) → FinishedHere (repeated 4 7) opens l r → ⊥
+checked-seen-kept : (l : List ℕ) (opens : List OpenStart) (r : Report) → FinishedHere (repeated 4 7) opens l r → ⊥
 unfolding worked.shorter_document worked.tape_of repeated
 checked-seen-kept l opens r p = eqb-false 4 0 refl (ap (word_in 0) p.seen_zero)
 
 -- the open starts left in their list
-checked-opens-kept : (seen l : List ℕ) (r : Answer) → FinishedHere seen (repeated (start 5) 7) l r → ⊥
+checked-opens-kept : (seen l : List ℕ) (r : Report) → FinishedHere seen (repeated (start 5) 7) l r → ⊥
 unfolding worked.shorter_document worked.tape_of repeated
 checked-opens-kept seen l r p = eqb-false 5 0 refl (ap (node_in 0) p.opens_zero)
 
@@ -1466,7 +1462,7 @@ abbrev ample : Lent
 ample = document (repeated 4 9) (repeated (start 5) 9) (repeated 0 8)
 
 -- it meets what is required
-passed-allowed : Indexed ample.table index 15 × (none ≡ from_table ample.table ample.source ample.tape (length ample.seen) (length ample.open_starts))
+passed-allowed : Indexed ample.table index 15 × (None ≡ from_table ample.table ample.source ample.tape (length ample.seen) (length ample.open_starts))
 unfolding ascii worked.shorter_document worked.example_table worked.tape_of utf8.table3_7 utf8.begins utf8.width_by utf8.width_of utf8.decoded utf8.decode in_any blank_ranges blank chars_past bytes_before word_from half word equal all one_of lines.lines lines.categories lines.roles entries.position entries.entries_of entries.entries entries.nth name_part repeated utf8.scan utf8.after_width utf8.first_ill_formed lines.bad_from lines.bad_table reading.step reading.read reading.tape_refusal first_bad label.splits label.label_refusal info_at label.label_of
 passed-allowed = (indexed, refl)
 
@@ -1476,11 +1472,11 @@ unfolding put overlay checked_of of_severity ascii worked.shorter_document worke
 passed-right = (refl, refl, refl, refl)
 
 -- a document turned back for working lists longer than its tape
-passed-refuses : (number place : ℕ) → answer_of (answers.Refused number place) ≡ answer ample → ⊥
+passed-refuses : (number place : ℕ) → outcome.refused (record { number = number; place = place }) ≡ answer ample → ⊥
 passed-refuses number place e = eqb-false 2 0 refl (ap (said 0) e ∙ ap (word_in 0) passed-right.0)
 
 -- an answer that finds nothing
-passed-finds-nothing : (r : Report) → r.total ≡ 0 → answer_of (answers.Checked r) ≡ answer ample → ⊥
+passed-finds-nothing : (r : Report) → r.total ≡ 0 → answer_of (Ok r) ≡ answer ample → ⊥
 passed-finds-nothing r nothing e = eqb-false 0 1 refl (sym nothing ∙ ap (said 3) e ∙ ap (word_in 3) passed-right.0)
 
 -- the finding left unwritten

@@ -1,6 +1,6 @@
 -- Document 01, "Trial items": "Items 1 to 12 are collected in one table about the definitions and settled by one proof".
 use Rattle.std.specs.Prelude.{ℕ, List, [], ◌∷◌}
-use Rattle.std.proofs.Math.Option.{Option, some, none}
+use Rattle.std.specs.Prelude.{Option, Some, None}
 use Rattle.text.specs.Literal.{ascii}
 use Rattle.text.specs.Pick.{pick}
 use Rattle.numbers.specs.Verse.{Position, PartReading, verse_part}
@@ -42,8 +42,8 @@ abbrev pub following : List ℕ → Outcome
 following label = position_outcome (expected_after (verse_part label) label first_verse)
 
 abbrev pub columns_by : Option ColumnRange → Outcome
-columns_by none = no_columns
-columns_by (some r) = columns r.start r.end
+columns_by None = no_columns
+columns_by (Some r) = columns r.start r.end
 
 abbrev pub cells : List ℕ → Outcome
 cells name = columns_by (cell_columns name)
@@ -62,14 +62,14 @@ item n g w = record { number = n; gives = g; wanted = w }
 
 unfoldable pub items : List Item
 items =
-    item 1 (order (verse 10 none) (ascii "9a")) passes
-    ∷ item 2 (order (verse 10 none) (ascii "9")) finding
-    ∷ item 3 (order (verse 9 (some 0x62)) (ascii "10")) passes
-    ∷ item 4 (order (verse 9 (some 0x62)) (ascii "9")) finding
-    ∷ item 5 (order (verse 10 none) (ascii "10a")) passes
-    ∷ item 6 (following (ascii "3-5")) (position 6 none)
-    ∷ item 7 (following (ascii "3-")) (position 4 none)
-    ∷ item 8 (following (ascii "9z")) (position 9 (some 123))
+    item 1 (order (verse 10 None) (ascii "9a")) passes
+    ∷ item 2 (order (verse 10 None) (ascii "9")) finding
+    ∷ item 3 (order (verse 9 (Some 0x62)) (ascii "10")) passes
+    ∷ item 4 (order (verse 9 (Some 0x62)) (ascii "9")) finding
+    ∷ item 5 (order (verse 10 None) (ascii "10a")) passes
+    ∷ item 6 (following (ascii "3-5")) (position 6 None)
+    ∷ item 7 (following (ascii "3-")) (position 4 None)
+    ∷ item 8 (following (ascii "9z")) (position 9 (Some 123))
     ∷ item 9 (cells (ascii "tc1-2")) (columns 1 2)
     ∷ item 10 (cells (ascii "tc+1")) (columns 1 1)
     ∷ item 11 (attributes (ascii "=\"x\"")) (kinds [])

@@ -19,8 +19,8 @@ use Rattle.state.specs.Inner.{open_nodes, counts_of, with_counts}
 use Rattle.state.specs.declared.State.{State}
 use Rattle.closing.specs.Inner.{Left}
 use Rattle.walk.specs.Inner.{walk_at, Ready, RunWalked}
-use Rattle.validate.specs.Entry.{answer_of}
-use Rattle.validate.specs.declared.Answer.{Answer}
+use Rattle.validate.specs.Entry.{report_of}
+use Rattle.validate.specs.declared.Report.{Report}
 use Rattle.validate.proofs.Ending.{whole_run, walk-ready, walk-room, unclosed-room, missing-room, ran, finished, cleared-whole}
 use Rattle.findings.specs.Inner.{Wrote, Room}
 use Rattle.validate.specs.Inner.{none_yet, fresh, Begun, Endable, MissingWritten, Ran, Fit, Finished, reported}
@@ -75,7 +75,7 @@ module _ {table index : List ℕ} {entries : ℕ} {s t seen : List ℕ} {opens :
   pub opens-inside : (opens' : List OpenStart) (n : ℕ) → length opens' ≡ length opens → n ≡ count t → n ≤ length opens'
   opens-inside opens' n e h = let r = fit.open_room in omega arith
 
-  pub finished-whole : (l l' : List ℕ) (q : State) → Ran table s t l l' q → length l' ≡ length l → (n m : ℕ) → n ≡ count t → m ≡ length l' / 8 → (seen₁ seen₂ : List ℕ) (opens₁ opens₂ : List OpenStart) → length seen₁ ≡ length seen → length opens₁ ≡ length opens → seen₂ ≡ cleared 0 n seen₁ → opens₂ ≡ cleared no_start n opens₁ → (r : Answer) → answer_of r ≡ reported q m → Finished table s t seen opens l seen₂ opens₂ l' r
+  pub finished-whole : (l l' : List ℕ) (q : State) → Ran table s t l l' q → length l' ≡ length l → (n m : ℕ) → n ≡ count t → m ≡ length l' / 8 → (seen₁ seen₂ : List ℕ) (opens₁ opens₂ : List OpenStart) → length seen₁ ≡ length seen → length opens₁ ≡ length opens → seen₂ ≡ cleared 0 n seen₁ → opens₂ ≡ cleared no_start n opens₁ → (r : Report) → report_of r ≡ reported q m → Finished table s t seen opens l seen₂ opens₂ l' r
   finished-whole l l' q ran-so ll n m n-is m-is seen₁ seen₂ opens₁ opens₂ ls lo cs co r said =
       record {
         answers = said ∙ finished fit l l' q ran-so m (m-is ∙ ap (λ (k : ℕ). k / 8) ll);

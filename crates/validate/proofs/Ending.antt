@@ -5,7 +5,7 @@ use native.Mathlib.Omega.{arith}
 use native.Mathlib.Nat.{not-suc-le-zero, zero-add}
 use mathlib.Core.Path.{◌≡◌, refl, sym, ap, ◌∙◌}
 use mathlib.Core.List.{List, [], ◌∷◌, ◌++◌, append-nil}
-use mathlib.Core.Option.{none}
+use Rattle.std.specs.Prelude.{None}
 use lib.Dec.{eqb}
 use lib.ListN.{length, drop_of_length-le}
 use Rattle.tape.specs.Nodes.{link_at}
@@ -80,7 +80,7 @@ module _ {table index : List ℕ} {entries : ℕ} {s t seen : List ℕ} {opens :
 
     heavy : length (walk_at table s t outside 1 to seen opens (with_counts fresh c)).findings ≤ 16777232 * 65535
     heavy =
-        let h = walk-few table outside none (forest s t 1 to) (state_of s t seen opens (with_counts fresh c)) in
+        let h = walk-few table outside None (forest s t 1 to) (state_of s t seen opens (with_counts fresh c)) in
         let g = weight-le s t fit.short fit.accepted.nested in
         let k = few in
         omega arith
@@ -153,7 +153,7 @@ module _ {table index : List ℕ} {entries : ℕ} {s t seen : List ℕ} {opens :
   total-is : total (counts_of q) ≡ length fs
   total-is = ap total ran-so.wrote.counts ∙ counted-total none_yet fs ∙ zero-add _
 
-  pub finished : (n : ℕ) → n ≡ room l → reported q n ≡ checked (checked_of (lent table s t seen opens l))
+  pub finished : (n : ℕ) → n ≡ room l → reported q n ≡ checked_of (lent table s t seen opens l)
   unfolding checked_of
   finished n e = rw (total-is, e, counts-are.0, counts-are.1, counts-are.2, ran-so.verses)
 

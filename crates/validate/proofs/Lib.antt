@@ -1,4 +1,3 @@
-pub mod Input
 pub mod Ending
 pub mod Whole
 pub mod Lists

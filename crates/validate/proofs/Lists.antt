@@ -7,7 +7,7 @@ use mathlib.Core.Path.{◌≡◌, refl, sym, ap, ◌∙◌}
 use mathlib.Core.Bool.{false, not, ◌&&◌}
 use mathlib.Core.List.{List, [], ◌∷◌, ◌++◌, append_assoc, append-nil}
 use mathlib.Core.Logic.{◌↔◌, ◌⊎◌, inl, inr}
-use mathlib.Core.Option.{some, none}
+use Rattle.std.specs.Prelude.{Some, None}
 use lib.Dec.{ltb}
 use lib.ListN.{length, take, drop, take-append-drop}
 use lib.Seq.{take_at, take-append-add, length-take-le}
@@ -34,14 +34,14 @@ few (suc n) [] = omega arith
 few (suc n) (f ∷ fs) = let h = few n fs in omega arith
 
 -- a checked document's list: the words of the findings that fit, and then what was there
-pub written-words : (l : Lent) → refusal l ≡ none → list_after l ≡ encode (take (room l.list) (list_of l)) ++ drop (8 * length (take (room l.list) (list_of l))) l.list
+pub written-words : (l : Lent) → refusal l ≡ None → list_after l ≡ encode (take (room l.list) (list_of l)) ++ drop (8 * length (take (room l.list) (list_of l))) l.list
 written-words l e =
     let fit = take (room l.list) (list_of l) in
     let h : 8 * (0 + length fit) ≤ length l.list = omega (arith, few (room l.list) (list_of l)) in
     rw e (overlay-cut l.list 0 (list_of l) ∙ ap (λ (n : ℕ). overlay l.list 0 (take n (list_of l))) (sub-zero (room l.list)) ∙ overlay-is l.list 0 fit h ∙ rw (zero-add (length fit)))
 
 -- the words of the first k findings, if they fit
-first-words : (l : Lent) (k : ℕ) (a b : List Finding) → refusal l ≡ none → list_of l ≡ a ++ b → length a ≡ k → k ≤ room l.list → take (8 * k) (list_after l) ≡ encode a
+first-words : (l : Lent) (k : ℕ) (a b : List Finding) → refusal l ≡ None → list_of l ≡ a ++ b → length a ≡ k → k ≤ room l.list → take (8 * k) (list_after l) ≡ encode a
 first-words l k a b e is n h =
     let r = room l.list - k in
     let q : room l.list ≡ length a + r = omega (arith, n) in
@@ -52,7 +52,7 @@ first-words l k a b e is n h =
     ∙ rw (encode-append a (take r b), append_assoc (encode a) (encode (take r b)) z) (take_at (encode a) (encode (take r b) ++ z) (8 * k) (encode-length a ∙ ap (8 *◌) n)))
 
 -- demand 3: the words of the shorter's findings, closing findings aside, begin both lists, as far as both have room
-module _ (l l' : Lent) (same-table : l.table ≡ l'.table) (short : refusal l ≡ none) (long : refusal l' ≡ none) (alike : BeginAlike l.source l.tape l'.source l'.tape) where
+module _ (l l' : Lent) (same-table : l.table ≡ l'.table) (short : refusal l ≡ None) (long : refusal l' ≡ None) (alike : BeginAlike l.source l.tape l'.source l'.tape) where
   abbrev kept : List Finding
   kept = running l.table (top l.source l.tape)
 
@@ -70,58 +70,58 @@ module _ (l l' : Lent) (same-table : l.table ≡ l'.table) (short : refusal l �
 abbrev pub written_findings : Lent → List Finding
 written_findings l = findings_in (take (8 * (checked_of l).total) (list_after l))
 
-pub uncut-words : (l : Lent) → refusal l ≡ none → (checked_of l).cut ≡ false → written_findings l ≡ list_of l
+pub uncut-words : (l : Lent) → refusal l ≡ None → (checked_of l).cut ≡ false → written_findings l ≡ list_of l
 unfolding checked_of
 uncut-words l e uncut =
     ap findings_in (first-words l (length (list_of l)) (list_of l) [] e (sym (append-nil (list_of l))) refl (uncut-fits l uncut))
     ∙ findings-in-words (list_of l)
 
 -- demand 3's second half for the words of lists that aren't cut
-module _ (l l' : Lent) (same-table : l.table ≡ l'.table) (short : refusal l ≡ none) (long : refusal l' ≡ none) (alike : BeginAlike l.source l.tape l'.source l'.tape) (all : (checked_of l).cut ≡ false) (all' : (checked_of l').cut ≡ false) where
+module _ (l l' : Lent) (same-table : l.table ≡ l'.table) (short : refusal l ≡ None) (long : refusal l' ≡ None) (alike : BeginAlike l.source l.tape l'.source l'.tape) (all : (checked_of l).cut ≡ false) (all' : (checked_of l').cut ≡ false) where
   pub longer-unclosed-words : those (λ e. is_unclosed e && ltb e.node (link_at l.tape 0)) (written_findings l') ≡ those (λ e. is_unclosed e && not (taken_from (link_at l.tape 0) e.node (marks (visits l'.table (top l'.source l'.tape))))) (written_findings l)
   longer-unclosed-words = rw (uncut-words l short all, uncut-words l' long all') (longer-unclosed l l' same-table short long alike)
 
 -- the quotation account for the words of a list that isn't cut
-pub account-of-words : (l : Lent) → refusal l ≡ none → (checked_of l).cut ≡ false → (base : List ℕ) → visited_starts base (visits l.table (top l.source l.tape)) + visited_ends base (visits l.table (top l.source l.tape)) ≡ 2 * pairs_of base (marks (visits l.table (top l.source l.tape))) + mismatches_of base (node_at l.source l.tape) (written_findings l)
+pub account-of-words : (l : Lent) → refusal l ≡ None → (checked_of l).cut ≡ false → (base : List ℕ) → visited_starts base (visits l.table (top l.source l.tape)) + visited_ends base (visits l.table (top l.source l.tape)) ≡ 2 * pairs_of base (marks (visits l.table (top l.source l.tape))) + mismatches_of base (node_at l.source l.tape) (written_findings l)
 account-of-words l e all base = rw (uncut-words l e all) (quotation-account l e base)
 
 -- which of the numbers is given: the first whose own part gives it, no earlier one being given
 pub data Given (l : Lent) (r : Refusal) : Type 0 where
-  by1 : of1 l ≡ some r → Given l r
-  by2 : of1 l ≡ none → of2 l ≡ some r → Given l r
-  by3 : of1 l ≡ none → of2 l ≡ none → of3 l ≡ some r → Given l r
-  by4to8 : of1 l ≡ none → of2 l ≡ none → of3 l ≡ none → of_tape l ≡ some r → Given l r
-  by9 : of1 l ≡ none → of2 l ≡ none → of3 l ≡ none → of_tape l ≡ none → of9 l ≡ some r → Given l r
-  by10 : of1 l ≡ none → of2 l ≡ none → of3 l ≡ none → of_tape l ≡ none → of9 l ≡ none → of10 l ≡ some r → Given l r
+  by1 : of1 l ≡ Some r → Given l r
+  by2 : of1 l ≡ None → of2 l ≡ Some r → Given l r
+  by3 : of1 l ≡ None → of2 l ≡ None → of3 l ≡ Some r → Given l r
+  by4to8 : of1 l ≡ None → of2 l ≡ None → of3 l ≡ None → of_tape l ≡ Some r → Given l r
+  by9 : of1 l ≡ None → of2 l ≡ None → of3 l ≡ None → of_tape l ≡ None → of9 l ≡ Some r → Given l r
+  by10 : of1 l ≡ None → of2 l ≡ None → of3 l ≡ None → of_tape l ≡ None → of9 l ≡ None → of10 l ≡ Some r → Given l r
 
-pub first-part-gives : (l : Lent) (r : Refusal) → (refusal l ≡ some r) ↔ Given l r
+pub first-part-gives : (l : Lent) (r : Refusal) → (refusal l ≡ Some r) ↔ Given l r
 unfolding refusal
 first-part-gives l r = (there, back)
   where
-    there : refusal l ≡ some r → Given l r
+    there : refusal l ≡ Some r → Given l r
     there e = one (which (of1 l) (or_else (of2 l) (or_else (of3 l) (or_else (of_tape l) (or_else (of9 l) (of10 l))))) r e)
       where
-        five : of1 l ≡ none → of2 l ≡ none → of3 l ≡ none → of_tape l ≡ none → (of9 l ≡ some r) ⊎ ((of9 l ≡ none) × (of10 l ≡ some r)) → Given l r
+        five : of1 l ≡ None → of2 l ≡ None → of3 l ≡ None → of_tape l ≡ None → (of9 l ≡ Some r) ⊎ ((of9 l ≡ None) × (of10 l ≡ Some r)) → Given l r
         five a b c d (inl h) = by9 a b c d h
         five a b c d (inr h) = by10 a b c d h.0 h.1
 
-        four : of1 l ≡ none → of2 l ≡ none → of3 l ≡ none → (of_tape l ≡ some r) ⊎ ((of_tape l ≡ none) × (or_else (of9 l) (of10 l) ≡ some r)) → Given l r
+        four : of1 l ≡ None → of2 l ≡ None → of3 l ≡ None → (of_tape l ≡ Some r) ⊎ ((of_tape l ≡ None) × (or_else (of9 l) (of10 l) ≡ Some r)) → Given l r
         four a b c (inl h) = by4to8 a b c h
         four a b c (inr h) = five a b c h.0 (which (of9 l) (of10 l) r h.1)
 
-        three : of1 l ≡ none → of2 l ≡ none → (of3 l ≡ some r) ⊎ ((of3 l ≡ none) × (or_else (of_tape l) (or_else (of9 l) (of10 l)) ≡ some r)) → Given l r
+        three : of1 l ≡ None → of2 l ≡ None → (of3 l ≡ Some r) ⊎ ((of3 l ≡ None) × (or_else (of_tape l) (or_else (of9 l) (of10 l)) ≡ Some r)) → Given l r
         three a b (inl h) = by3 a b h
         three a b (inr h) = four a b h.0 (which (of_tape l) (or_else (of9 l) (of10 l)) r h.1)
 
-        two : of1 l ≡ none → (of2 l ≡ some r) ⊎ ((of2 l ≡ none) × (or_else (of3 l) (or_else (of_tape l) (or_else (of9 l) (of10 l))) ≡ some r)) → Given l r
+        two : of1 l ≡ None → (of2 l ≡ Some r) ⊎ ((of2 l ≡ None) × (or_else (of3 l) (or_else (of_tape l) (or_else (of9 l) (of10 l))) ≡ Some r)) → Given l r
         two a (inl h) = by2 a h
         two a (inr h) = three a h.0 (which (of3 l) (or_else (of_tape l) (or_else (of9 l) (of10 l))) r h.1)
 
-        one : (of1 l ≡ some r) ⊎ ((of1 l ≡ none) × (or_else (of2 l) (or_else (of3 l) (or_else (of_tape l) (or_else (of9 l) (of10 l)))) ≡ some r)) → Given l r
+        one : (of1 l ≡ Some r) ⊎ ((of1 l ≡ None) × (or_else (of2 l) (or_else (of3 l) (or_else (of_tape l) (or_else (of9 l) (of10 l)))) ≡ Some r)) → Given l r
         one (inl h) = by1 h
         one (inr h) = two h.0 (which (of2 l) (or_else (of3 l) (or_else (of_tape l) (or_else (of9 l) (of10 l)))) r h.1)
 
-    back : Given l r → refusal l ≡ some r
+    back : Given l r → refusal l ≡ Some r
     back (by1 a) = rw a
     back (by2 a b) = rw (a, b)
     back (by3 a b c) = rw (a, b, c)

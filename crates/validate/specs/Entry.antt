@@ -1,15 +1,15 @@
 -- What the entry's answer says, in document 01's numbers and values.
-use Rattle.std.specs.Prelude.{ℕ, Bool, true, false, List}
+use Rattle.std.specs.Prelude.{ℕ, List, Result, Ok, Err}
+use Rattle.refusals.specs.declared.Refusal as code
+use Rattle.refusals.specs.Reasons.{refusal_of}
 use Rattle.definition.specs.Outcome.{Checked, refused, checked, Lent}
 use Rattle.definition.specs.Outcome as outcome
 use Rattle.validate.specs.declared.Report.{Report}
-use Rattle.validate.specs.declared.Answer.{Answer}
-use Rattle.validate.specs.declared.Answer.TheVariants as answer
 use Rattle.definition.specs.declared.OpenStart.{OpenStart}
 
 -- a checked document's numbers
-abbrev pub report_of : Report → Bool → Checked
-report_of r cut =
+abbrev pub report_of : Report → Checked
+report_of r =
     record {
       total = r.total;
       written = r.written;
@@ -17,14 +17,13 @@ report_of r cut =
       errors = r.errors;
       warnings = r.warnings;
       infos = r.infos;
-      cut = cut;
+      cut = r.is_cut;
     }
 
--- a refusal's number and place; a checked document's counts, and whether its list is cut
-abbrev pub answer_of : Answer → outcome.Answer
-answer_of (answer.Checked r) = checked (report_of r false)
-answer_of (answer.Cut r) = checked (report_of r true)
-answer_of (answer.Refused number place) = refused (record { number = number; place = place })
+-- a refusal's number and place, or a checked document's numbers
+abbrev pub answer_of : Result Report code.Refusal → outcome.Answer
+answer_of (Ok r) = checked (report_of r)
+answer_of (Err r) = refused (refusal_of r)
 
 -- all that a call lends
 abbrev pub lent : List ℕ → List ℕ → List ℕ → List ℕ → List OpenStart → List ℕ → Lent

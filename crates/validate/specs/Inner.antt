@@ -1,6 +1,9 @@
 -- What the functions inside the crate promise.
 use Rattle.std.specs.Prelude.{ℕ, ◌≤◌, ◌≡◌, false, ◌||◌, List, ltb, length}
-use Rattle.std.proofs.Math.Option.{Option, some, none}
+use Rattle.std.specs.Prelude.{Option, Some, None, Result, Ok, Err}
+use Rattle.refusals.specs.declared.Refusal as code
+use Rattle.validate.specs.declared.Report.{Report}
+use Rattle.numbers.specs.declared.Suffix.TheVariants as suffix
 use Rattle.tape.specs.Nodes.{count, link_at}
 use Rattle.tape.specs.Forest.{top, forest, Accepted}
 use Rattle.text.specs.Utf8.{first_ill_formed}
@@ -8,38 +11,24 @@ use Rattle.refusals.specs.Refusal.{Refusal, refuse, only_if, or_else, bad_table_
 use Rattle.tape.specs.Reading.{tape_refusal}
 use Rattle.table.specs.Lines.{bad_table}
 use Rattle.numbers.specs.Label.{label_refusal}
-use Rattle.numbers.specs.declared.Suffix.TheVariants as suffix
 use Rattle.findings.specs.declared.Counts.{Counts}
 use Rattle.findings.specs.Written.{total, overlay}
 use Rattle.definition.specs.Checks.{given}
 use Rattle.definition.specs.Document.{findings, verses_visited, text_before}
-use Rattle.definition.specs.Outcome.{checked, repeated, no_start, smaller, at_place, checked_of}
-use Rattle.definition.specs.Outcome as outcome
+use Rattle.definition.specs.Outcome.{Checked, repeated, no_start, smaller, checked_of}
+use Rattle.refusals.specs.Refusal.{at_place}
 use Rattle.definition.specs.declared.OpenStart.{OpenStart}
 use Rattle.state.specs.Inner.{counts_of, with_counts}
 use Rattle.closing.specs.Inner.{missing_checks}
 use Rattle.state.specs.declared.State.{State}
-use Rattle.validate.specs.declared.Answer.{Answer}
-use Rattle.validate.specs.declared.InputCheck.{InputCheck}
-use Rattle.validate.specs.declared.InputCheck.TheVariants as input
-use Rattle.validate.specs.Entry.{answer_of, lent}
+use Rattle.validate.specs.Entry.{report_of, lent}
 use Rattle.table.specs.Inner.{Indexed}
 use Rattle.findings.specs.Inner.{Wrote, Room, count_limit}
 
--- whether one of the numbers 1 to 10 turns back what is lent
-abbrev pub check_refusal : InputCheck → Option Refusal
-check_refusal (input.Accepted n) = none
-check_refusal (input.Refused number place) = some (record { number = number; place = place })
-
 -- of what is accepted: the table's index, of so many entries
-abbrev pub AcceptedIndex : List ℕ → List ℕ → InputCheck → Type 0
-AcceptedIndex table index (input.Accepted n) = Indexed table index n
-AcceptedIndex table index (input.Refused number place) = Unit {0}
-
--- so many entries, if it is accepted
-abbrev pub AcceptedEntries : ℕ → InputCheck → Type 0
-AcceptedEntries entries (input.Accepted n) = n ≡ entries
-AcceptedEntries entries (input.Refused number place) = Unit {0}
+abbrev pub AcceptedIndex : List ℕ → List ℕ → Result ℕ code.Refusal → Type 0
+AcceptedIndex table index (Ok n) = Indexed table index n
+AcceptedIndex table index (Err r) = Unit {0}
 
 -- the numbers from each on, with the lengths of the working lists
 abbrev pub source_refusal : List ℕ → Option Refusal
@@ -96,11 +85,10 @@ pub record Fit (table index : List ℕ) (entries : ℕ) (s t seen : List ℕ) (o
   pub seen_room : length seen ≡ count t
   pub open_room : length opens ≡ count t
 
--- the answer of a record whose counts are those of the whole list, with room for so many findings
-abbrev pub reported : State → ℕ → outcome.Answer
+-- the numbers of a record whose counts are those of the whole list, with room for so many findings
+abbrev pub reported : State → ℕ → Checked
 reported r room =
-    checked
-    (record {
+    record {
       total = total (counts_of r);
       written = smaller (total (counts_of r)) room;
       verses = r.verses;
@@ -108,11 +96,11 @@ reported r room =
       warnings = r.warnings;
       infos = r.infos;
       cut = ltb (smaller (total (counts_of r)) room) (total (counts_of r));
-    })
+    }
 
 -- the answer and the lists of a document that nothing turns back
-pub record Finished (table s t seen : List ℕ) (opens : List OpenStart) (l seen' : List ℕ) (opens' : List OpenStart) (l' : List ℕ) (r : Answer) : Type 0 where
-  pub answers : answer_of r ≡ checked (checked_of (lent table s t seen opens l))
+pub record Finished (table s t seen : List ℕ) (opens : List OpenStart) (l seen' : List ℕ) (opens' : List OpenStart) (l' : List ℕ) (r : Report) : Type 0 where
+  pub answers : report_of r ≡ checked_of (lent table s t seen opens l)
   pub words : l' ≡ overlay l 0 (findings table (top s t))
   pub seen_zero : seen' ≡ repeated 0 (count t)
   pub opens_zero : opens' ≡ repeated no_start (count t)

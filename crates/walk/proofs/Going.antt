@@ -1,11 +1,12 @@
 -- The walk along a run of siblings: what is left gives what the whole gives.
 -- Assumes nothing.
+use Rattle.std.specs.Prelude.{Option, Some, None}
 use Prim.Native.Nat.{ℕ, ◌+◌, ◌-◌, ◌<◌, ◌≤◌}
 use native.Mathlib.Omega.{arith}
 use mathlib.Core.Path.{◌≡◌, refl, sym, ap, subst, ◌∙◌}
 use mathlib.Core.Bool.{Bool, true, false, false≢true}
 use mathlib.Core.List.{List, []}
-use mathlib.Core.Option.{some, none}
+use Rattle.std.specs.Prelude.{Some, None}
 use lib.Dec.{eqb}
 use lib.ListN.{length}
 use borrow.Author.Tests.{ne_eqb}
@@ -14,8 +15,6 @@ use Rattle.tape.specs.Forest.{end, forest}
 use Rattle.tape.proofs.Nest.{nested-le, forest-done}
 use Rattle.table.specs.Entries.{Entry, info_of, entry_of_info}
 use Rattle.table.specs.declared.MarkerInfo.{MarkerInfo}
-use Rattle.table.specs.declared.Info.{Info}
-use Rattle.table.specs.declared.Info.TheVariants as info
 use Rattle.cursor.specs.Inner.{Run, Spanned}
 use Rattle.cursor.specs.Info.{info_at}
 use Rattle.cursor.specs.Steps.{past_node}
@@ -210,13 +209,13 @@ module _ {table index : List ℕ} {entries : ℕ} {s t : List ℕ} {depth : ℕ}
       open-starts : starts_of numbers ≡ starts_for (anchor_of s t r.anchor next) (forest s t next to)
       open-starts = g.attached ∙ starts-past s t depth i to g.ready.accepted g.ready.nested g.ready.start g.ready.within more r.anchor g.ready.anchored
 
-      pub going-skip : entry_of table (node_at s t i) ≡ none → Going table index entries s t depth o from to w₀ l₀ r₀ seen opens l r numbers next
+      pub going-skip : entry_of table (node_at s t i) ≡ None → Going table index entries s t depth o from to w₀ l₀ r₀ seen opens l r numbers next
       going-skip e =
           stepped seen opens l r numbers [] (state_of s t seen opens r) refl refl
           (walk-skip s t depth i to g.ready.accepted g.ready.nested g.ready.start g.ready.within more opened table o r.anchor (state_of s t seen opens r) g.ready.anchored e)
           refl (wrote_none l (counts_of r)) g.ready.starts g.ready.bounded (omega arith) (omega arith) (omega arith) open-anchored open-starts
 
-      module _ (e : Entry) (known : entry_of table (node_at s t i) ≡ some e) where
+      module _ (e : Entry) (known : entry_of table (node_at s t i) ≡ Some e) where
         open_is : walk_at table s t o i to seen opens r ≡ with_findings (visit_findings table s t o e i to seen opens r) (walk table o (anchor_of s t r.anchor next) (forest s t next to) (visit_state table s t o e i to seen opens r))
         open_is = walk-open s t depth i to g.ready.accepted g.ready.nested g.ready.start g.ready.within more opened table o r.anchor (state_of s t seen opens r) e g.ready.anchored known
 
@@ -286,15 +285,15 @@ module _ {table index : List ℕ} {entries : ℕ} {s t : List ℕ} {depth : ℕ}
         go false n = let u = by.other n in rw (u.same_seen, u.same_list, u.same_record, u.same_numbers) (going-other n leafy)
 
     -- a marker by its kind, and by the table's answer
-    module _ (k : ℕ) (is : k ≡ kind_at t i) (one : k ≡ 1) (x : Info) (read : info_of x ≡ info_at table t i) where
+    module _ (k : ℕ) (is : k ≡ kind_at t i) (one : k ≡ 1) (x : Option MarkerInfo) (read : info_of x ≡ info_at table t i) where
       opened-by : is_open (kind_at t i) ≡ true
       opened-by = let z : kind_at t i ≡ marker_open_kind = sym is ∙ one in rw z
 
-      pub going-passed-over : x ≡ info.Missing → Going table index entries s t depth o from to w₀ l₀ r₀ seen opens l r numbers after
+      pub going-passed-over : x ≡ None → Going table index entries s t depth o from to w₀ l₀ r₀ seen opens l r numbers after
       going-passed-over e = rw past (going-skip more opened-by (entry_read table s t i ∙ sym read ∙ ap info_of e))
 
-      module _ (m : MarkerInfo) (e : x ≡ info.Known m) where
-        entry-by : entry_of table (node_at s t i) ≡ some (entry_of_info m)
+      module _ (m : MarkerInfo) (e : x ≡ Some m) where
+        entry-by : entry_of table (node_at s t i) ≡ Some (entry_of_info m)
         entry-by = entry_read table s t i ∙ sym read ∙ ap info_of e
 
         pub visit-asks : Ready table index entries s t depth i to seen opens r × Visitable s t i to numbers r × (m.name_start + m.name_len ≤ length table) × Room (counts_of r) (visit_findings table s t o (entry_of_info m) i to seen opens r)

@@ -1,18 +1,19 @@
 -- A run without a marker, a Chapter or a Verse: the walk over it says nothing and changes nothing.
 -- Assumes nothing.
-use Prim.Native.Nat.{ℕ, ◌<◌}
+use Prim.Native.Nat.{ℕ}
 use native.Mathlib.Omega.{arith}
-use mathlib.Core.Path.{◌≡◌, refl, sym, ap, ◌∙◌}
-use mathlib.Core.Bool.{Bool, true, false, false≢true}
+use mathlib.Core.Path.{◌≡◌, refl}
+use mathlib.Core.Bool.{Bool, true, false, not, false≢true, ◌&&◌}
 use mathlib.Core.List.{List, []}
-use mathlib.Core.Option.{none}
+use Rattle.std.specs.Prelude.{None}
 use lib.Dec.{eqb}
-use borrow.Author.Tests.{eq-eqb, ne_eqb, eqb-true}
-use Rattle.tape.specs.Nodes.{kind_at, marker_open_kind, chapter_kind, verse_kind, text_kind}
+use borrow.Author.Tests.{ne_eqb, eqb-true}
+use Rattle.tape.specs.Nodes.{kind_at, is_open, chapter_kind, verse_kind, text_kind}
 use Rattle.tape.specs.Forest.{Forest, end, leaf, node, forest}
 use Rattle.cursor.specs.Inner.{Run}
-use Rattle.cursor.specs.Steps.{past_node}
-use Rattle.cursor.proofs.Runs.{forest-at-leaf, forest-at-open}
+use Rattle.cursor.proofs.InTurn.{reads-list}
+use Rattle.cursor.specs.InTurn.{siblings}
+use Rattle.std.specs.List.{list_all}
 use Rattle.findings.proofs.Overlay.{wrote_none}
 use Rattle.numbers.specs.Label.{numbered}
 use Rattle.definition.specs.State.{WalkState}
@@ -28,28 +29,18 @@ use Rattle.walk.specs.Inner.{nowhere, walk_at, Ready, RunWalked, can_skip_childr
 use Rattle.text.specs.Pick.{pick}
 use Rattle.text.proofs.Bool.{and_left, and_right, or_parts}
 
--- the test, a node at a time
-module _ (s t : List ℕ) (i to : ℕ) (run : Run s t i to) (more : i < to) where
-  pub skipped-marker : kind_at t i ≡ marker_open_kind → false ≡ can_skip_children (forest s t i to)
-  unfolding can_skip_children
-  skipped-marker e = sym (ap can_skip_children (forest-at-open s t i to run more (eq-eqb (kind_at t i) marker_open_kind e)))
+-- the test of each node
+abbrev pub passable : List ℕ → ℕ → Bool
+passable t i = not (is_open (kind_at t i)) && not (numbered (kind_at t i))
 
-  at_leaf : (kind_at t i ≡ marker_open_kind → ⊥) → can_skip_children (forest s t i to) ≡ pick (numbered (kind_at t i)) false (can_skip_children (forest s t (past_node t i) to))
-  unfolding can_skip_children
-  at_leaf n = ap can_skip_children (forest-at-leaf s t i to run more (ne_eqb (kind_at t i) marker_open_kind n))
-
-  pub skipped-chapter : kind_at t i ≡ chapter_kind → false ≡ can_skip_children (forest s t i to)
-  skipped-chapter e = sym (at_leaf (λ z. omega arith) ∙ rw (eq-eqb (kind_at t i) chapter_kind e))
-
-  pub skipped-verse : kind_at t i ≡ verse_kind → false ≡ can_skip_children (forest s t i to)
-  skipped-verse e = sym (at_leaf (λ z. omega arith) ∙ rw (ne_eqb (kind_at t i) chapter_kind (omega arith), eq-eqb (kind_at t i) verse_kind e))
-
-  pub skipped-past : (kind_at t i ≡ marker_open_kind → ⊥) → (kind_at t i ≡ chapter_kind → ⊥) → (kind_at t i ≡ verse_kind → ⊥) → can_skip_children (forest s t i to) ≡ can_skip_children (forest s t (past_node t i) to)
-  skipped-past a b d = at_leaf a ∙ rw (ne_eqb (kind_at t i) chapter_kind b, ne_eqb (kind_at t i) verse_kind d)
-
-pub skipped-end : true ≡ can_skip_children end
+pub skipped-all : (s t : List ℕ) (a b : ℕ) → Run s t a b → can_skip_children (forest s t a b) ≡ list_all (passable t) (siblings t a b)
 unfolding can_skip_children
-skipped-end = refl
+skipped-all s t a b run =
+    reads-list can_skip_children (list_all (passable t)) s t refl (λ i f is o e. rw (o, e) (go (numbered (kind_at t i)) _)) (λ i c f is o e. rw o) a b run
+  where
+    go : (v w : Bool) → pick v false w ≡ (not v && w)
+    go true w = refl
+    go false w = refl
 
 -- Texts are none of these
 pub texts-skipped : (f : Forest) → only_texts f ≡ true → can_skip_children f ≡ true
@@ -62,14 +53,14 @@ texts-skipped (node x c r) h = absurd (false≢true h)
 
 -- without an anchor the walk of such a run leaves the record as it is
 abbrev still : WalkState → Walk.Walked
-still st = record { findings = []; anchor = none; state = st }
+still st = record { findings = []; anchor = None; state = st }
 
-pub skipped-walk : (table : List ℕ) (o : state.WalkContext) (f : Forest) (st : WalkState) → can_skip_children f ≡ true → walk table o none f st ≡ still st
+pub skipped-walk : (table : List ℕ) (o : state.WalkContext) (f : Forest) (st : WalkState) → can_skip_children f ≡ true → walk table o None f st ≡ still st
 unfolding can_skip_children walk_by leaf_checked given
 skipped-walk table o end st h = refl
 skipped-walk table o (leaf x r) st h = go (numbered x.kind) refl h (λ q. skipped-walk table o r st q)
   where
-    go : (v : Bool) → numbered x.kind ≡ v → pick v false (can_skip_children r) ≡ true → (can_skip_children r ≡ true → walk table o none r st ≡ still st) → walk table o none (leaf x r) st ≡ still st
+    go : (v : Bool) → numbered x.kind ≡ v → pick v false (can_skip_children r) ≡ true → (can_skip_children r ≡ true → walk table o None r st ≡ still st) → walk table o None (leaf x r) st ≡ still st
     go true e h rest = absurd (false≢true h)
     go false e h rest = let k = or_parts (eqb x.kind chapter_kind) (eqb x.kind verse_kind) e in rw (k.0, k.1) (rest h)
 skipped-walk table o (node x c r) st h = absurd (false≢true h)

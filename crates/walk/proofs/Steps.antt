@@ -5,7 +5,7 @@ use native.Mathlib.Omega.{arith}
 use mathlib.Core.Path.{◌≡◌, refl, sym, ap, ◌∙◌}
 use mathlib.Core.Bool.{Bool, true, false, false≢true}
 use mathlib.Core.List.{List, [], ◌++◌, append_assoc}
-use mathlib.Core.Option.{Option, some, none}
+use Rattle.std.specs.Prelude.{Option, Some, None}
 use lib.ListN.{length}
 use borrow.Author.Tests.{eq-eqb, ne_eqb}
 use Rattle.text.specs.Pick.{pick}
@@ -32,15 +32,15 @@ use Rattle.table.specs.Inner.{Indexed}
 use Rattle.findings.specs.Inner.{Room}
 
 -- a marker with its entry, its children and what follows it
-open-walk : (table : List ℕ) (o : state.WalkContext) (a : Option Anchor) (x : Node) (c r : Forest) (st : WalkState) (e : Entry) → entry_of table x ≡ some e → walk table o a (node x c r) st ≡ with_findings ((open_checked table o a st e x c (node x c r)).findings ++ (walk table (inside o e) none c (open_checked table o a st e x c (node x c r)).state).findings) (walk table o (past a (node x c end)) r (walk table (inside o e) none c (open_checked table o a st e x c (node x c r)).state).state)
+open-walk : (table : List ℕ) (o : state.WalkContext) (a : Option Anchor) (x : Node) (c r : Forest) (st : WalkState) (e : Entry) → entry_of table x ≡ Some e → walk table o a (node x c r) st ≡ with_findings ((open_checked table o a st e x c (node x c r)).findings ++ (walk table (inside o e) None c (open_checked table o a st e x c (node x c r)).state).findings) (walk table o (past a (node x c end)) r (walk table (inside o e) None c (open_checked table o a st e x c (node x c r)).state).state)
 unfolding walk_by
 open-walk table o a x c r st e h =
     let t = open_checked table o a st e x c (node x c r) in
-    let w = walk table (inside o e) none c t.state in
+    let w = walk table (inside o e) None c t.state in
     rw h (ap (λ (l : List Finding). record { findings = l; anchor = (walk table o (past a (node x c end)) r w.state).anchor; state = (walk table o (past a (node x c end)) r w.state).state }) (sym (append_assoc t.findings w.findings (walk table o (past a (node x c end)) r w.state).findings)))
 
 -- an anchor by its number
-anchor-at : (s t : List ℕ) (i at : ℕ) → 1 ≤ i → anchor_of s t i at ≡ some (record { kind = kind_at t i; passed = forest s t (past_node t i) at })
+anchor-at : (s t : List ℕ) (i at : ℕ) → 1 ≤ i → anchor_of s t i at ≡ Some (record { kind = kind_at t i; passed = forest s t (past_node t i) at })
 anchor-at s t zero at h = absurd (omega arith)
 anchor-at s t (suc n) at h = refl
 
@@ -61,7 +61,7 @@ module _ (s t : List ℕ) (d i to : ℕ) (ok : Accepted s t) (nested : Nested t 
   -- the anchor is the same to the siblings after the node, one more being passed
   pub anchor-past : (n : ℕ) → Anchored t d n i → past (anchor_of s t n i) (forest s t i next) ≡ anchor_of s t n next
   anchor-past n nowhere = refl
-  anchor-past (suc n) (behind l r) = ap (λ (f : Forest). some (record { kind = kind_at t (suc n); passed = f })) (sym (forest-join s t r first))
+  anchor-past (suc n) (behind l r) = ap (λ (f : Forest). Some (record { kind = kind_at t (suc n); passed = f })) (sym (forest-join s t r first))
 
   pub anchored-past : (n : ℕ) → Anchored t d n i → Anchored t d n next
   anchored-past n nowhere = nowhere
@@ -78,8 +78,8 @@ module _ (s t : List ℕ) (d i to : ℕ) (ok : Accepted s t) (nested : Nested t 
     pub leaf-anchor : (n : ℕ) → Anchored t d n i → leaf_anchor (anchor_of s t n i) (node_at s t i) ≡ anchor_of s t (anchor_after t i n) next
     leaf-anchor n a = go (numbered (kind_at t i)) refl
       where
-        go : (v : Bool) → numbered (kind_at t i) ≡ v → pick v (some (record { kind = kind_at t i; passed = end })) (past (anchor_of s t n i) (leaf (node_at s t i) end)) ≡ anchor_of s t (pick v i n) next
-        go true e = sym (anchor-at s t i next from ∙ ap (λ (f : Forest). some (record { kind = kind_at t i; passed = f })) (forest-done s t next next (omega arith)))
+        go : (v : Bool) → numbered (kind_at t i) ≡ v → pick v (Some (record { kind = kind_at t i; passed = end })) (past (anchor_of s t n i) (leaf (node_at s t i) end)) ≡ anchor_of s t (pick v i n) next
+        go true e = sym (anchor-at s t i next from ∙ ap (λ (f : Forest). Some (record { kind = kind_at t i; passed = f })) (forest-done s t next next (omega arith)))
         go false e = ap (past (anchor_of s t n i)) (sym (one-leaf s t d i to ok nested from within more leafy)) ∙ anchor-past n a
 
     pub leaf-anchored : (n : ℕ) → Anchored t d n i → Anchored t d (anchor_after t i n) next
@@ -118,11 +118,11 @@ module _ (s t : List ℕ) (d i to : ℕ) (ok : Accepted s t) (nested : Nested t 
     open-anchor n a = ap (past (anchor_of s t n i)) (sym (one-open s t d i to ok nested from within more opened)) ∙ anchor-past n a
 
     -- without a table entry it is passed over
-    pub walk-skip : (table : List ℕ) (o : state.WalkContext) (n : ℕ) (st : WalkState) → Anchored t d n i → entry_of table x ≡ none → walk table o (anchor_of s t n i) (forest s t i to) st ≡ walk table o (anchor_of s t n next) (forest s t next to) st
+    pub walk-skip : (table : List ℕ) (o : state.WalkContext) (n : ℕ) (st : WalkState) → Anchored t d n i → entry_of table x ≡ None → walk table o (anchor_of s t n i) (forest s t i to) st ≡ walk table o (anchor_of s t n next) (forest s t next to) st
     unfolding walk_by
     walk-skip table o n st a e = rw (forest-at-open s t i to run more opened, e, open-anchor n a)
 
-    pub walk-open : (table : List ℕ) (o : state.WalkContext) (n : ℕ) (st : WalkState) (e : Entry) → Anchored t d n i → entry_of table x ≡ some e → walk table o (anchor_of s t n i) (forest s t i to) st ≡ with_findings ((open_checked table o (anchor_of s t n i) st e x c (forest s t i to)).findings ++ (walk table (inside o e) none c (open_checked table o (anchor_of s t n i) st e x c (forest s t i to)).state).findings) (walk table o (anchor_of s t n next) (forest s t next to) (walk table (inside o e) none c (open_checked table o (anchor_of s t n i) st e x c (forest s t i to)).state).state)
+    pub walk-open : (table : List ℕ) (o : state.WalkContext) (n : ℕ) (st : WalkState) (e : Entry) → Anchored t d n i → entry_of table x ≡ Some e → walk table o (anchor_of s t n i) (forest s t i to) st ≡ with_findings ((open_checked table o (anchor_of s t n i) st e x c (forest s t i to)).findings ++ (walk table (inside o e) None c (open_checked table o (anchor_of s t n i) st e x c (forest s t i to)).state).findings) (walk table o (anchor_of s t n next) (forest s t next to) (walk table (inside o e) None c (open_checked table o (anchor_of s t n i) st e x c (forest s t i to)).state).state)
     unfolding walk_by
     walk-open table o n st e a h =
         rw (forest-at-open s t i to run more opened) (open-walk table o (anchor_of s t n i) x c (forest s t next to) st e h ∙ rw (open-anchor n a))

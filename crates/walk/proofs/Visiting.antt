@@ -7,7 +7,7 @@ use mathlib.Core.Bool.{Bool, true, false, not}
 use lib.Dec.{eqb}
 use borrow.Author.Tests.{ltb-false}
 use mathlib.Core.List.{List, [], ◌++◌}
-use mathlib.Core.Option.{none}
+use Rattle.std.specs.Prelude.{None}
 use lib.ListN.{length}
 use Rattle.text.specs.Pick.{cut}
 use Rattle.tape.specs.Nodes.{Node, count, node_at, link_at}
@@ -180,7 +180,7 @@ module _ {table index : List ℕ} {entries : ℕ} {s t : List ℕ} {depth : ℕ}
           }
 
       walk_same : (o' : state.WalkContext) → o' ≡ inside o e → walk_at table s t o' (i + 1) (link_at t i) seen opens₂ (with_anchor r₂ 0) ≡ below table s t o e i (open_checked_at table s t o e i to seen opens r)
-      walk_same o' h = ap₂ (λ (z : state.WalkContext) (y : WalkState). walk table z none (forest s t (i + 1) (link_at t i)) y) h state-now
+      walk_same o' h = ap₂ (λ (z : state.WalkContext) (y : WalkState). walk table z None (forest s t (i + 1) (link_at t i)) y) h state-now
 
       pub children-room : (o' : state.WalkContext) → o' ≡ inside o e → Room (counts_of (with_anchor r₂ 0)) (walk_at table s t o' (i + 1) (link_at t i) seen opens₂ (with_anchor r₂ 0)).findings
       children-room o' h =

@@ -1,6 +1,6 @@
 -- What the walk and the visit require and promise.
 use Rattle.std.specs.Prelude.{ℕ, suc, ◌+◌, ◌-◌, ◌<◌, ◌≤◌, ◌≡◌, Bool, true, false, List, [], ◌++◌, length}
-use Rattle.std.proofs.Math.Option.{none}
+use Rattle.std.specs.Prelude.{None}
 use Rattle.tape.specs.Nodes.{count, node_at, kind_at, link_at, is_open}
 use Rattle.tape.specs.Forest.{Forest, end, leaf, node, forest, Nested, Accepted}
 use Rattle.table.specs.Entries.{Entry}
@@ -67,7 +67,7 @@ open_checked_at table s t o e i to seen opens r =
     open_checked table o (anchor_of s t r.anchor i) (state_of s t seen opens r) e (node_at s t i) (forest s t (i + 1) (link_at t i)) (forest s t i to)
 
 abbrev pub below : List ℕ → List ℕ → List ℕ → state.WalkContext → Entry → ℕ → NodeChecked → def.Walked
-below table s t o e i w = walk table (inside o e) none (forest s t (i + 1) (link_at t i)) w.state
+below table s t o e i w = walk table (inside o e) None (forest s t (i + 1) (link_at t i)) w.state
 
 -- the visit of a marker: its own findings, and the walk of its children; the anchor of its run stays
 abbrev pub visit_findings : List ℕ → List ℕ → List ℕ → state.WalkContext → Entry → ℕ → ℕ → List ℕ → List OpenStart → State → List Finding

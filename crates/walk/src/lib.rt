@@ -16,9 +16,10 @@ ghost use Rattle.table.specs.Inner.{Indexed};
 ghost use Rattle.findings.specs.Inner.{Room};
 
 use attachment::Attached;
+use cursor::Siblings;
 use definition::OpenStart;
 use state::{Context, State};
-use table::{Info, MarkerInfo};
+use table::MarkerInfo;
 
 // The numbers attached to an anchor, among the siblings up to `to`; none without an anchor.
 fn anchored(
@@ -142,21 +143,10 @@ fn can_skip_children(source: &[u8], tape: &[u8], from: usize, to: usize) -> bool
     requires { Run source.now tape.now from to }
     ensures { result ≡ can_skip_children (forest source.now tape.now from to) }
 {
-    let mut i = from;
-    while i < to {
+    Siblings::new(tape, from, to).all(|i| {
         let kind = tape::kind_at(tape, i);
-        if kind == tape::MARKER_OPEN {
-            return false;
-        }
-        if kind == tape::CHAPTER {
-            return false;
-        }
-        if kind == tape::VERSE {
-            return false;
-        }
-        i = cursor::past_node(tape, i);
-    }
-    true
+        kind != tape::MARKER_OPEN && !numbers::is_numbered(kind)
+    })
 }
 
 // The findings of a marker and of what lies in it. The record is lent, and updated.
@@ -225,13 +215,14 @@ pub fn walk(
     ensures { RunWalked source.now tape.now (walk_at table.now source.now tape.now (context_of context) from to seen.old opens.old rec.old) depth from to list.old rec.old seen.new opens.new list.new rec.new }
 {
     let mut numbers = anchored(source, tape, depth, rec.anchor, from, to);
+    // A while: the visit of a leaf takes the node that follows.
     let mut i = from;
     while i < to {
         let here = i;
         i = cursor::past_node(tape, here);
         if tape::kind_at(tape, here) == tape::MARKER_OPEN {
             // A marker without a table entry is passed over with all below it.
-            let Info::Known(m) = cursor::marker_info(table, index, entries, tape, here) else {
+            let Some(m) = cursor::marker_info(table, index, entries, tape, here) else {
                 continue;
             };
             visit(

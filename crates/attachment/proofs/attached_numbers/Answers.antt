@@ -1,162 +1,66 @@
 -- `attachment::attached_numbers` meets its contract.
-use borrow.Author.Tests.{not-true, not-false}
-use mathlib.Core.Path.{sym, ◌∙◌}
-use native.Mathlib.Omega.{arith}
+use mathlib.Core.Path.{refl, sym, ap, ◌∙◌}
+use Rattle.cursor.specs.InTurn.{left}
+use Rattle.cursor.proofs.InTurn.{turn, last-turn}
 use Rattle.attachment.proofs.Steps.{going_start, going-blank, going-stop, going-few, going-children, going-last, going_next, going_end}
-use Rattle.cursor.proofs.Runs.{run-spanned, run-below, past-later}
 use Rattle.attachment.proofs.attached_numbers.Goals as goal
 
 pub loop-i-init : goal.loop-i-init
 loop-i-init c =
+    let e = c.into_iter-i-iterator.ensures.into_iter_gives in
     let a = c.args in
-    going_start a.source.now a.tape.now a.kind a.from a.to c.requires
+    (rw e c.new-i-items.ensures.run, tt, record { at = a.from; items = ap left e ∙ c.new-i-items.ensures.items; fact = going_start a.source.now a.tape.now a.kind a.from a.to c.requires })
 
 pub is_blank-requires : goal.is_blank-requires
-is_blank-requires c =
-    let a = c.args in
-    let l = c.loop-i in
-    let m = c.loop-i-test.true in
-    run-spanned a.source.now a.tape.now l.i a.to l.invariant.run m
-
-pub past_node-i-requires : goal.past_node-i-requires
-past_node-i-requires c =
-    let a = c.args in
-    let l = c.loop-i in
-    let m = c.loop-i-test.true in
-    run-below a.source.now a.tape.now l.i a.to l.invariant.run m
-
-pub loop-i-smaller-then-is_blank : goal.loop-i-smaller-then-is_blank
-loop-i-smaller-then-is_blank c =
-    let a = c.args in
-    let l = c.loop-i in
-    let m = c.loop-i-test.true in
-    let n = past-later a.source.now a.tape.now l.i a.to l.invariant.run m in
-    let e = c.past_node-i.ensures in
-    omega arith
+is_blank-requires c = (turn (λ i g. g.run) c.loop-i.invariant.2 c.in-Some.ensures.steps).spanned
 
 pub loop-i-preserved-then-is_blank : goal.loop-i-preserved-then-is_blank
 loop-i-preserved-then-is_blank c =
-    let a = c.args in
-    let l = c.loop-i in
-    let m = c.loop-i-test.true in
-    let b = c.is_blank in
-    going-blank a.source.now a.tape.now a.kind a.from a.to l.found l.alt l.pubn l.i l.invariant m c.past_node-i.result (sym b.ensures ∙ c.if-is_blank.true) c.past_node-i.ensures
+    let h = turn (λ i g. g.run) c.loop-i.invariant.2 c.in-Some.ensures.steps in
+    (c.in-Some.ensures.goes.keeps, tt, record { at = _; items = h.rest; fact = going-blank _ _ _ _ _ _ _ _ _ h.fact h.more _ (sym c.is_blank.ensures ∙ c.if-is_blank.true) refl })
 
 pub claims_at-requires : goal.claims_at-requires
-claims_at-requires c =
-    let a = c.args in
-    let l = c.loop-i in
-    let m = c.loop-i-test.true in
-    run-spanned a.source.now a.tape.now l.i a.to l.invariant.run m
+claims_at-requires c = (turn (λ i g. g.run) c.loop-i.invariant.2 c.in-Some.ensures.steps).spanned
 
 pub returns-then-not-claims_at : goal.returns-then-not-claims_at
 returns-then-not-claims_at c =
-    let a = c.args in
-    let l = c.loop-i in
-    let m = c.loop-i-test.true in
-    let b = c.is_blank in
-    let x = c.claims_at in
-    going-stop a.source.now a.tape.now a.kind a.from a.to l.found l.alt l.pubn l.i l.invariant m (sym b.ensures ∙ c.if-is_blank.false) (sym x.ensures ∙ not-true x.result c.if-not-claims_at.true-raw)
+    let h = turn (λ i g. g.run) c.loop-i.invariant.2 c.in-Some.ensures.steps in
+    going-stop _ _ _ _ _ _ _ _ _ h.fact h.more (sym c.is_blank.ensures ∙ c.if-is_blank.false) (sym c.claims_at.ensures ∙ c.if-not-claims_at.true)
 
 pub start_at-requires : goal.start_at-requires
-start_at-requires c =
-    let a = c.args in
-    let l = c.loop-i in
-    let m = c.loop-i-test.true in
-    run-below a.source.now a.tape.now l.i a.to l.invariant.run m
+start_at-requires c = (turn (λ i g. g.run) c.loop-i.invariant.2 c.in-Some.ensures.steps).spanned.inside
 
 pub added-found-requires : goal.added-found-requires
 added-found-requires c =
-    let a = c.args in
-    let l = c.loop-i in
-    let m = c.loop-i-test.true in
-    let x = c.claims_at in
-    let y = sym x.ensures ∙ not-false x.result c.if-not-claims_at.false-raw in
-    going-few a.source.now a.tape.now a.kind a.from a.to l.found l.alt l.pubn l.i l.invariant m y
-
-pub overflow_add-i : goal.overflow_add-i
-overflow_add-i c =
-    let a = c.args in
-    let l = c.loop-i in
-    let m = c.loop-i-test.true in
-    omega (arith, m)
+    let h = turn (λ i g. g.run) c.loop-i.invariant.2 c.in-Some.ensures.steps in
+    going-few _ _ _ _ _ _ _ _ _ h.fact h.more (sym c.claims_at.ensures ∙ c.if-not-claims_at.false)
 
 pub link_at-requires : goal.link_at-requires
-link_at-requires c =
-    let a = c.args in
-    let l = c.loop-i in
-    let m = c.loop-i-test.true in
-    run-below a.source.now a.tape.now l.i a.to l.invariant.run m
+link_at-requires c = (turn (λ i g. g.run) c.loop-i.invariant.2 c.in-Some.ensures.steps).spanned.inside
 
 pub is_plain_text-requires : goal.is_plain_text-requires
 is_plain_text-requires c =
-    let a = c.args in
-    let l = c.loop-i in
-    let m = c.loop-i-test.true in
-    let x = c.claims_at in
-    let y = sym x.ensures ∙ not-false x.result c.if-not-claims_at.false-raw in
-    going-children a.source.now a.tape.now a.kind a.from a.to l.found l.alt l.pubn l.i l.invariant m y c.link_at.result c.link_at.ensures
+    let h = turn (λ i g. g.run) c.loop-i.invariant.2 c.in-Some.ensures.steps in
+    going-children _ _ _ _ _ _ _ _ _ h.fact h.more (sym c.claims_at.ensures ∙ c.if-not-claims_at.false) _ c.link_at.ensures
 
 pub returns-then-not-is_plain_text : goal.returns-then-not-is_plain_text
 returns-then-not-is_plain_text c =
-    let a = c.args in
-    let l = c.loop-i in
-    let m = c.loop-i-test.true in
-    let x = c.claims_at in
-    let y = sym x.ensures ∙ not-false x.result c.if-not-claims_at.false-raw in
-    let n = c.start_at in
-    let f = c.added-found in
-    let k = c.link_at in
-    let p = c.is_plain_text in
-    going-last a.source.now a.tape.now a.kind a.from a.to l.found l.alt l.pubn l.i l.invariant m y f.result n.result k.result n.ensures k.ensures f.ensures (sym p.ensures ∙ not-true p.result c.if-not-is_plain_text.true-raw)
+    let h = turn (λ i g. g.run) c.loop-i.invariant.2 c.in-Some.ensures.steps in
+    going-last _ _ _ _ _ _ _ _ _ h.fact h.more (sym c.claims_at.ensures ∙ c.if-not-claims_at.false) _ _ _ c.start_at.ensures c.link_at.ensures c.added-found.ensures
+    (sym c.is_plain_text.ensures ∙ c.if-not-is_plain_text.true)
 
-pub alternate_after-alt-requires : goal.alternate_after-alt-requires
-alternate_after-alt-requires c =
-    let a = c.args in
-    let l = c.loop-i in
-    let m = c.loop-i-test.true in
-    run-spanned a.source.now a.tape.now l.i a.to l.invariant.run m
-
-pub published_after-pubn-requires : goal.published_after-pubn-requires
-published_after-pubn-requires c =
-    let a = c.args in
-    let l = c.loop-i in
-    let m = c.loop-i-test.true in
-    run-spanned a.source.now a.tape.now l.i a.to l.invariant.run m
-
-pub past_node-i-requires-in-loop-i : goal.past_node-i-requires-in-loop-i
-past_node-i-requires-in-loop-i c =
-    let a = c.args in
-    let l = c.loop-i in
-    let m = c.loop-i-test.true in
-    run-below a.source.now a.tape.now l.i a.to l.invariant.run m
-
-pub loop-i-smaller : goal.loop-i-smaller
-loop-i-smaller c =
-    let a = c.args in
-    let l = c.loop-i in
-    let m = c.loop-i-test.true in
-    let n = past-later a.source.now a.tape.now l.i a.to l.invariant.run m in
-    let e = c.past_node-i-in-loop-i.ensures in
-    omega (arith, m, n, e)
+pub marker_name-name-requires : goal.marker_name-name-requires
+marker_name-name-requires c = (turn (λ i g. g.run) c.loop-i.invariant.2 c.in-Some.ensures.steps).spanned
 
 pub loop-i-preserved : goal.loop-i-preserved
 loop-i-preserved c =
-    let a = c.args in
-    let l = c.loop-i in
-    let m = c.loop-i-test.true in
-    let x = c.claims_at in
-    let y = sym x.ensures ∙ not-false x.result c.if-not-claims_at.false-raw in
-    let n = c.start_at in
-    let f = c.added-found in
-    let k = c.link_at in
-    let p = c.is_plain_text in
-    let u = c.alternate_after-alt in
-    let v = c.published_after-pubn in
-    going_next a.source.now a.tape.now a.kind a.from a.to l.found l.alt l.pubn l.i l.invariant m y f.result n.result k.result n.ensures k.ensures f.ensures u.result v.result c.past_node-i-in-loop-i.result (sym p.ensures ∙ not-false p.result c.if-not-is_plain_text.false-raw) u.ensures v.ensures c.past_node-i-in-loop-i.ensures
+    let h = turn (λ i g. g.run) c.loop-i.invariant.2 c.in-Some.ensures.steps in
+    let n = c.marker_name-name.ensures in
+    let next = going_next _ _ _ _ _ _ _ _ _ h.fact h.more (sym c.claims_at.ensures ∙ c.if-not-claims_at.false) _ _ _ c.start_at.ensures c.link_at.ensures c.added-found.ensures _ _ _
+    (sym c.is_plain_text.ensures ∙ c.if-not-is_plain_text.false) (rw (c.is_alternate-alt.ensures, n)) (rw (c.is_published-pubn.ensures, n)) refl in
+    (c.in-Some.ensures.goes.keeps, tt, record { at = _; items = h.rest; fact = next })
 
 pub returns : goal.returns
 returns c =
-    let a = c.args in
-    let l = c.loop-i in
-    going_end a.source.now a.tape.now a.kind a.from a.to l.found l.alt l.pubn l.i l.invariant (omega arith)
+    let p = c.loop-i.invariant.2 in
+    going_end _ _ _ _ _ _ _ _ p.at p.fact (last-turn (λ i g. g.run) p c.in-None.ensures.steps.0)

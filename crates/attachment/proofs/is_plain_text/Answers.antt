@@ -1,41 +1,21 @@
 -- `attachment::is_plain_text` meets its contract.
-use mathlib.Core.Path.{refl, sym, ◌∙◌}
-use native.Mathlib.Omega.{arith}
-use Rattle.attachment.proofs.Steps.{plain-not, plain_end, plain-going}
-use Rattle.cursor.proofs.Runs.{run-below, past-later}
+use Rattle.std.proofs.Common.{ℕ, refl, sym, ◌∙◌, not, rules, tests}
+use Rattle.std.specs.List.{list_all}
+use Rattle.std.proofs.lemmas.Iterator.Consumers.{YieldsList-from_first}
+use Rattle.std.proofs.lemmas.Iterator.Search.{all_from_yields_List}
+use Rattle.tape.specs.Nodes.{kind_at, is_open}
+use Rattle.cursor.proofs.InTurn.{reads-list, serves_from_siblings}
+use Rattle.cursor.specs.InTurn.{left}
+use Rattle.attachment.specs.Attached.{plain}
 use Rattle.attachment.proofs.is_plain_text.Goals as goal
 
-pub loop-i-init : goal.loop-i-init
-loop-i-init c = (c.requires, refl)
-
-pub kind_at-requires : goal.kind_at-requires
-kind_at-requires c = run-below _ _ _ _ c.loop-i.invariant.0 (omega arith)
-
-pub returns-then-kind_at-eq-MARKER_OPEN : goal.returns-then-kind_at-eq-MARKER_OPEN
-returns-then-kind_at-eq-MARKER_OPEN c =
-    let a = c.args in
-    let l = c.loop-i in
-    sym (plain-not a.source.now a.tape.now l.i a.to l.invariant.0 (omega arith) (sym c.kind_at.ensures ∙ c.if-kind_at-eq-MARKER_OPEN.true)) ∙ l.invariant.1
-
-pub past_node-i-requires : goal.past_node-i-requires
-past_node-i-requires c = run-below _ _ _ _ c.loop-i.invariant.0 (omega arith)
-
-pub loop-i-smaller : goal.loop-i-smaller
-loop-i-smaller c =
-    let a = c.args in
-    let l = c.loop-i in
-    let n = past-later a.source.now a.tape.now l.i a.to l.invariant.0 (omega arith) in
-    let e = c.past_node-i.ensures in
-    omega arith
-
-pub loop-i-preserved : goal.loop-i-preserved
-loop-i-preserved c =
-    let a = c.args in
-    let l = c.loop-i in
-    plain-going a.source.now a.tape.now a.from l.i a.to l.invariant (omega arith) (λ e. omega arith) c.past_node-i.result c.past_node-i.ensures
+pub all-requires-clause-callable : goal.all-requires-clause-callable
+all-requires-clause-callable c = serves_from_siblings c.requires c.new.ensures.items (λ i q r. search rules) (λ i h. search rules)
 
 pub returns : goal.returns
+unfolding plain
 returns c =
-    let a = c.args in
-    let l = c.loop-i in
-    sym (plain_end a.source.now a.tape.now l.i a.to (omega arith)) ∙ l.invariant.1
+    let t = c.args.tape.now in
+    let test = λ (i : ℕ). not (is_open (kind_at t i)) in
+    all_from_yields_List test c.all.new.self _ c.all.result c.all.ensures.ran (YieldsList-from_first (λ i. i) left _ c.new.ensures.items) (λ i v q r. search (rules, tests))
+    ∙ sym (reads-list plain (list_all test) c.args.source.now t refl (λ i f is o e. rw (o, e)) (λ i c f is o e. rw o) _ _ c.requires)

@@ -4,6 +4,7 @@ use mathlib.Core.List.{List, [], ◌∷◌, ◌++◌}
 use mathlib.Core.Path.{◌≡◌, refl, ap, ◌∙◌}
 use Rattle.attributes.proofs.Owed.{at, Owing, owing-start, owing-as, owing-room, owing-wrote, owing-end}
 use Rattle.attributes.proofs.Whole.{kinds-none, kinds-scan, kinds-bare}
+use Rattle.attributes.proofs.Bars.{default-there}
 use Rattle.attributes.specs.Attributes.{empty_list, no_default, between, attribute_scan, body, has_default, attribute_kinds}
 use Rattle.attributes.specs.Inner.{finding_of_kind}
 use Rattle.cursor.specs.Names.{name_of}
@@ -47,13 +48,13 @@ push_if-requires c =
     let is_body : c.trim-body.result.now ≡ body c.args.text.now = c.trim-body.ensures ∙ ap (λ (s : List _). cut (trim s) s) c.after_bar.ensures in
     let Due : List Kind → Type 0 = λ ks. let a = c.args in Owing a.w (at a.w (attribute_kinds (name_of a.marker.now) a.text.now)) a.list.now a.c ks a.list.now a.c in
     let due_all : Due (attribute_kinds (name_of c.args.marker.now) c.args.text.now) = let a = c.args in owing-start a.w (attribute_kinds (name_of a.marker.now) a.text.now) a.list.now a.c c.requires in
-    let due-bare : Due (pick (not c.has_default-known.result) (no_default ∷ []) [] ++ []) = let a = c.args in let e = c in owing-as (kinds-bare (name_of a.marker.now) a.text.now e.trim-body.result.now is_body e.if-body-eq0.false e.find_byte.result e.find_byte.ensures c.has_default-known.result (c.has_default-known.ensures ∙ ap has_default (c.default_attribute.ensures ∙ ap default_name c.name_of.ensures)) e.if-find_byte-body.false) due_all in
-    owing-room no_default (not c.has_default-known.result) [] (finding_of c.finding-bare.result) c.finding-bare.ensures due-bare
+    let due-bare : Due (pick (not c.is_some-known.result) (no_default ∷ []) [] ++ []) = let a = c.args in let e = c in owing-as (kinds-bare (name_of a.marker.now) a.text.now e.trim-body.result.now is_body e.if-body-eq0.false e.find_byte.result e.find_byte.ensures c.is_some-known.result (c.is_some-known.ensures ∙ default-there _ ∙ ap has_default (c.default_attribute.ensures ∙ ap default_name c.name_of.ensures)) e.if-find_byte-body.false) due_all in
+    owing-room no_default (not c.is_some-known.result) [] (finding_of c.finding-bare.result) c.finding-bare.ensures due-bare
 
 pub returns : goal.returns
 returns c =
     let is_body : c.trim-body.result.now ≡ body c.args.text.now = c.trim-body.ensures ∙ ap (λ (s : List _). cut (trim s) s) c.after_bar.ensures in
     let Due : List Kind → Type 0 = λ ks. let a = c.args in Owing a.w (at a.w (attribute_kinds (name_of a.marker.now) a.text.now)) a.list.now a.c ks a.list.now a.c in
     let due_all : Due (attribute_kinds (name_of c.args.marker.now) c.args.text.now) = let a = c.args in owing-start a.w (attribute_kinds (name_of a.marker.now) a.text.now) a.list.now a.c c.requires in
-    let due-bare : Due (pick (not c.has_default-known.result) (no_default ∷ []) [] ++ []) = let a = c.args in let e = c in owing-as (kinds-bare (name_of a.marker.now) a.text.now e.trim-body.result.now is_body e.if-body-eq0.false e.find_byte.result e.find_byte.ensures c.has_default-known.result (c.has_default-known.ensures ∙ ap has_default (c.default_attribute.ensures ∙ ap default_name c.name_of.ensures)) e.if-find_byte-body.false) due_all in
-    owing-end (owing-wrote no_default (not c.has_default-known.result) [] (finding_of c.finding-bare.result) c.finding-bare.ensures due-bare c.push_if.ensures)
+    let due-bare : Due (pick (not c.is_some-known.result) (no_default ∷ []) [] ++ []) = let a = c.args in let e = c in owing-as (kinds-bare (name_of a.marker.now) a.text.now e.trim-body.result.now is_body e.if-body-eq0.false e.find_byte.result e.find_byte.ensures c.is_some-known.result (c.is_some-known.ensures ∙ default-there _ ∙ ap has_default (c.default_attribute.ensures ∙ ap default_name c.name_of.ensures)) e.if-find_byte-body.false) due_all in
+    owing-end (owing-wrote no_default (not c.is_some-known.result) [] (finding_of c.finding-bare.result) c.finding-bare.ensures due-bare c.push_if.ensures)

@@ -24,17 +24,17 @@ is_start_of-requires c =
     let k = c.kind_at in
     open-spanned a.table.now a.source.now a.tape.now f.requires.1 (record { node = a.node; base_len = a.base_len }) k.result k.ensures c.if-kind_at-ne-MARKER_OPEN.false c.if-tape-i.false
 
-pub returns-in-Known : goal.returns-in-Known
-returns-in-Known c =
+pub returns-in-Some : goal.returns-in-Some
+returns-in-Some c =
     let f = c in
     let a = f.args in
     let k = c.kind_at in
     let x = c.is_start_of in
-    with-entry a.table.now a.source.now a.tape.now f.requires.1 (record { node = a.node; base_len = a.base_len }) k.result k.ensures c.if-kind_at-ne-MARKER_OPEN.false (entry_of_info c.in-Known.m) x.result (sym (ap info_of c.in-Known.is) ∙ c.marker_info.ensures) x.ensures
+    with-entry a.table.now a.source.now a.tape.now f.requires.1 (record { node = a.node; base_len = a.base_len }) k.result k.ensures c.if-kind_at-ne-MARKER_OPEN.false (entry_of_info c.in-Some.m) x.result (sym (ap info_of c.in-Some.is) ∙ c.marker_info.ensures) x.ensures
 
-pub returns-in-Missing : goal.returns-in-Missing
-returns-in-Missing c =
+pub returns-in-None : goal.returns-in-None
+returns-in-None c =
     let f = c in
     let a = f.args in
     let k = c.kind_at in
-    no-entry a.table.now a.source.now a.tape.now f.requires.1 (record { node = a.node; base_len = a.base_len }) k.result k.ensures c.if-kind_at-ne-MARKER_OPEN.false (sym (ap info_of c.in-Missing.is) ∙ c.marker_info.ensures)
+    no-entry a.table.now a.source.now a.tape.now f.requires.1 (record { node = a.node; base_len = a.base_len }) k.result k.ensures c.if-kind_at-ne-MARKER_OPEN.false (sym (ap info_of c.in-None.is) ∙ c.marker_info.ensures)

@@ -1,7 +1,9 @@
 -- `carried::is_border` meets its contract.
 use native.Mathlib.Omega.{arith}
-use Rattle.cursor.proofs.Runs.{run-below, past-later}
+use mathlib.Core.Path.{refl, ap, ◌∙◌}
 use Rattle.tape.proofs.OneNumber.{some-nodes}
+use Rattle.cursor.specs.InTurn.{left}
+use Rattle.cursor.proofs.InTurn.{turn, last-turn}
 use Rattle.carried.proofs.Along.{along-top, along-next, along-here, along-end}
 use Rattle.carried.proofs.is_border.Goals as goal
 
@@ -11,33 +13,33 @@ link_at-end-requires c =
     let n = some-nodes a.source.now a.tape.now c.requires.sized in
     omega arith
 
+pub new-i-items-requires : goal.new-i-items-requires
+new-i-items-requires c =
+    let a = c.args in
+    let top = along-top a.source.now a.tape.now a.p c.requires c.link_at-end.result c.link_at-end.ensures in
+    record { source = a.source.now; run = top.run }
+
 pub loop-i-init : goal.loop-i-init
 loop-i-init c =
+    let e = c.into_iter-i-iterator.ensures.into_iter_gives in
     let a = c.args in
-    along-top a.source.now a.tape.now a.p c.requires c.link_at-end.result c.link_at-end.ensures
+    let top = along-top a.source.now a.tape.now a.p c.requires c.link_at-end.result c.link_at-end.ensures in
+    (rw e c.new-i-items.ensures.run, tt, record { at = 1; items = ap left e ∙ c.new-i-items.ensures.items; fact = top })
 
 pub returns-then-p-i : goal.returns-then-p-i
 returns-then-p-i c =
     let a = c.args in
-    along-here a.source.now a.tape.now a.p c.loop-i.invariant (omega arith) (omega arith)
-
-pub past_node-i-requires : goal.past_node-i-requires
-past_node-i-requires c = run-below _ _ _ _ c.loop-i.invariant.run (omega arith)
-
-pub loop-i-smaller : goal.loop-i-smaller
-loop-i-smaller c =
-    let a = c.args in
-    let l = c.loop-i in
-    let n = past-later a.source.now a.tape.now l.i _ l.invariant.run (omega arith) in
-    let e = c.past_node-i.ensures in
-    omega arith
+    let h = turn (λ i l. l.run) c.loop-i.invariant.2 c.in-Some.ensures.steps in
+    along-here a.source.now a.tape.now a.p h.fact h.more (omega arith)
 
 pub loop-i-preserved : goal.loop-i-preserved
 loop-i-preserved c =
     let a = c.args in
-    along-next a.source.now a.tape.now a.p c.loop-i.invariant (omega arith) (omega arith) c.past_node-i.result c.past_node-i.ensures
+    let h = turn (λ i l. l.run) c.loop-i.invariant.2 c.in-Some.ensures.steps in
+    (c.in-Some.ensures.goes.keeps, tt, record { at = _; items = h.rest; fact = along-next a.source.now a.tape.now a.p h.fact h.more (omega arith) _ refl })
 
 pub returns : goal.returns
 returns c =
     let a = c.args in
-    along-end a.source.now a.tape.now a.p c.loop-i.invariant (omega arith)
+    let p = c.loop-i.invariant.2 in
+    along-end a.source.now a.tape.now a.p p.fact (last-turn (λ i l. l.run) p c.in-None.ensures.steps.0)

@@ -1,10 +1,10 @@
 -- `carried::is_border` meets its contract.
-use Prim.Native.Nat.{◌-◌}
+use Rattle.cursor.proofs.InTurn.{At}
 use Rattle.carried.proofs.Along.{Along}
 use Rattle.carried.proofs.is_border.Given as goal
 
 abbrev pub invariant-loop-i : goal.invariant-loop-i
-invariant-loop-i l = Along l.source l.tape l.p l.i l.end
-
-abbrev pub decreases-loop-i : goal.decreases-loop-i
-decreases-loop-i l = l.end - l.i
+invariant-loop-i l =
+    (goal.iterator-loop-i).can_next l.i-iterator
+    × (goal.iterator-loop-i).is_finite l.i-iterator
+    × At l.tape l.end (λ i. Along l.source l.tape l.p i l.end) l.i-iterator

@@ -2,7 +2,7 @@
 use Prim.Native.Nat.{ℕ}
 use mathlib.Core.Path.{refl, ◌≡◌}
 use mathlib.Core.List.{List, [], ◌∷◌}
-use mathlib.Core.Option.{Option}
+use Rattle.std.specs.Prelude.{Option}
 use Rattle.tape.specs.Nodes.{Node, node_at}
 use Rattle.table.specs.Entries.{Entry, info_of}
 use Rattle.findings.specs.declared.Counts.{Counts}

@@ -7,27 +7,17 @@ use Rattle.chapter_verse.proofs.verse_after.Goals as goal
 pub end_read-requires : goal.end_read-requires
 end_read-requires c =
     let s = c in
-    sym (ap read_of c.in-Is.is) ∙ s.requires.1
+    sym (ap read_of c.in-Ok.is) ∙ s.requires.1
 
 pub next_expected-requires : goal.next_expected-requires
 next_expected-requires c =
     let s = c in
     let e = c.end_read in
-    last-readable s.args.label.now s.args.read s.requires.1 c.in-Is.start c.in-Is.is e.result e.ensures c.end_or.result c.end_or.ensures
+    last-readable s.args.label.now s.args.read s.requires.1 c.in-Ok.start c.in-Ok.is e.result e.ensures c.end_or.result c.end_or.ensures
 
-pub returns-in-Is : goal.returns-in-Is
-returns-in-Is c =
+pub returns-in-Ok : goal.returns-in-Ok
+returns-in-Ok c =
     let q = c in
     let s = q in
     let e = q.end_read in
-    next-of-last s.args.label.now s.args.read s.requires.1 q.in-Is.start q.in-Is.is e.result e.ensures q.end_or.result q.end_or.ensures c.next_expected.result (position_of s.args.v) c.next_expected.ensures
-
-pub returns-in-NoDigits : goal.returns-in-NoDigits
-returns-in-NoDigits c =
-    let s = c in
-    stays s.args.label.now s.args.read s.requires.1 s.args.v s.requires.0 (rw c.in-NoDigits.is refl)
-
-pub returns-in-TooLarge : goal.returns-in-TooLarge
-returns-in-TooLarge c =
-    let s = c in
-    stays s.args.label.now s.args.read s.requires.1 s.args.v s.requires.0 (rw c.in-TooLarge.is refl)
+    next-of-last s.args.label.now s.args.read s.requires.1 q.in-Ok.start q.in-Ok.is e.result e.ensures q.end_or.result q.end_or.ensures c.next_expected.result (position_of s.args.v) c.next_expected.ensures

@@ -3,7 +3,7 @@ use mathlib.Core.Bool.{Bool, not, ◌&&◌}
 use Prim.Native.Nat.{ℕ}
 use mathlib.Core.Path.{◌≡◌, refl, ap, ◌∙◌}
 use mathlib.Core.List.{List, [], ◌∷◌}
-use mathlib.Core.Option.{Option}
+use Rattle.std.specs.Prelude.{Option}
 use Rattle.tape.specs.Nodes.{Node, node_at}
 use Rattle.table.specs.Entries.{Entry, info_of}
 use Rattle.findings.specs.Finding.{Finding}

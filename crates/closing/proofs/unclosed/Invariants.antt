@@ -1,11 +1,7 @@
--- `closing::unclosed`: the findings of the first k open starts are written.
-use Rattle.std.proofs.Common.{◌-◌}
+-- `closing::unclosed`: the findings of the open starts so far are written.
 use Rattle.state.specs.Inner.{counts_of}
 use Rattle.closing.proofs.Starts.{UnclosedSoFar}
 use Rattle.closing.proofs.unclosed.Given as goal
 
-abbrev pub invariant-loop-k : goal.invariant-loop-k
-invariant-loop-k l = UnclosedSoFar l.source l.tape l.opens l.n l.fn.list (counts_of l.fn.rec) l.list l.c l.k
-
-abbrev pub decreases-loop-k : goal.decreases-loop-k
-decreases-loop-k l = l.n - l.k
+abbrev pub invariant-loop-o : goal.invariant-loop-o
+invariant-loop-o l = UnclosedSoFar l.source l.tape l.fn.opens l.fn.rec.open_len l.fn.list (counts_of l.fn.rec) l.list l.c l.o-index

@@ -1,6 +1,6 @@
 -- `cursor::next_sibling` meets its contract.
 use mathlib.Core.Bool.{Bool, not}
-use mathlib.Core.Option.{some, none}
+use Rattle.std.specs.Prelude.{Some, None}
 use mathlib.Core.Path.{sym, ap, ◌∙◌}
 use Rattle.cursor.proofs.Around.{next-off, next-by}
 use Rattle.text.specs.Pick.{pick}
@@ -18,7 +18,7 @@ returns-then-is_close c =
     let p = c.past_node-next in
     let k = c.kind_at in
     let x = c.is_close in
-    sym (ap (λ (y : Bool). pick (not y) (some p.result) none) c.if-is_close.true) ∙ next-by a.tape.now a.i p.result p.ensures k.result x.result c.if-tape-next.false k.ensures x.ensures
+    sym (ap (λ (y : Bool). pick (not y) (Some p.result) None) c.if-is_close.true) ∙ next-by a.tape.now a.i p.result p.ensures k.result x.result c.if-tape-next.false k.ensures x.ensures
 
 pub returns-else-is_close : goal.returns-else-is_close
 returns-else-is_close c =
@@ -26,4 +26,4 @@ returns-else-is_close c =
     let p = c.past_node-next in
     let k = c.kind_at in
     let x = c.is_close in
-    sym (ap (λ (y : Bool). pick (not y) (some p.result) none) c.if-is_close.false) ∙ next-by a.tape.now a.i p.result p.ensures k.result x.result c.if-tape-next.false k.ensures x.ensures
+    sym (ap (λ (y : Bool). pick (not y) (Some p.result) None) c.if-is_close.false) ∙ next-by a.tape.now a.i p.result p.ensures k.result x.result c.if-tape-next.false k.ensures x.ensures

@@ -1,5 +1,5 @@
 -- `listing::put_findings` meets its contract. The invariant: the findings passed are written, and what is left gives what the whole gives.
-use Prim.Native.Nat.{ℕ, ◌+◌, ◌-◌, ◌<◌, ◌≤◌}
+use Prim.Native.Nat.{ℕ, ◌<◌, ◌≤◌}
 use native.Mathlib.Omega.{arith}
 use mathlib.Core.Path.{◌≡◌, refl, ◌∙◌}
 use lib.ListN.{length}
@@ -14,9 +14,6 @@ as-low e h = omega arith
 
 at_most : {a b m : ℕ} → a ≤ b → b ≤ m → a ≤ m
 at_most h g = omega arith
-
-less-left : {k n : ℕ} → k < n → n - (k + 1) < n - k
-less-left h = omega arith
 
 pub loop-k-init : goal.loop-k-init
 loop-k-init c = (writing_start _ _ _ _ c.requires.2, refl)
@@ -44,9 +41,6 @@ returns-then-out-end c =
     let z = r c.if-out-end.true c.put_whole-end.auto.out in
     record { piece = z.0; next = z.1 }
 
-pub loop-k-smaller : goal.loop-k-smaller
-loop-k-smaller c = less-left c.loop-k-test.true
-
 pub loop-k-preserved : goal.loop-k-preserved
 loop-k-preserved c =
     let a = c.args in
@@ -68,4 +62,5 @@ returns c =
     let a = c.args in
     let l = c.loop-k in
     let z = written_all _ _ _ _ l.out l.k l.at l.invariant.0 (texts-end (length a.text.now) a.table.now a.source.now a.tape.now a.held a.list.now c.requires.1 l.k (omega (arith, c.loop-k-test.false))) in
-    record { piece = z.0; next = z.1 }
+    let e : a.held ≡ l.k = omega (arith, c.loop-k-test.false) in
+    record { piece = z.0; next = e ∙ z.1 }

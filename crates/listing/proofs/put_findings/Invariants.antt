@@ -1,5 +1,4 @@
 -- `listing::put_findings` meets its contract. The invariant: the findings passed are written, and what is left gives what the whole gives.
-use Prim.Native.Nat.{◌-◌}
 use mathlib.Core.Path.{◌≡◌}
 use lib.ListN.{length}
 use Rattle.listing.specs.Listing.{listed_each}
@@ -10,6 +9,3 @@ use Rattle.listing.proofs.put_findings.Given as goal
 abbrev pub invariant-loop-k : goal.invariant-loop-k
 invariant-loop-k l =
     WritingPiece (listed_each (length l.initial.text) l.table l.source l.tape (held_findings l.held l.list)) l.held l.from l.initial.out l.out l.k l.at × (length l.text ≡ length l.initial.text)
-
-abbrev pub decreases-loop-k : goal.decreases-loop-k
-decreases-loop-k l = l.held - l.k

@@ -1,68 +1,27 @@
 -- `marker_checks::blank_line_has_inline_content` meets its contract.
-use mathlib.Core.Path.{refl, sym, ◌∙◌}
-use native.Mathlib.Omega.{arith}
-use Rattle.cursor.proofs.Runs.{run-below, run-spanned, past-later}
-use Rattle.definition.specs.Checks.{inline_content}
-use Rattle.marker_checks.proofs.Children.{along-next, along-end, line-marker, line-chapter, line-verse, line-text, line-past, line-none}
+use Rattle.std.proofs.Common.{◌≡◌, sym, ◌∙◌, rules, tests}
+use Rattle.std.proofs.lemmas.Iterator.Consumers.{YieldsList-from_first}
+use Rattle.std.proofs.lemmas.Iterator.Search.{find_from_yields_List}
+use Rattle.std.proofs.lemmas.Iterator.Adapters.{option_map_id}
+use Rattle.cursor.proofs.InTurn.{serves_from_siblings, found-spanned}
+use Rattle.cursor.specs.InTurn.{left}
+use Rattle.marker_checks.proofs.Children.{first_settled, line-settled}
 use Rattle.marker_checks.proofs.blank_line_has_inline_content.Goals as goal
 
-pub loop-i-init : goal.loop-i-init
-loop-i-init c = record { run = c.requires; same = refl }
+pub find-requires-clause-callable : goal.find-requires-clause-callable
+find-requires-clause-callable c = serves_from_siblings c.requires c.new.ensures.items (λ i q r. search rules) (λ i h. search rules)
 
-pub kind_at-kind-requires : goal.kind_at-kind-requires
-kind_at-kind-requires c = run-below _ _ _ _ c.loop-i.invariant.run c.loop-i-test.true
+pub kind_at-requires : goal.kind_at-requires
+kind_at-requires c =
+    let first : c.find.result ≡ first_settled _ _ _ _ c.requires = sym (option_map_id c.find.result) ∙ find_from_yields_List _ c.find.new.self _ c.find.result c.find.ensures.ran (YieldsList-from_first (λ i. i) left _ c.new.ensures.items) (λ i v q r. search (rules, tests)) in
+    (found-spanned _ _ _ _ _ c.requires _ (sym first ∙ c.in-Some.is)).inside
 
-pub returns-then-kind-eq-MARKER_OPEN : goal.returns-then-kind-eq-MARKER_OPEN
-returns-then-kind-eq-MARKER_OPEN c =
-    let a = c.args in
-    let l = c.loop-i in
-    let t = c.loop-i-test.true in
-    line-marker a.source.now a.tape.now l.i a.to l.invariant.run t (sym c.kind_at-kind.ensures ∙ c.if-kind-eq-MARKER_OPEN.true) ∙ l.invariant.same
+pub returns-in-Some : goal.returns-in-Some
+returns-in-Some c =
+    let first : c.find.result ≡ first_settled _ _ _ _ c.requires = sym (option_map_id c.find.result) ∙ find_from_yields_List _ c.find.new.self _ c.find.result c.find.ensures.ran (YieldsList-from_first (λ i. i) left _ c.new.ensures.items) (λ i v q r. search (rules, tests)) in
+    rw (c.is_numbered.ensures, c.kind_at.ensures) (sym (line-settled _ _ _ _ c.requires ∙ rw (sym first ∙ c.in-Some.is)))
 
-pub returns-then-kind-eq-CHAPTER : goal.returns-then-kind-eq-CHAPTER
-returns-then-kind-eq-CHAPTER c =
-    let a = c.args in
-    let l = c.loop-i in
-    let t = c.loop-i-test.true in
-    line-chapter a.source.now a.tape.now l.i a.to l.invariant.run t (sym c.kind_at-kind.ensures ∙ c.if-kind-eq-CHAPTER.true) ∙ l.invariant.same
-
-pub returns-then-kind-eq-VERSE : goal.returns-then-kind-eq-VERSE
-returns-then-kind-eq-VERSE c =
-    let a = c.args in
-    let l = c.loop-i in
-    let t = c.loop-i-test.true in
-    line-verse a.source.now a.tape.now l.i a.to l.invariant.run t (sym c.kind_at-kind.ensures ∙ c.if-kind-eq-VERSE.true) ∙ l.invariant.same
-
-pub is_kind-requires : goal.is_kind-requires
-is_kind-requires c = run-spanned _ _ _ _ c.loop-i.invariant.run c.loop-i-test.true
-
-pub returns-then-is_kind : goal.returns-then-is_kind
-returns-then-is_kind c =
-    let a = c.args in
-    let l = c.loop-i in
-    let t = c.loop-i-test.true in
-    line-text a.source.now a.tape.now l.i a.to l.invariant.run t (sym c.is_kind.ensures ∙ c.if-is_kind.true) ∙ l.invariant.same
-
-pub past_node-i-requires : goal.past_node-i-requires
-past_node-i-requires c = run-below _ _ _ _ c.loop-i.invariant.run c.loop-i-test.true
-
-pub loop-i-smaller : goal.loop-i-smaller
-loop-i-smaller c =
-    let a = c.args in
-    let l = c.loop-i in
-    let n = past-later a.source.now a.tape.now l.i a.to l.invariant.run (omega arith) in
-    let e = c.past_node-i.ensures in
-    omega arith
-
-pub loop-i-preserved : goal.loop-i-preserved
-loop-i-preserved c =
-    let a = c.args in
-    let l = c.loop-i in
-    let t = c.loop-i-test.true in
-    along-next inline_content a.source.now a.tape.now a.from a.to l.i l.invariant t (line-past a.source.now a.tape.now l.i a.to l.invariant.run t (λ e. c.if-kind-eq-MARKER_OPEN.false (c.kind_at-kind.ensures ∙ e)) (λ e. c.if-kind-eq-CHAPTER.false (c.kind_at-kind.ensures ∙ e)) (λ e. c.if-kind-eq-VERSE.false (c.kind_at-kind.ensures ∙ e)) (sym c.is_kind.ensures ∙ c.if-is_kind.false)) c.past_node-i.result c.past_node-i.ensures
-
-pub returns : goal.returns
-returns c =
-    let a = c.args in
-    let l = c.loop-i in
-    line-none ∙ along-end inline_content a.source.now a.tape.now a.from a.to l.i l.invariant c.loop-i-test.false
+pub returns-in-None : goal.returns-in-None
+returns-in-None c =
+    let first : c.find.result ≡ first_settled _ _ _ _ c.requires = sym (option_map_id c.find.result) ∙ find_from_yields_List _ c.find.new.self _ c.find.result c.find.ensures.ran (YieldsList-from_first (λ i. i) left _ c.new.ensures.items) (λ i v q r. search (rules, tests)) in
+    sym (line-settled _ _ _ _ c.requires ∙ rw (sym first ∙ c.in-None.is))

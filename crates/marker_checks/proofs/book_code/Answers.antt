@@ -1,47 +1,27 @@
 -- `marker_checks::book_code` meets its contract.
-use mathlib.Core.Path.{refl, sym, ◌∙◌}
-use native.Mathlib.Omega.{arith}
-use Rattle.cursor.proofs.Runs.{run-below, run-spanned, past-later}
-use Rattle.definition.specs.Checks.{book_code}
-use Rattle.marker_checks.proofs.Children.{along-next, along-end, code_here, code-past, code-none}
+use Rattle.std.proofs.Common.{◌≡◌, sym, ◌∙◌, rules, tests}
+use Rattle.std.proofs.lemmas.Iterator.Consumers.{YieldsList-from_first}
+use Rattle.std.proofs.lemmas.Iterator.Search.{find_from_yields_List}
+use Rattle.std.proofs.lemmas.Iterator.Adapters.{option_map_id}
+use Rattle.cursor.proofs.InTurn.{serves_from_siblings, found-spanned}
+use Rattle.cursor.specs.InTurn.{left}
+use Rattle.marker_checks.proofs.Children.{first_text, code-first}
 use Rattle.marker_checks.proofs.book_code.Goals as goal
 
-pub loop-i-init : goal.loop-i-init
-loop-i-init c = record { run = c.requires; same = refl }
-
-pub is_kind-requires : goal.is_kind-requires
-is_kind-requires c = run-spanned _ _ _ _ c.loop-i.invariant.run c.loop-i-test.true
+pub find-requires-clause-callable : goal.find-requires-clause-callable
+find-requires-clause-callable c = serves_from_siblings c.requires c.new.ensures.items (λ i q r. search rules) (λ i h. search rules)
 
 pub text-requires : goal.text-requires
-text-requires c = run-spanned _ _ _ _ c.loop-i.invariant.run c.loop-i-test.true
+text-requires c =
+    let first : c.find.result ≡ first_text _ _ _ _ c.requires = sym (option_map_id c.find.result) ∙ find_from_yields_List _ c.find.new.self _ c.find.result c.find.ensures.ran (YieldsList-from_first (λ i. i) left _ c.new.ensures.items) (λ i v q r. search (rules, tests)) in
+    found-spanned _ _ _ _ _ c.requires _ (sym first ∙ c.in-Some.is)
 
-pub returns-then-is_kind : goal.returns-then-is_kind
-returns-then-is_kind c =
-    let a = c.args in
-    let l = c.loop-i in
-    let t = c.loop-i-test.true in
-    c.first_word.ensures ∙ code_here a.source.now a.tape.now l.i a.to l.invariant.run t _ (sym c.is_kind.ensures ∙ c.if-is_kind.true) c.text.result.now c.text.ensures ∙ l.invariant.same
+pub returns-in-Some : goal.returns-in-Some
+returns-in-Some c =
+    let first : c.find.result ≡ first_text _ _ _ _ c.requires = sym (option_map_id c.find.result) ∙ find_from_yields_List _ c.find.new.self _ c.find.result c.find.ensures.ran (YieldsList-from_first (λ i. i) left _ c.new.ensures.items) (λ i v q r. search (rules, tests)) in
+    rw (c.first_word.ensures, c.text.ensures) (sym (code-first _ _ _ _ c.requires ∙ rw (sym first ∙ c.in-Some.is)))
 
-pub past_node-i-requires : goal.past_node-i-requires
-past_node-i-requires c = run-below _ _ _ _ c.loop-i.invariant.run c.loop-i-test.true
-
-pub loop-i-smaller : goal.loop-i-smaller
-loop-i-smaller c =
-    let a = c.args in
-    let l = c.loop-i in
-    let n = past-later a.source.now a.tape.now l.i a.to l.invariant.run (omega arith) in
-    let e = c.past_node-i.ensures in
-    omega arith
-
-pub loop-i-preserved : goal.loop-i-preserved
-loop-i-preserved c =
-    let a = c.args in
-    let l = c.loop-i in
-    let t = c.loop-i-test.true in
-    along-next book_code a.source.now a.tape.now a.from a.to l.i l.invariant t (code-past a.source.now a.tape.now l.i a.to l.invariant.run t (sym c.is_kind.ensures ∙ c.if-is_kind.false)) c.past_node-i.result c.past_node-i.ensures
-
-pub returns : goal.returns
-returns c =
-    let a = c.args in
-    let l = c.loop-i in
-    code-none ∙ along-end book_code a.source.now a.tape.now a.from a.to l.i l.invariant c.loop-i-test.false
+pub returns-in-None : goal.returns-in-None
+returns-in-None c =
+    let first : c.find.result ≡ first_text _ _ _ _ c.requires = sym (option_map_id c.find.result) ∙ find_from_yields_List _ c.find.new.self _ c.find.result c.find.ensures.ran (YieldsList-from_first (λ i. i) left _ c.new.ensures.items) (λ i v q r. search (rules, tests)) in
+    sym (code-first _ _ _ _ c.requires ∙ rw (sym first ∙ c.in-None.is))

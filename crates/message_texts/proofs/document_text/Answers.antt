@@ -7,23 +7,23 @@ use Rattle.message_texts.proofs.document_text.Goals as goal
 
 pub returns-in-4 : goal.returns-in-4
 unfolding all_texts document_texts code_of joined pieces ascii
-returns-in-4 c = written_at all_texts c.in-4.is c.one.ensures
+returns-in-4 c = written_at all_texts c.in-4.is c.write_form.ensures
 
 pub returns-in-5 : goal.returns-in-5
 unfolding all_texts document_texts code_of joined pieces ascii
-returns-in-5 c = written_at all_texts c.in-5.is c.two.ensures
+returns-in-5 c = written_at all_texts c.in-5.is c.write_form-in-5.ensures
 
 pub returns-in-6 : goal.returns-in-6
 unfolding all_texts document_texts code_of joined pieces ascii
-returns-in-6 c = written_at all_texts c.in-6.is c.one-in-6.ensures
+returns-in-6 c = written_at all_texts c.in-6.is c.write_form-in-6.ensures
 
 pub returns-in-7 : goal.returns-in-7
 unfolding all_texts document_texts code_of joined pieces ascii
-returns-in-7 c = written_at all_texts c.in-7.is c.one-in-7.ensures
+returns-in-7 c = written_at all_texts c.in-7.is c.write_form-in-7.ensures
 
 pub returns-in-8 : goal.returns-in-8
 unfolding all_texts document_texts code_of joined pieces ascii
-returns-in-8 c = written_at all_texts c.in-8.is c.one-in-8.ensures
+returns-in-8 c = written_at all_texts c.in-8.is c.write_form-in-8.ensures
 
 pub returns-in_default : goal.returns-in_default
 unfolding all_texts document_texts

@@ -1,43 +1,20 @@
 -- `message_texts::fill` meets its contract.
-use borrow.Author.Rules.{rules}
-use native.Mathlib.Omega.{arith}
-use Rattle.message_texts.specs.Inner.{values}
-use Rattle.message_texts.proofs.Filling.{Filling, filling-start, filling-run, filling-on, filling-low, filling-end}
+use Rattle.std.proofs.Common.{◌+◌, arith}
+use Rattle.std.proofs.lemmas.List.{length-take, take_rest}
+use Rattle.message_texts.proofs.Filling.{filling-low, filling-between, filling-on, filling-end}
 use Rattle.message_texts.proofs.fill.Goals as goal
 
-pub loop-i-init : goal.loop-i-init
-loop-i-init c = filling-start _ _ _
-
 pub put-at-requires : goal.put-at-requires
-put-at-requires c =
-    let s = c in
-    (filling-low _ _ _ _ _ _ _ _ c.loop-i.invariant s.requires.0 s.requires.1, search rules)
-
-pub shape_of-out-then-end-text : goal.shape_of-out-then-end-text
-shape_of-out-then-end-text c =
-    let run : let a = c.args in Filling a.text.now (values a.a.now a.b.now a.c.now) a.out.now c.put-at.new.out c.put-at.result c.plain_end-end.result = filling-run _ _ _ _ _ _ _ _ c.loop-i.invariant _ _ c.put-at.auto.out _ c.plain_end-end.ensures c.put-at.ensures in
-    run.same
-
-pub returns-then-end-text : goal.returns-then-end-text
-returns-then-end-text c =
-    let run : let a = c.args in Filling a.text.now (values a.a.now a.b.now a.c.now) a.out.now c.put-at.new.out c.put-at.result c.plain_end-end.result = filling-run _ _ _ _ _ _ _ _ c.loop-i.invariant _ _ c.put-at.auto.out _ c.plain_end-end.ensures c.put-at.ensures in
-    filling-end _ _ _ _ _ _ _ _ run (omega arith)
+put-at-requires c = (filling-low c.loop-n.invariant c.requires.0 c.requires.1, omega (arith, c.loop-n.invariant.left, length-take c.in-Some.n c.loop-n.rest.now))
 
 pub put_value-at-requires : goal.put_value-at-requires
-put_value-at-requires c =
-    let run : let a = c.args in Filling a.text.now (values a.a.now a.b.now a.c.now) a.out.now c.put-at.new.out c.put-at.result c.plain_end-end.result = filling-run _ _ _ _ _ _ _ _ c.loop-i.invariant _ _ c.put-at.auto.out _ c.plain_end-end.ensures c.put-at.ensures in
-    let d = c in
-    let s = d in
-    (filling-low _ _ _ _ _ _ _ _ run s.requires.0 s.requires.1, s.requires.1)
+put_value-at-requires c = (filling-between c.loop-n.invariant c.in-Some.ensures c.put-at.ensures c.requires.0 c.requires.1, c.requires.1)
 
-pub loop-i-preserved : goal.loop-i-preserved
-loop-i-preserved c =
-    let run : let a = c.args in Filling a.text.now (values a.a.now a.b.now a.c.now) a.out.now c.put-at.new.out c.put-at.result c.plain_end-end.result = filling-run _ _ _ _ _ _ _ _ c.loop-i.invariant _ _ c.put-at.auto.out _ c.plain_end-end.ensures c.put-at.ensures in
-    let d = c in
-    filling-on _ _ _ _ _ _ _ _ run _ _ c.put_value-at.auto.out (omega (arith, d.plain_end-end.ensures.inside)) c.put_value-at.ensures
+pub loop-n-preserved : goal.loop-n-preserved
+loop-n-preserved c = filling-on c.loop-n.invariant c.in-Some.ensures c.put-at.ensures (take_rest c.loop-n.rest.now (c.in-Some.n + 1)) c.put-at.auto.out c.put_value-at.auto.out c.put_value-at.ensures
 
-pub shape_of-out : goal.shape_of-out
-shape_of-out c = c.loop-i.invariant.same
+pub put-requires : goal.put-requires
+put-requires c = (filling-low c.loop-n.invariant c.requires.0 c.requires.1, omega (arith, c.loop-n.invariant.left))
 
 pub returns : goal.returns
-returns c = filling-end _ _ _ _ _ _ _ _ c.loop-i.invariant (omega arith)
+returns c = filling-end c.loop-n.invariant c.in_default.ensures c.put.ensures

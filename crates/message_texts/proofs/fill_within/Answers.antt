@@ -6,7 +6,7 @@ use lib.ListN.{length}
 use Rattle.message_texts.specs.Filled.{filled}
 use Rattle.message_texts.specs.Inner.{values}
 use Rattle.message_texts.proofs.Filling.{filled-room}
-use Rattle.message_texts.proofs.Room.{most, one_more, put-length, none_before, has_room, written-short, written-long}
+use Rattle.message_texts.proofs.Room.{most, none_before, has_room, written-short, written-long}
 use Rattle.message_texts.proofs.fill_within.Goals as goal
 use Rattle.message_texts.proofs.fill_within.Goals.{then-out-text+else-out-n, else-out-text}
 
@@ -16,20 +16,8 @@ overflow_mul-text c =
     let a = s.args in
     omega (arith, most a.text.now a.a.now a.b.now a.c.now s.requires.0 s.requires.1)
 
-pub overflow_add-result : goal.overflow_add-result
-overflow_add-result c =
-    let s = c in
-    let a = s.args in
-    omega (arith, one_more a.text.now a.a.now a.b.now a.c.now s.requires.0 s.requires.1 _ (put-length c.fill-n.ensures))
-
 pub returns-then-out-n : goal.returns-then-out-n
 returns-then-out-n c = written-short _ _ _ _ c.fill-n.ensures c.if-out-n.true
-
-pub overflow_add-result-2 : goal.overflow_add-result-2
-overflow_add-result-2 c =
-    let s = c in
-    let a = s.args in
-    omega (arith, one_more a.text.now a.a.now a.b.now a.c.now s.requires.0 s.requires.1 _ (put-length c.fill.ensures))
 
 pub shape_of-out : goal.shape_of-out
 shape_of-out c =

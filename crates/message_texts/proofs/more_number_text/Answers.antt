@@ -9,23 +9,23 @@ use Rattle.message_texts.proofs.more_number_text.Goals as goal
 
 pub returns-in-18 : goal.returns-in-18
 unfolding number_texts code_of joined pieces ascii
-returns-in-18 c = written_at (drop 5 number_texts ++ marker_texts ++ attribute_texts) c.in-18.is c.one.ensures
+returns-in-18 c = written_at (drop 5 number_texts ++ marker_texts ++ attribute_texts) c.in-18.is c.write_form.ensures
 
 pub returns-in-19 : goal.returns-in-19
 unfolding number_texts code_of joined pieces ascii
-returns-in-19 c = written_at (drop 5 number_texts ++ marker_texts ++ attribute_texts) c.in-19.is c.one-in-19.ensures
+returns-in-19 c = written_at (drop 5 number_texts ++ marker_texts ++ attribute_texts) c.in-19.is c.write_form-in-19.ensures
 
 pub returns-in-20 : goal.returns-in-20
 unfolding number_texts code_of joined pieces ascii
-returns-in-20 c = written_at (drop 5 number_texts ++ marker_texts ++ attribute_texts) c.in-20.is c.one-in-20.ensures
+returns-in-20 c = written_at (drop 5 number_texts ++ marker_texts ++ attribute_texts) c.in-20.is c.write_form-in-20.ensures
 
 pub returns-in-34 : goal.returns-in-34
 unfolding number_texts code_of joined pieces ascii
-returns-in-34 c = written_at (drop 5 number_texts ++ marker_texts ++ attribute_texts) c.in-34.is c.one-in-34.ensures
+returns-in-34 c = written_at (drop 5 number_texts ++ marker_texts ++ attribute_texts) c.in-34.is c.write_form-in-34.ensures
 
 pub returns-in-35 : goal.returns-in-35
 unfolding number_texts code_of joined pieces ascii
-returns-in-35 c = written_at (drop 5 number_texts ++ marker_texts ++ attribute_texts) c.in-35.is c.two.ensures
+returns-in-35 c = written_at (drop 5 number_texts ++ marker_texts ++ attribute_texts) c.in-35.is c.write_form-in-35.ensures
 
 pub returns-in_default : goal.returns-in_default
 unfolding number_texts

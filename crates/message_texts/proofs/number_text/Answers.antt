@@ -9,23 +9,23 @@ use Rattle.message_texts.proofs.number_text.Goals as goal
 
 pub returns-in-9 : goal.returns-in-9
 unfolding number_texts code_of joined pieces ascii
-returns-in-9 c = written_at (number_texts ++ marker_texts ++ attribute_texts) c.in-9.is c.one.ensures
+returns-in-9 c = written_at (number_texts ++ marker_texts ++ attribute_texts) c.in-9.is c.write_form.ensures
 
 pub returns-in-10 : goal.returns-in-10
 unfolding number_texts code_of joined pieces ascii
-returns-in-10 c = written_at (number_texts ++ marker_texts ++ attribute_texts) c.in-10.is c.one-in-10.ensures
+returns-in-10 c = written_at (number_texts ++ marker_texts ++ attribute_texts) c.in-10.is c.write_form-in-10.ensures
 
 pub returns-in-11 : goal.returns-in-11
 unfolding number_texts code_of joined pieces ascii
-returns-in-11 c = written_at (number_texts ++ marker_texts ++ attribute_texts) c.in-11.is c.one-in-11.ensures
+returns-in-11 c = written_at (number_texts ++ marker_texts ++ attribute_texts) c.in-11.is c.write_form-in-11.ensures
 
 pub returns-in-12 : goal.returns-in-12
 unfolding number_texts code_of joined pieces ascii
-returns-in-12 c = written_at (number_texts ++ marker_texts ++ attribute_texts) c.in-12.is c.one-in-12.ensures
+returns-in-12 c = written_at (number_texts ++ marker_texts ++ attribute_texts) c.in-12.is c.write_form-in-12.ensures
 
 pub returns-in-15 : goal.returns-in-15
 unfolding number_texts code_of joined pieces ascii
-returns-in-15 c = written_at (number_texts ++ marker_texts ++ attribute_texts) c.in-15.is c.two.ensures
+returns-in-15 c = written_at (number_texts ++ marker_texts ++ attribute_texts) c.in-15.is c.write_form-in-15.ensures
 
 pub returns-in_default : goal.returns-in_default
 unfolding number_texts

@@ -1,7 +1,7 @@
 -- `messages::label_shown` meets its contract.
 use mathlib.Core.Path.{sym, ap, ◌∙◌}
 use borrow.Author.Tests.{not-true, not-false}
-use mathlib.Core.Option.{Option}
+use Rattle.std.specs.Prelude.{Option}
 use Rattle.table.specs.Entries.{Entry}
 use Rattle.numbers.specs.Label.{numbered, label_of}
 use Rattle.messages.proofs.Shown.{numbered-spanned}

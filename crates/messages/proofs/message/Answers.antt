@@ -1,22 +1,24 @@
 -- `messages::message` meets its contract.
+use Rattle.std.proofs.lemmas.Result.{err_from_is_err_and}
 use Rattle.messages.proofs.Nine.{nine-refused, passed, is-accepted, is-short}
 use Rattle.messages.proofs.message.Goals as goal
 
 pub message_in-requires : goal.message_in-requires
 message_in-requires c =
     let a = c.args in
-    let z = passed a.table.now a.source.now a.tape.now c.check_input.result c.check_input.ensures.number c.in-Accepted.entries c.in-Accepted.is in
-    (rw c.in-Accepted.is at c.check_input.ensures.index, is-accepted a.table.now a.source.now a.tape.now z, is-short a.table.now a.source.now a.tape.now z)
+    let e = c.in_ok-entries.ensures in
+    let z = passed a.table.now a.source.now a.tape.now e.number in
+    (e.index, is-accepted a.table.now a.source.now a.tape.now z, is-short a.table.now a.source.now a.tape.now z)
 
-pub returns-in-Refused : goal.returns-in-Refused
-returns-in-Refused c =
+pub returns-in_err-entries : goal.returns-in_err-entries
+returns-in_err-entries c =
     let a = c.args in
-    let z = nine-refused a.table.now a.source.now a.tape.now c.check_input.result c.check_input.ensures.number _ _ c.in-Refused.is in
-    record { answer = rw z; bytes = rw z }
+    let p = err_from_is_err_and c.from_residual.result c.from_residual.ensures.1 in
+    let z = nine-refused a.table.now a.source.now a.tape.now _ c.in_err-entries.ensures.number in
+    record { answer = rw (p.1, p.2, z); bytes = rw z }
 
-pub returns-in-Accepted : goal.returns-in-Accepted
-returns-in-Accepted c =
-    let d = c in
-    let a = d.args in
-    let z = passed a.table.now a.source.now a.tape.now d.check_input.result d.check_input.ensures.number d.in-Accepted.entries d.in-Accepted.is in
+pub returns : goal.returns
+returns c =
+    let a = c.args in
+    let z = passed a.table.now a.source.now a.tape.now c.in_ok-entries.ensures.number in
     record { answer = rw z c.message_in.ensures.0; bytes = rw z c.message_in.ensures.1 }

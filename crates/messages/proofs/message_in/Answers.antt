@@ -8,19 +8,19 @@ pub returns-then-tape-q : goal.returns-then-tape-q
 returns-then-tape-q c =
     let a = c.args in
     let z = off-tape a.table.now a.source.now a.tape.now (request_by a.q) c.if-tape-q.true in
-    (rw z, rw z)
+    (rw (c.at.ensures, z), rw z)
 
-pub returns-then-n-eq0 : goal.returns-then-n-eq0
-returns-then-n-eq0 c =
+pub returns-in_default : goal.returns-in_default
+returns-in_default c =
     let y = c in
-    on-tape _ _ _ _ y.if-tape-q.false _ _ _ _ y.write_message-n.ensures (answer-lack _ _ c.if-n-eq0.true)
+    on-tape _ _ _ _ y.if-tape-q.false _ _ _ _ y.write_message.ensures (rw c.at-in_default.ensures (answer-lack _ _ c.in_default.is))
 
 pub returns-then-out-len : goal.returns-then-out-len
 returns-then-out-len c =
     let y = c in
-    on-tape _ _ _ _ y.if-tape-q.false _ _ _ _ y.write_message-n.ensures (answer-short _ _ c.if-n-eq0.false (omega (arith, c.if-out-len.true, y.write_message-n.auto)))
+    on-tape _ _ _ _ y.if-tape-q.false _ _ _ _ y.write_message.ensures (rw c.at-then-out-len.ensures (answer-short _ _ _ c.in-Some.is (omega (arith, c.if-out-len.true, y.write_message.auto))))
 
 pub returns : goal.returns
 returns c =
     let y = c in
-    on-tape _ _ _ _ y.if-tape-q.false _ _ _ _ y.write_message-n.ensures (answer-written _ _ c.if-n-eq0.false (omega (arith, c.if-out-len.false, y.write_message-n.auto)))
+    on-tape _ _ _ _ y.if-tape-q.false _ _ _ _ y.write_message.ensures (answer-written _ _ _ c.in-Some.is (omega (arith, c.if-out-len.false, y.write_message.auto)))

@@ -8,13 +8,13 @@ use Rattle.messages.proofs.messages_in.Goals.{then-k-ends, else-k-ends}
 pub loop-k-init : goal.loop-k-init
 loop-k-init c = writing_start _ _ _ _
 
-pub returns-in-Refused : goal.returns-in-Refused
-returns-in-Refused c =
+pub returns-in-Err : goal.returns-in-Err
+returns-in-Err c =
     let d = c in
     let v = d.loop-k.invariant in
     let h = d.loop-k-test.true in
     let e = rw d.request_at-q.ensures at d.message_in.ensures in
-    let z = writing-stopped _ _ _ _ _ _ _ _ v h _ _ e _ _ c.in-Refused.is in
+    let z = writing-stopped _ _ _ _ _ _ _ _ v h _ _ e _ c.in-Err.is in
     record { answer = z.0; bytes = z.1.0; ends = z.1.1 }
 
 pub overflow_add-at : goal.overflow_add-at
@@ -23,7 +23,7 @@ overflow_add-at c =
     let v = d.loop-k.invariant in
     let h = d.loop-k-test.true in
     let e = rw d.request_at-q.ensures at d.message_in.ensures in
-    omega (arith, within _ _ _ _ _ _ _ _ v h _ _ e _ c.in-Written.is)
+    omega (arith, within _ _ _ _ _ _ _ _ v h _ _ e _ c.in-Ok.is)
 
 pub loop-k-preserved : goal.loop-k-preserved
 loop-k-preserved c =
@@ -31,7 +31,7 @@ loop-k-preserved c =
     let v = d.loop-k.invariant in
     let h = d.loop-k-test.true in
     let e = rw d.request_at-q.ensures at d.message_in.ensures in
-    let m = writing_more _ _ _ _ _ _ _ _ v h _ _ e _ c.in-Written.is in
+    let m = writing_more _ _ _ _ _ _ _ _ v h _ _ e _ c.in-Ok.is in
     elim c.if-k-ends.branch [ then-k-ends w ↦ rw w.ends-is (m _ (λ es. over-set _ _ _ es w.if-k-ends.true)) | else-k-ends w ↦ rw w.ends-is (m _ (end-past _ _ _ (omega (arith, w.if-k-ends.false)))) ]
 
 pub returns : goal.returns

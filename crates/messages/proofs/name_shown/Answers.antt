@@ -13,16 +13,16 @@ name-requires c =
     let s = c in
     let a = s.args in
     let k = c.marker_info in
-    (entry-sound a.table.now a.index.now a.entries s.requires.0 a.tape.now a.i (entry_of_info c.in-Known.m) (sym k.ensures ∙ ap info_of c.in-Known.is)).inside
+    (entry-sound a.table.now a.index.now a.entries s.requires.0 a.tape.now a.i (entry_of_info c.in-Some.m) (sym k.ensures ∙ ap info_of c.in-Some.is)).inside
 
-pub returns-in-Known : goal.returns-in-Known
-returns-in-Known c =
+pub returns-in-Some : goal.returns-in-Some
+returns-in-Some c =
     let e = c.shows_entry in
     let k = c.marker_info in
-    rw (sym e.ensures ∙ not-false _ c.if-not-shows_entry.false-raw, sym k.ensures ∙ ap info_of c.in-Known.is) c.name.ensures
+    rw (sym e.ensures ∙ not-false _ c.if-not-shows_entry.false-raw, sym k.ensures ∙ ap info_of c.in-Some.is) c.name.ensures
 
-pub returns-in-Missing : goal.returns-in-Missing
-returns-in-Missing c =
+pub returns-in-None : goal.returns-in-None
+returns-in-None c =
     let e = c.shows_entry in
     let k = c.marker_info in
-    rw (sym e.ensures ∙ not-false _ c.if-not-shows_entry.false-raw, sym k.ensures ∙ ap info_of c.in-Missing.is)
+    rw (sym e.ensures ∙ not-false _ c.if-not-shows_entry.false-raw, sym k.ensures ∙ ap info_of c.in-None.is)

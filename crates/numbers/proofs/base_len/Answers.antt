@@ -2,5 +2,5 @@
 use Rattle.numbers.proofs.Labels.{base-own}
 use Rattle.numbers.proofs.base_len.Goals as goal
 
-pub returns-in-Missing : goal.returns-in-Missing
-returns-in-Missing c = base-own c.args.info c.args.name.now c.in-Missing.is
+pub returns-in-None : goal.returns-in-None
+returns-in-None c = base-own c.args.info c.args.name.now c.in-None.is

@@ -14,7 +14,7 @@ pub returns-then-bad_label : goal.returns-then-bad_label
 returns-then-bad_label c =
     let a = c.args in
     let l = c.loop-j in
-    sym (among-hit (bad_label a.table.now a.source.now a.tape.now) a.found.now l.j c.loop-j-test.true (sym c.bad_label.ensures ∙ c.if-bad_label.true)) ∙ l.invariant
+    rw c.at.ensures (sym (among-hit (bad_label a.table.now a.source.now a.tape.now) a.found.now l.j c.loop-j-test.true (sym c.bad_label.ensures ∙ c.if-bad_label.true)) ∙ l.invariant)
 
 pub loop-j-preserved : goal.loop-j-preserved
 loop-j-preserved c =

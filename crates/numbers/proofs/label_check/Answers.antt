@@ -1,9 +1,11 @@
 -- `numbers::label_check` meets its contract. The invariant: a search from here on finds what the whole search does.
-use mathlib.Core.Path.{refl, sym, ap, ◌∙◌}
+use mathlib.Core.Path.{refl, sym, ◌∙◌}
 use native.Mathlib.Omega.{arith}
 use Rattle.refusals.specs.Refusal.{split_label}
 use Rattle.refusals.proofs.First.{first-end}
-use Rattle.numbers.specs.Label.{bad_label, label_check_refusal}
+use Rattle.numbers.specs.Label.{bad_label}
+use Rattle.std.specs.Prelude.{None}
+use Rattle.std.proofs.lemmas.Result.{err_from_is_err_and}
 use Rattle.numbers.proofs.Gathered.{first-there, first-later}
 use Rattle.numbers.proofs.Labels.{all-labels}
 use Rattle.numbers.proofs.label_check.Goals as goal
@@ -20,14 +22,13 @@ split_in-requires c =
     let e = c.least-next.ensures in
     (v.0, v.1, v.3, omega arith, omega arith, omega arith)
 
-pub returns-in-Split : goal.returns-in-Split
-returns-in-Split c =
+pub returns-in_err-split_in : goal.returns-in_err-split_in
+returns-in_err-split_in c =
+    let p = err_from_is_err_and c.from_residual.result c.from_residual.ensures.1 in
     let a = c.args in
     let l = c.loop-i in
-    let m = c.least-next in
-    let e = m.ensures in
-    let x = c.split_in in
-    sym (first-there (bad_label a.table.now a.source.now a.tape.now) l.i m.result _ (omega arith) (omega arith) (label_check_refusal x.result) c.in-Split.at (ap label_check_refusal c.in-Split.is) x.ensures) ∙ l.invariant.4
+    let e = c.least-next.ensures in
+    rw (p.1, p.2) (sym (first-there (bad_label a.table.now a.source.now a.tape.now) l.i c.least-next.result _ (omega arith) (omega arith) _ c.in_err-split_in.ensures) ∙ l.invariant.4)
 
 pub loop-i-smaller : goal.loop-i-smaller
 loop-i-smaller c =
@@ -41,8 +42,7 @@ loop-i-preserved c =
     let v = l.invariant in
     let m = c.least-next in
     let e = m.ensures in
-    let x = c.split_in in
-    (v.0, v.1, v.2, omega (arith, v.3), sym (first-later (bad_label a.table.now a.source.now a.tape.now) l.i m.result _ (omega arith) (omega arith) (label_check_refusal x.result) (ap label_check_refusal c.in_default.is) x.ensures) ∙ v.4)
+    (v.0, v.1, v.2, omega (arith, v.3), sym (first-later (bad_label a.table.now a.source.now a.tape.now) l.i m.result _ (omega arith) (omega arith) None refl c.in_ok-split_in.ensures) ∙ v.4)
 
 pub returns : goal.returns
 returns c =

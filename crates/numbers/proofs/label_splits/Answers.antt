@@ -3,11 +3,11 @@ use mathlib.Core.Path.{◌∙◌}
 use Rattle.numbers.proofs.Labels.{split-known, split-missing}
 use Rattle.numbers.proofs.label_splits.Goals as goal
 
-pub returns-in-Known : goal.returns-in-Known
-returns-in-Known c =
+pub returns-in-Some : goal.returns-in-Some
+returns-in-Some c =
     let m = c in
     let a = m.args in
-    c.is_split.ensures ∙ split-known m.in-Known.m a.info a.text.now m.in-Known.is
+    c.is_split.ensures ∙ split-known m.in-Some.m a.info a.text.now m.in-Some.is
 
-pub returns-in-Missing : goal.returns-in-Missing
-returns-in-Missing c = let a = c.args in split-missing a.info a.text.now c.in-Missing.is
+pub returns-in-None : goal.returns-in-None
+returns-in-None c = let a = c.args in split-missing a.info a.text.now c.in-None.is

@@ -4,6 +4,7 @@ use lib.Seq.{length-take-le}
 use mathlib.Core.Path.{sym}
 use Rattle.numbers.proofs.Parts.{part_none, part-read, part-large}
 use Rattle.text.proofs.Chars.{found-le}
+use Rattle.numbers.specs.Verse.{suffix_of}
 use Rattle.numbers.proofs.parse_verse_part.Goals as goal
 
 pub slice_bounds-parse-end : goal.slice_bounds-parse-end
@@ -22,16 +23,16 @@ returns-then-end-eq0 c =
     let f = c in
     part_none _ _ _ f.trim_start-rest.ensures f.find_non_digit-end.ensures c.if-end-eq0.true
 
-pub returns-in-Value : goal.returns-in-Value
-returns-in-Value c =
+pub returns-in-Some : goal.returns-in-Some
+returns-in-Some c =
     let p = c in
     let e = p in
     let f = e in
-    part-read _ _ _ f.trim_start-rest.ensures f.find_non_digit-end.ensures e.if-end-eq0.false _ p.parse.ensures _ c.letter.result c.in-Value.is c.letter.ensures
+    part-read _ _ _ f.trim_start-rest.ensures f.find_non_digit-end.ensures e.if-end-eq0.false _ p.parse.ensures _ (suffix_of c.letter.result) c.in-Some.is c.letter.ensures
 
-pub returns-in-NotANumber : goal.returns-in-NotANumber
-returns-in-NotANumber c =
+pub returns-in-None : goal.returns-in-None
+returns-in-None c =
     let p = c in
     let e = p in
     let f = e in
-    part-large _ _ _ f.trim_start-rest.ensures f.find_non_digit-end.ensures e.if-end-eq0.false _ p.parse.ensures c.in-NotANumber.is
+    part-large _ _ _ f.trim_start-rest.ensures f.find_non_digit-end.ensures e.if-end-eq0.false _ p.parse.ensures c.in-None.is

@@ -1,16 +1,10 @@
 -- `oracle_exports::after_child` meets its contract.
 use native.Mathlib.Omega.{arith}
-use Rattle.cursor.proofs.Runs.{run-below, run-next, past-later}
+use Rattle.cursor.proofs.Runs.{run-next, past-later}
 use Rattle.oracle_exports.proofs.after_child.Goals as goal
 
-pub loop-k-init : goal.loop-k-init
-loop-k-init c = c.requires
-
-pub past_node-next-requires : goal.past_node-next-requires
-past_node-next-requires c = run-below _ _ _ _ c.loop-k.invariant c.loop-k-test.true
-
 pub returns-then-k-i : goal.returns-then-k-i
-returns-then-k-i c = λ h. rw c.past_node-next.ensures (run-next _ _ _ _ c.loop-k.invariant c.loop-k-test.true)
+returns-then-k-i c = rw c.past_node-next.ensures (run-next _ _ _ _ c.loop-k.invariant c.loop-k-test.true)
 
 pub loop-k-smaller : goal.loop-k-smaller
 loop-k-smaller c =
@@ -18,6 +12,3 @@ loop-k-smaller c =
 
 pub loop-k-preserved : goal.loop-k-preserved
 loop-k-preserved c = rw c.past_node-next.ensures (run-next _ _ _ _ c.loop-k.invariant c.loop-k-test.true)
-
-pub returns : goal.returns
-returns c = λ h. absurd (omega arith)

@@ -1,15 +1,15 @@
 -- `rows::validate_table_row` meets its contract.
-use Prim.Native.Nat.{◌-◌}
 use mathlib.Core.Path.{◌≡◌}
 use lib.ListN.{length}
 use Rattle.tape.specs.Forest.{forest}
 use Rattle.rows.specs.Row.{row_findings}
+use Rattle.cursor.proofs.InTurn.{At}
 use Rattle.rows.proofs.Cells.{Going}
 use Rattle.rows.proofs.validate_table_row.Given as goal
 
 abbrev pub invariant-loop-i : goal.invariant-loop-i
 invariant-loop-i l =
-    Going l.source l.tape l.to (row_findings (forest l.source l.tape l.from l.to)) l.initial.list l.initial.c l.list l.c l.expected l.i × (length l.list ≡ length l.initial.list)
-
-abbrev pub decreases-loop-i : goal.decreases-loop-i
-decreases-loop-i l = l.to - l.i
+    (goal.iterator-loop-i).can_next l.i-iterator
+    × (goal.iterator-loop-i).is_finite l.i-iterator
+    × At l.tape l.to (Going l.source l.tape l.to (row_findings (forest l.source l.tape l.from l.to)) l.initial.list l.initial.c l.list l.c l.expected) l.i-iterator
+    × (length l.list ≡ length l.initial.list)

@@ -9,4 +9,4 @@ use Rattle.table.proofs.is_front_matter_code.Goals as goal
 
 pub returns : goal.returns
 unfolding ascii triples front_matter
-returns c = c.is_known.ensures ∙ ap known c.code_in.ensures ∙ sym (one-of front_matter _ 0)
+returns c = c.is_some.ensures ∙ ap known c.code_in.ensures ∙ sym (one-of front_matter _ 0)

@@ -22,4 +22,4 @@ returns-then-b-ne120 c = not_noted _ c.if-b-ne102.true c.if-b-ne120.true
 
 pub returns : goal.returns
 unfolding ascii lines_of note_only
-returns c = c.is_known.ensures ∙ ap known c.word_in.ensures ∙ sym (one-of note_only _ 0)
+returns c = c.is_some.ensures ∙ ap known c.word_in.ensures ∙ sym (one-of note_only _ 0)

@@ -1,27 +1,12 @@
 -- `tape::is_settled` meets its contract.
-use borrow.Author.Tests.{not-false}
+use Rattle.std.proofs.Common.{sym, ◌∙◌}
 use mathlib.Core.Bool.{false≢true}
-use mathlib.Core.Path.{sym, ◌∙◌}
-use Rattle.tape.proofs.Settled.{root-inside, settled}
+use Rattle.tape.proofs.Settled.{settled}
 use Rattle.tape.proofs.is_settled.Goals as goal
+use Rattle.tape.proofs.is_settled.Goals.{then-good_root, else-good_root}
 
-pub returns-then-not-good_root : goal.returns-then-not-good_root
-returns-then-not-good_root c = λ e. absurd (false≢true e)
-
-pub returns-then-not-are_clear : goal.returns-then-not-are_clear
-returns-then-not-are_clear c = λ e. absurd (false≢true e)
-
-pub are_paired-requires : goal.are_paired-requires
-are_paired-requires c =
-    let s = c in
-    let a = s.args in
-    let g = c.good_root in
-    root-inside a.source.now a.tape.now a.n c.link_at-root.result s.requires c.link_at-root.ensures (sym g.ensures ∙ not-false _ c.if-not-good_root.false-raw)
-
-pub returns : goal.returns
-returns c =
-    let s = c in
-    let a = s.args in
-    let g = c.good_root in
-    let x = c.are_clear in
-    λ e. settled a.source.now a.tape.now a.n c.link_at-root.result s.requires c.link_at-root.ensures (sym g.ensures ∙ not-false _ c.if-not-good_root.false-raw) (x.ensures (not-false _ c.if-not-are_clear.false-raw)) (c.are_paired.ensures e)
+pub returns-then-are_clear : goal.returns-then-are_clear
+returns-then-are_clear c =
+    let a = c.args in
+    let both = c.if-are_clear.true in
+    λ e. elim c.if-good_root.branch [ then-good_root w ↦ settled a.source.now a.tape.now a.n c.link_at-root.result c.requires c.link_at-root.ensures (sym c.good_root.ensures ∙ w.if-good_root.true) (w.are_clear.ensures (sym w.value-is ∙ both)) (c.are_paired.ensures e) | else-good_root w ↦ absurd (false≢true (sym w.if-good_root.false ∙ (sym w.value-is ∙ both))) ]

@@ -1,8 +1,8 @@
--- `text::ascii_end` meets its contract. Both loops have the same invariant: what is passed is ASCII.
+-- `text::ascii_end` meets its contract. The invariant: what is passed is ASCII.
 use mathlib.Core.Path.{refl}
 use Prim.Native.Nat.{◌+◌}
 use native.Mathlib.Omega.{arith}
-use Rattle.text.proofs.Ascii.{none, one, joined}
+use Rattle.text.proofs.Ascii.{none, joined}
 use Rattle.text.proofs.ascii_end.Goals as goal
 
 pub loop-i-init : goal.loop-i-init
@@ -39,26 +39,9 @@ loop-i-preserved c =
     let l = c.loop-i in
     (refl, omega arith, omega arith, joined a.s.now a.from l.i _ l.invariant.3 (c.high16.ensures c.if-high16-ne0.false))
 
-pub loop-i-2-init : goal.loop-i-2-init
-loop-i-2-init c = c.loop-i.invariant
-
-pub bounds-s-i : goal.bounds-s-i
-bounds-s-i c = omega arith
-
-pub overflow_add-i-in-loop-i-2 : goal.overflow_add-i-in-loop-i-2
-overflow_add-i-in-loop-i-2 c = omega arith
-
-pub loop-i-2-smaller : goal.loop-i-2-smaller
-loop-i-2-smaller c = omega arith
-
-pub loop-i-2-preserved : goal.loop-i-2-preserved
-loop-i-2-preserved c =
+pub returns : goal.returns
+returns c =
     let a = c.args in
-    let l = c.loop-i-2 in
-    (refl, omega arith, omega arith, joined a.s.now a.from l.i (l.i + 1) l.invariant.3 (one a.s.now l.i (l.i + 1) (omega arith) c.if-s-i-ge128.false))
-
-pub returns-after-loop-i-2 : goal.returns-after-loop-i-2
-returns-after-loop-i-2 c = (omega arith, omega arith, c.loop-i-2.invariant.3)
-
-pub returns-then-s-i-ge128 : goal.returns-then-s-i-ge128
-returns-then-s-i-ge128 c = (omega arith, omega arith, c.loop-i-2.invariant.3)
+    let l = c.loop-i in
+    let e = c.ascii_rest.ensures in
+    (omega (arith, l.invariant.1, e.0), e.1, joined a.s.now a.from l.i _ l.invariant.3 e.2)

@@ -1,4 +1,4 @@
--- `text::ascii_end` meets its contract. Both loops have the same invariant: what is passed is ASCII.
+-- `text::ascii_end` meets its contract. The invariant: what is passed is ASCII.
 use mathlib.Core.Path.{◌≡◌}
 use Prim.Native.Nat.{◌≤◌, ◌-◌}
 use lib.ListN.{length}
@@ -10,9 +10,3 @@ invariant-loop-i l = (l.n ≡ length l.s) × (l.from ≤ l.i) × (l.i ≤ l.n) �
 
 abbrev pub decreases-loop-i : goal.decreases-loop-i
 decreases-loop-i l = l.n - l.i
-
-abbrev pub invariant-loop-i-2 : goal.invariant-loop-i-2
-invariant-loop-i-2 l = (l.n ≡ length l.s) × (l.from ≤ l.i) × (l.i ≤ l.n) × Ascii l.s l.from l.i
-
-abbrev pub decreases-loop-i-2 : goal.decreases-loop-i-2
-decreases-loop-i-2 l = l.n - l.i

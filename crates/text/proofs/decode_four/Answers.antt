@@ -12,7 +12,7 @@ pub returns-then-not-four_at : goal.returns-then-not-four_at
 returns-then-not-four_at c =
     let a = c.args in
     let f = c.four_at in
-    c.replaced.ensures ∙ decode-0 a.s.now a.at (omega arith) (unpicked (width_of (drop a.at a.s.now)) 4 f.result f.ensures c.if-not-four_at.true-raw)
+    decode-0 a.s.now a.at (omega arith) (unpicked (width_of (drop a.at a.s.now)) 4 f.result f.ensures c.if-not-four_at.true-raw)
 
 pub bounds-s-at-2 : goal.bounds-s-at-2
 bounds-s-at-2 c =

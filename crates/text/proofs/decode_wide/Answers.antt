@@ -13,7 +13,7 @@ pub returns-then-not-two_at : goal.returns-then-not-two_at
 returns-then-not-two_at c =
     let a = c.args in
     let f = c.two_at in
-    c.replaced.ensures ∙ decode-0 a.s.now a.at (omega arith) (unpicked (width_of (drop a.at a.s.now)) 2 f.result f.ensures c.if-not-two_at.true-raw)
+    decode-0 a.s.now a.at (omega arith) (unpicked (width_of (drop a.at a.s.now)) 2 f.result f.ensures c.if-not-two_at.true-raw)
 
 pub bounds-s-at-then-b-lt224 : goal.bounds-s-at-then-b-lt224
 bounds-s-at-then-b-lt224 c =
@@ -33,7 +33,7 @@ pub returns-then-not-three_at : goal.returns-then-not-three_at
 returns-then-not-three_at c =
     let a = c.args in
     let f = c.three_at in
-    c.replaced-then-not-three_at.ensures ∙ decode-0 a.s.now a.at (omega arith) (unpicked (width_of (drop a.at a.s.now)) 3 f.result f.ensures c.if-not-three_at.true-raw)
+    decode-0 a.s.now a.at (omega arith) (unpicked (width_of (drop a.at a.s.now)) 3 f.result f.ensures c.if-not-three_at.true-raw)
 
 pub of_three-requires : goal.of_three-requires
 of_three-requires c =

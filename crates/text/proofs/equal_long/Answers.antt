@@ -1,4 +1,4 @@
--- `text::equal_long` meets its contract. The invariant: the last eight bytes are the same, and what is left of the two lists is equal exactly if
+-- `text::equal_long` meets its contract. The invariant: the last eight bytes are the same, and what is left of the two lists is equal exactly if they are.
 use Prim.Native.Nat.{◌+◌, ◌-◌}
 use borrow.Author.Tests.{not-true, not-false}
 use lib.ListN.{length, drop}

@@ -1,25 +1,20 @@
 -- `text::equal_short` meets its contract.
-use borrow.Author.Tests.{not-true, not-false}
 use mathlib.Core.Path.{sym, ◌∙◌}
-use Rattle.text.proofs.Blocks.{fronts-apart, fronts-same}
+use native.Mathlib.Omega.{arith}
+use Rattle.text.proofs.Blocks.{equal-past, equal-stops, equal-ends}
 use Rattle.text.proofs.equal_short.Goals as goal
 
-pub returns-then-not-equal_8 : goal.returns-then-not-equal_8
-returns-then-not-equal_8 c =
-    let s = c in
-    sym (fronts-apart s.args.a.now s.args.b.now 8 s.requires c.if-a-ge8.true (sym c.equal_8.ensures ∙ not-true _ c.if-not-equal_8.true-raw))
+pub returns-then-a-i : goal.returns-then-a-i
+returns-then-a-i c =
+    let l = c.loop-i in
+    sym (l.invariant.1 ∙ equal-stops _ _ l.i (omega arith) (omega arith) c.if-a-i.true)
 
-pub returns-then-a-ge8 : goal.returns-then-a-ge8
-returns-then-a-ge8 c =
-    let s = c in
-    c.equal_from.ensures ∙ sym (fronts-same s.args.a.now s.args.b.now 8 s.requires c.if-a-ge8.true (sym c.equal_8.ensures ∙ not-false _ c.if-not-equal_8.false-raw))
+pub loop-i-preserved : goal.loop-i-preserved
+loop-i-preserved c =
+    let l = c.loop-i in
+    (l.invariant.0, l.invariant.1 ∙ equal-past _ _ l.i (omega arith) (omega arith) c.if-a-i.false)
 
-pub returns-then-not-equal_4 : goal.returns-then-not-equal_4
-returns-then-not-equal_4 c =
-    let s = c in
-    sym (fronts-apart s.args.a.now s.args.b.now 4 s.requires c.if-a-ge4.true (sym c.equal_4.ensures ∙ not-true _ c.if-not-equal_4.true-raw))
-
-pub returns-then-a-ge4 : goal.returns-then-a-ge4
-returns-then-a-ge4 c =
-    let s = c in
-    c.equal_from-then-a-ge4.ensures ∙ sym (fronts-same s.args.a.now s.args.b.now 4 s.requires c.if-a-ge4.true (sym c.equal_4.ensures ∙ not-false _ c.if-not-equal_4.false-raw))
+pub returns : goal.returns
+returns c =
+    let l = c.loop-i in
+    sym (l.invariant.1 ∙ equal-ends _ _ l.i (omega arith) (omega arith))

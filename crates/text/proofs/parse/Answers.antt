@@ -1,13 +1,13 @@
 -- `text::parse` meets its contract.
-use mathlib.Core.Path.{sym, ◌∙◌}
-use Rattle.text.proofs.Number.{parsed-nil, parsed-plus, parsed-plain}
+use mathlib.Core.Path.{sym, ap, ◌∙◌}
+use Rattle.text.proofs.Number.{parsed-plus, parsed-plain}
+use Rattle.text.specs.Number.{digits}
 use Rattle.text.proofs.parse.Goals as goal
 
-pub returns-then-s-eq0 : goal.returns-then-s-eq0
-returns-then-s-eq0 c = sym (parsed-nil c.args.s.now c.if-s-eq0.true)
+pub returns-in-Some : goal.returns-in-Some
+returns-in-Some c =
+    let s = c.args.s.now in
+    c.digits.ensures ∙ ap digits c.in-Some.ensures.cases.1 ∙ sym (parsed-plus s c.in-Some.ensures.cases.0)
 
-pub returns-then-s-eq43 : goal.returns-then-s-eq43
-returns-then-s-eq43 c = c.digits_at.ensures ∙ sym (parsed-plus c.args.s.now c.if-s-eq0.false c.if-s-eq43.true)
-
-pub returns-else-s-eq43 : goal.returns-else-s-eq43
-returns-else-s-eq43 c = c.digits_at-else-s-eq43.ensures ∙ sym (parsed-plain c.args.s.now c.if-s-eq0.false c.if-s-eq43.false)
+pub returns-in-None : goal.returns-in-None
+returns-in-None c = c.digits-in-None.ensures ∙ sym (parsed-plain c.args.s.now c.in-None.ensures.cases)

@@ -8,18 +8,13 @@ use Rattle.text.proofs.Scan.{ascii-one}
 use Rattle.text.specs.Pick.{pick}
 use Rattle.text.proofs.width_at.Goals as goal
 
-pub returns-then-holds : goal.returns-then-holds
-returns-then-holds c =
+pub returns-then-b-lt128 : goal.returns-then-b-lt128
+returns-then-b-lt128 c =
     let a = c.args in
-    let s = a.s.now in
-    let high = within-hi 0x00 0x7F (get_or s a.at 0) (sym c.holds.ensures ∙ c.if-holds.true) in
-    sym (ascii-one s a.at (omega arith) (omega arith))
+    sym (ascii-one a.s.now a.at (omega arith) (omega arith))
 
 pub two_at-requires : goal.two_at-requires
-two_at-requires c =
-    let a = c.args in
-    let low = within-above 0x7F (get_or a.s.now a.at 0) (sym c.holds.ensures ∙ c.if-holds.false) in
-    record { inside = omega arith; low = omega arith; high = omega arith }
+two_at-requires c = record { inside = omega arith; low = omega arith; high = omega arith }
 
 pub returns-then-two_at : goal.returns-then-two_at
 returns-then-two_at c = sym (c.two_at.ensures ∙ ap (λ (t : Bool). pick t 2 0) c.if-two_at.true)

@@ -1,6 +1,7 @@
 -- `trial_replay::room` meets its contract.
-use Rattle.trial_replay.proofs.Lengths.{long}
+use Rattle.std.proofs.Common.{ℕ}
+use Rattle.std.proofs.Math.ListN.{length-replicate}
 use Rattle.trial_replay.proofs.room.Goals as goal
 
 pub returns : goal.returns
-returns c = long 1048576 0
+returns c = length-replicate {A = ℕ} 1048576 0

@@ -78,14 +78,14 @@ walk-loop-i-preserved-in_default t c =
 
 pub walk-visit-requires : goal.walk-visit-requires
 walk-visit-requires t c =
-    (omega (arith, c.decreases), visit-asks c.loop-i.invariant c.loop-i-test.true _ c.past_node-i.ensures _ c.kind_at.ensures c.if-kind_at-eq-MARKER_OPEN.true _ c.marker_info.ensures _ c.in-Known.is)
+    (omega (arith, c.decreases), visit-asks c.loop-i.invariant c.loop-i-test.true _ c.past_node-i.ensures _ c.kind_at.ensures c.if-kind_at-eq-MARKER_OPEN.true _ c.marker_info.ensures _ c.in-Some.is)
 
 pub walk-loop-i-smaller-then-kind_at-eq-MARKER_OPEN : goal.walk-loop-i-smaller-then-kind_at-eq-MARKER_OPEN
 walk-loop-i-smaller-then-kind_at-eq-MARKER_OPEN t c = going-nearer c.loop-i.invariant c.loop-i-test.true _ c.past_node-i.ensures
 
 pub walk-loop-i-preserved-then-kind_at-eq-MARKER_OPEN : goal.walk-loop-i-preserved-then-kind_at-eq-MARKER_OPEN
 walk-loop-i-preserved-then-kind_at-eq-MARKER_OPEN t c =
-    going-visited c.loop-i.invariant c.loop-i-test.true _ c.past_node-i.ensures _ c.kind_at.ensures c.if-kind_at-eq-MARKER_OPEN.true _ c.marker_info.ensures _ c.in-Known.is _ _ _ _ c.visit.auto.seen c.visit.auto.opens c.visit.ensures
+    going-visited c.loop-i.invariant c.loop-i-test.true _ c.past_node-i.ensures _ c.kind_at.ensures c.if-kind_at-eq-MARKER_OPEN.true _ c.marker_info.ensures _ c.in-Some.is _ _ _ _ c.visit.auto.seen c.visit.auto.opens c.visit.ensures
 
 pub walk-visit_leaf-numbers-requires : goal.walk-visit_leaf-numbers-requires
 walk-visit_leaf-numbers-requires t c = passable c.loop-i.invariant c.loop-i-test.true _ c.past_node-i.ensures

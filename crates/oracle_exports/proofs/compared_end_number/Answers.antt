@@ -1,7 +1,0 @@
--- `oracle_exports::compared_end_number` meets its contract.
-use mathlib.Core.Path.{ap, ◌∙◌}
-use Rattle.oracle_exports.specs.Words.{number_word}
-use Rattle.oracle_exports.proofs.compared_end_number.Goals as goal
-
-pub returns : goal.returns
-returns c = c.part_number.ensures ∙ ap number_word c.parse_verse_range_end.ensures
