@@ -8,7 +8,7 @@ ghost use Rattle.cursor.specs.Inner.{Spanned, Run};
 ghost use Rattle.attachment.specs.Attached.{number_letter, is_alternate, is_published, is_blank, plain, attached_numbers, start_offsets, starts_of, among};
 ghost use Rattle.attachment.specs.Inner.{claims_at};
 
-use cursor::Siblings;
+use cursor::{Document, Siblings};
 
 // The start offsets of the numbers that are attached to one chapter or verse, at most one of each sort.
 // How many they are, and the first and the second; fields pass in registers, where an enum would be copied.
@@ -40,19 +40,19 @@ fn is_published(kind: u8, name: &[u8]) -> bool
 }
 
 // Whether a node is blank or empty text.
-pub fn is_blank(source: &[u8], tape: &[u8], i: usize) -> bool
-    requires { Spanned source.now tape.now i }
-    ensures { result ≡ is_blank (node_at source.now tape.now i) }
+pub fn is_blank(doc: Document<'_>, i: usize) -> bool
+    requires { Spanned doc.source.now doc.tape.now i }
+    ensures { result ≡ is_blank (node_at doc.entry.source.now doc.entry.tape.now i) }
 {
-    tape::kind_at(tape, i) == tape::TEXT && text::is_blank_text(cursor::text(source, tape, i))
+    tape::kind_at(doc.tape, i) == tape::TEXT && text::is_blank_text(doc.text(i))
 }
 
 // Whether a run of siblings has no marker in it.
-pub fn is_plain_text(source: &[u8], tape: &[u8], from: usize, to: usize) -> bool
-    requires { Run source.now tape.now from to }
-    ensures { result ≡ plain (forest source.now tape.now from to) }
+pub fn is_plain_text(doc: Document<'_>, from: usize, to: usize) -> bool
+    requires { Run doc.source.now doc.tape.now from to }
+    ensures { result ≡ plain (forest doc.entry.source.now doc.entry.tape.now from to) }
 {
-    Siblings::new(tape, from, to).all(|i| tape::kind_at(tape, i) != tape::MARKER_OPEN)
+    Siblings::new(doc.tape, from, to).all(|i| tape::kind_at(doc.tape, i) != tape::MARKER_OPEN)
 }
 
 // Whether a number of the name has its place still free.
@@ -63,12 +63,11 @@ fn claims(kind: u8, alt: bool, pubn: bool, name: &[u8]) -> bool
 }
 
 // Whether a node is an open marker whose name claims a free place.
-fn claims_at(source: &[u8], tape: &[u8], i: usize, kind: u8, alt: bool, pubn: bool) -> bool
-    requires { Spanned source.now tape.now i }
-    ensures { result ≡ claims_at kind alt pubn (node_at source.now tape.now i) }
+fn claims_at(doc: Document<'_>, i: usize, kind: u8, alt: bool, pubn: bool) -> bool
+    requires { Spanned doc.source.now doc.tape.now i }
+    ensures { result ≡ claims_at kind alt pubn (node_at doc.entry.source.now doc.entry.tape.now i) }
 {
-    tape::kind_at(tape, i) == tape::MARKER_OPEN
-        && claims(kind, alt, pubn, cursor::marker_name(source, tape, i))
+    tape::kind_at(doc.tape, i) == tape::MARKER_OPEN && claims(kind, alt, pubn, doc.marker_name(i))
 }
 
 // One more start offset; never a third, since each sort is attached once.
@@ -91,9 +90,9 @@ fn added(a: Attached, start: u32) -> Attached
 }
 
 // The numbers attached to an anchor of the kind (3 a chapter, 4 a verse), among the siblings that follow it.
-pub fn attached_numbers(source: &[u8], tape: &[u8], kind: u8, from: usize, to: usize) -> Attached
-    requires { Run source.now tape.now from to }
-    ensures { starts_of result ≡ start_offsets (attached_numbers kind (forest source.now tape.now from to)) }
+pub fn attached_numbers(doc: Document<'_>, kind: u8, from: usize, to: usize) -> Attached
+    requires { Run doc.source.now doc.tape.now from to }
+    ensures { starts_of result ≡ start_offsets (attached_numbers kind (forest doc.entry.source.now doc.entry.tape.now from to)) }
 {
     let mut found = Attached {
         count: 0,
@@ -102,18 +101,18 @@ pub fn attached_numbers(source: &[u8], tape: &[u8], kind: u8, from: usize, to: u
     };
     let mut alt = false;
     let mut pubn = false;
-    for i in Siblings::new(tape, from, to) {
-        if is_blank(source, tape, i) {
+    for i in Siblings::new(doc.tape, from, to) {
+        if is_blank(doc, i) {
             continue;
         }
-        if !claims_at(source, tape, i, kind, alt, pubn) {
+        if !claims_at(doc, i, kind, alt, pubn) {
             return found;
         }
-        found = added(found, tape::start_at(tape, i));
-        if !is_plain_text(source, tape, i + 1, tape::link_at(tape, i) as usize) {
+        found = added(found, tape::start_at(doc.tape, i));
+        if !is_plain_text(doc, i + 1, tape::link_at(doc.tape, i) as usize) {
             return found;
         }
-        let name = cursor::marker_name(source, tape, i);
+        let name = doc.marker_name(i);
         alt |= is_alternate(kind, name);
         pubn |= is_published(kind, name);
     }

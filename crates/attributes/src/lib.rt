@@ -15,7 +15,7 @@ ghost use Rattle.attributes.specs.Attributes.{kind, empty_value, attribute_scan,
 ghost use Rattle.attributes.specs.Inner.{leads, ends_key, escapes, finding_of_kind, of_node};
 ghost use Rattle.findings.specs.Inner.{Wrote, Room};
 
-use cursor::Siblings;
+use cursor::{Document, Siblings};
 use findings::{
     Counts, DEFAULT_ATTRIBUTE_NOT_DEFINED, Finding, INVALID_ATTRIBUTES, Severity,
     UNQUOTED_ATTRIBUTE_VALUE,
@@ -33,10 +33,7 @@ pub struct Where {
 fn byte_is(s: &[u8], i: usize, b: u8) -> bool
     ensures { result ≡ leads b (drop i s.now) }
 {
-    if s.len() <= i {
-        return false;
-    }
-    s[i] == b
+    i < s.len() && s[i] == b
 }
 
 fn after_bar(s: &[u8]) -> &[u8]
@@ -51,7 +48,7 @@ fn after_bar(s: &[u8]) -> &[u8]
 fn ends_key(cp: u32) -> bool
     ensures { result ≡ ends_key cp }
 {
-    if cp == 0x3D { true } else { text::is_blank(cp) }
+    cp == 0x3D || text::is_blank(cp)
 }
 
 // The place of the first `=` or blank from a place on, or the length. Most bytes of a key are small letters, which need no
@@ -61,6 +58,7 @@ fn key_end(s: &[u8], from: usize) -> usize
     ensures { Ended s.now from (find ends_key (drop from s.now)) result }
 {
     let mut i = from;
+    // A while: it goes on by the character's width.
     while i < s.len() {
         if text::holds(s[i], b'a', b'z') {
             i += 1;
@@ -86,13 +84,7 @@ fn key_end(s: &[u8], from: usize) -> usize
 fn closes(s: &[u8], from: usize, j: usize) -> bool
     ensures { result ≡ (leads 0x22 (drop j s.now) && not (ltb from j && escapes (drop (j - 1) s.now))) }
 {
-    if !byte_is(s, j, b'"') {
-        return false;
-    }
-    if j <= from {
-        return true;
-    }
-    !byte_is(s, j - 1, 0x5C)
+    byte_is(s, j, b'"') && (j <= from || !byte_is(s, j - 1, 0x5C))
 }
 
 fn finding(w: Where, severity: Severity, code: u64, form: u64, first: u64) -> Finding
@@ -141,6 +133,7 @@ fn scan_list(body: &[u8], w: Where, list: &mut [u64], counts: Counts) -> Counts
 {
     let mut c = counts;
     let mut i = text::find_from(body, 0, false);
+    // A labelled loop, and the quote's place by `break`: document 01 names these forms.
     'scan: while i < body.len() {
         let key = key_end(body, i);
         if !byte_is(body, key, b'=') {
@@ -199,47 +192,39 @@ pub fn validate_attribute(
 }
 
 // The findings of a node that is an Attribute; none of another.
-fn attribute_at(
-    source: &[u8],
-    tape: &[u8],
-    i: usize,
-    owner: usize,
-    list: &mut [u64],
-    c: Counts,
-) -> Counts
-    requires { (Spanned source.now tape.now i) × (Spanned source.now tape.now owner) × Room c (of_node owner (name_of (node_at source.now tape.now owner).text) (node_at source.now tape.now i)) }
-    ensures { Wrote (of_node owner (name_of (node_at source.now tape.now owner).text) (node_at source.now tape.now i)) list.old c list.new result }
+fn attribute_at(doc: Document<'_>, i: usize, owner: usize, list: &mut [u64], c: Counts) -> Counts
+    requires { (Spanned doc.source.now doc.tape.now i) × (Spanned doc.source.now doc.tape.now owner) × Room c (of_node owner (name_of (node_at doc.source.now doc.tape.now owner).text) (node_at doc.source.now doc.tape.now i)) }
+    ensures { Wrote (of_node owner (name_of (node_at doc.entry.source.now doc.entry.tape.now owner).text) (node_at doc.entry.source.now doc.entry.tape.now i)) list.old c list.new result }
 {
-    if tape::kind_at(tape, i) != tape::ATTRIBUTE {
+    if tape::kind_at(doc.tape, i) != tape::ATTRIBUTE {
         return c;
     }
-    let span = cursor::span(tape, i);
+    let span = cursor::span(doc.tape, i);
     let w = Where {
         start: span.start as u64,
         len: span.len as u64,
         node: i as u64,
         owner: owner as u64,
     };
-    let marker = cursor::text(source, tape, owner);
-    validate_attribute(cursor::text(source, tape, i), marker, w, list, c)
+    let marker = doc.text(owner);
+    validate_attribute(doc.text(i), marker, w, list, c)
 }
 
 // The findings of all Attributes among the children of a marker, its owner: the nodes from one up to another.
 pub fn validate_attributes(
-    source: &[u8],
-    tape: &[u8],
+    doc: Document<'_>,
     from: usize,
     to: usize,
     owner: usize,
     list: &mut [u64],
     c: Counts,
 ) -> Counts
-    requires { (Run source.now tape.now from to) × (Spanned source.now tape.now owner) × Room c (attributes_findings owner (name_of (node_at source.now tape.now owner).text) (forest source.now tape.now from to)) }
-    ensures { Wrote (attributes_findings owner (name_of (node_at source.now tape.now owner).text) (forest source.now tape.now from to)) list.old c list.new result }
+    requires { (Run doc.source.now doc.tape.now from to) × (Spanned doc.source.now doc.tape.now owner) × Room c (attributes_findings owner (name_of (node_at doc.source.now doc.tape.now owner).text) (forest doc.source.now doc.tape.now from to)) }
+    ensures { Wrote (attributes_findings owner (name_of (node_at doc.entry.source.now doc.entry.tape.now owner).text) (forest doc.entry.source.now doc.entry.tape.now from to)) list.old c list.new result }
 {
     let mut r = c;
-    for i in Siblings::new(tape, from, to) {
-        r = attribute_at(source, tape, i, owner, list, r);
+    for i in Siblings::new(doc.tape, from, to) {
+        r = attribute_at(doc, i, owner, list, r);
     }
     r
 }

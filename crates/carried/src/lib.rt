@@ -13,7 +13,7 @@ ghost use Rattle.definition.specs.Carried.{number_too_large, list_too_long, bad_
 ghost use Rattle.carried.specs.Record.{record_of, bad_record};
 ghost use Rattle.carried.specs.Inner.{is_start_of};
 
-use cursor::Siblings;
+use cursor::{Document, Siblings};
 use numbers::VersePart;
 use table::MarkerInfo;
 
@@ -39,12 +39,12 @@ const LARGEST_EXPECTED: u64 = 4294967296;
 
 // Whether a place is between top-level nodes: the number of one, or the root's link. The nodes are in order, so that none past the
 // place is looked at.
-pub fn is_border(source: &[u8], tape: &[u8], p: u64) -> bool
-    requires { Accepted source.now tape.now }
-    ensures { result ≡ is_border source.now tape.now p }
+pub fn is_border(doc: Document<'_>, p: u64) -> bool
+    requires { Accepted doc.source.now doc.tape.now }
+    ensures { result ≡ is_border doc.entry.source.now doc.entry.tape.now p }
 {
-    let end = tape::link_at(tape, 0) as usize;
-    for i in Siblings::new(tape, 1, end) {
+    let end = tape::link_at(doc.tape, 0) as usize;
+    for i in Siblings::new(doc.tape, 1, end) {
         if p <= i as u64 {
             return i as u64 == p;
         }
@@ -56,21 +56,15 @@ pub fn is_border(source: &[u8], tape: &[u8], p: u64) -> bool
 pub fn has_large_number(rec: CarriedRecord) -> bool
     ensures { result ≡ number_too_large (record_of rec) }
 {
-    if LARGEST_EXPECTED < rec.expected_chapter {
-        return true;
-    }
     let verse = rec.expected_verse;
-    LARGEST_EXPECTED < verse.num
+    LARGEST_EXPECTED < rec.expected_chapter || LARGEST_EXPECTED < verse.num
 }
 
 // Whether more entries of a working list count than there are nodes before the place, the root among them.
 pub fn has_long_list(rec: CarriedRecord) -> bool
     ensures { result ≡ list_too_long (record_of rec) }
 {
-    if rec.place < rec.seen_len {
-        return true;
-    }
-    rec.place < rec.open_len
+    rec.place < rec.seen_len || rec.place < rec.open_len
 }
 
 // Whether there is an anchor and it is no Chapter or Verse, as a node past the tape is none.
@@ -79,24 +73,18 @@ pub fn has_bad_anchor(tape: &[u8], rec: CarriedRecord) -> bool
     ensures { result ≡ bad_anchor tape.now (record_of rec) }
 {
     let anchor = rec.anchor as usize;
-    if anchor == 0 {
-        return false;
-    }
-    if tape.len() / 16 <= anchor {
-        return true;
-    }
-    !numbers::is_numbered(tape::kind_at(tape, anchor))
+    anchor != 0 && (tape.len() / 16 <= anchor || !numbers::is_numbered(tape::kind_at(tape, anchor)))
 }
 
 // Whether a marker is a milestone start whose base has the length.
-fn is_start_of(m: MarkerInfo, source: &[u8], tape: &[u8], i: usize, base_len: u32) -> bool
-    requires { Spanned source.now tape.now i }
-    ensures { result ≡ is_start_of (entry_of_info m) (node_at source.now tape.now i) base_len }
+fn is_start_of(m: MarkerInfo, doc: Document<'_>, i: usize, base_len: u32) -> bool
+    requires { Spanned doc.source.now doc.tape.now i }
+    ensures { result ≡ is_start_of (entry_of_info m) (node_at doc.entry.source.now doc.entry.tape.now i) base_len }
 {
     if !state::is_of(m, table::MILESTONE) {
         return false;
     }
-    let name = cursor::marker_name(source, tape, i);
+    let name = doc.marker_name(i);
     if !milestones::ends_in(name, b's') {
         return false;
     }
@@ -110,53 +98,46 @@ pub fn is_bad_start(
     table: &[u8],
     index: &[u64],
     entries: usize,
-    source: &[u8],
-    tape: &[u8],
+    doc: Document<'_>,
     node: u32,
     base_len: u32,
 ) -> bool
-    requires { (Indexed table.now index.now entries) × (Accepted source.now tape.now) }
-    ensures { result ≡ bad_start table.now source.now tape.now (record { node = node; base_len = base_len }) }
+    requires { (Indexed table.now index.now entries) × (Accepted doc.source.now doc.tape.now) }
+    ensures { result ≡ bad_start table.now doc.entry.source.now doc.entry.tape.now (record { node = node; base_len = base_len }) }
 {
     let i = node as usize;
-    if tape.len() / 16 <= i {
+    if doc.tape.len() / 16 <= i {
         return true;
     }
-    if tape::kind_at(tape, i) != tape::MARKER_OPEN {
+    if tape::kind_at(doc.tape, i) != tape::MARKER_OPEN {
         return true;
     }
-    match cursor::marker_info(table, index, entries, tape, i) {
-        Some(m) => !is_start_of(m, source, tape, i, base_len),
+    match cursor::marker_info(table, index, entries, doc.tape, i) {
+        Some(m) => !is_start_of(m, doc, i, base_len),
         None => true,
     }
 }
 
 // Whether a record can't be this tape's by what it says itself, without a look at the open starts.
-pub fn is_bad_record(source: &[u8], tape: &[u8], rec: CarriedRecord) -> bool
-    requires { Accepted source.now tape.now }
-    ensures { result ≡ bad_record source.now tape.now (record_of rec) }
+pub fn is_bad_record(doc: Document<'_>, rec: CarriedRecord) -> bool
+    requires { Accepted doc.source.now doc.tape.now }
+    ensures { result ≡ bad_record doc.entry.source.now doc.entry.tape.now (record_of rec) }
 {
-    if !is_border(source, tape, rec.place) {
-        return true;
-    }
-    if has_large_number(rec) {
-        return true;
-    }
-    if has_long_list(rec) {
-        return true;
-    }
-    has_bad_anchor(tape, rec)
+    !is_border(doc, rec.place)
+        || has_large_number(rec)
+        || has_long_list(rec)
+        || has_bad_anchor(doc.tape, rec)
 }
 
 // The node that a record's anchor stands for: itself if it is a top-level node before the place, else 0, which is no anchor.
-pub fn anchor_node(source: &[u8], tape: &[u8], rec: CarriedRecord) -> usize
-    requires { Accepted source.now tape.now }
-    ensures { result ≡ anchor_node source.now tape.now (record_of rec) }
+pub fn anchor_node(doc: Document<'_>, rec: CarriedRecord) -> usize
+    requires { Accepted doc.source.now doc.tape.now }
+    ensures { result ≡ anchor_node doc.entry.source.now doc.entry.tape.now (record_of rec) }
 {
     if rec.place <= rec.anchor {
         return 0;
     }
-    if is_border(source, tape, rec.anchor) {
+    if is_border(doc, rec.anchor) {
         rec.anchor as usize
     } else {
         0

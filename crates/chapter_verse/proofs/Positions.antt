@@ -19,12 +19,6 @@ use Rattle.numbers.proofs.Readable.{start-readable, end-readable}
 use Rattle.definition.specs.Checks.{breaks, unread, end_or, expected_after}
 use Rattle.chapter_verse.specs.Inner.{LowRead}
 
-pub short-label : (s : List ℕ) → length s ≤ 1 → false ≡ (ltb 1 (length s) && eqb (get_or s 0 0) 0x30)
-short-label s h = rw (le-ltb 1 (length s) h) refl
-
-pub long-label : (s : List ℕ) → 1 < length s → eqb (get_or s 0 0) 0x30 ≡ (ltb 1 (length s) && eqb (get_or s 0 0) 0x30)
-long-label s h = rw (lt-ltb 1 (length s) h) refl
-
 next_low : (n : ℕ) (l : Option ℕ) → n ≤ 4294967295 → (verse.next_position n l).number ≤ 4294967296
 next_low n None h = omega arith
 next_low n (Some b) h = omega arith
@@ -39,13 +33,6 @@ after-low r p h e =
 module _ (x : Result VersePart Unread) (p : VersePart) (part-read : x ≡ Ok p) where
   pub low_of : LowRead x → p.num ≤ 4294967296
   low_of h = rw part-read at h
-
-  pub breaks-by : (e : Position) (b : Bool) → b ≡ in_sequence e (position_of p) → not b ≡ breaks (read_of x) e
-  breaks-by e b h = rw part-read (ap not h)
-
--- the end of a label, as the code reads it
-pub end_by : (y : Result VersePart Unread) (p q : VersePart) → y ≡ Ok q → position_of q ≡ end_or (read_of y) (position_of p)
-end_by y p q h = rw h refl
 
 pub end_none : (y : Result VersePart Unread) (p : VersePart) (z : Result VersePart Unread) → y ≡ z → unread (read_of z) ≡ true → position_of p ≡ end_or (read_of y) (position_of p)
 end_none y p z h u = rw h (go (read_of z) u)

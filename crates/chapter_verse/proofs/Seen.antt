@@ -1,34 +1,31 @@
 -- The chapters seen: the first words of a list, the last of them first.
 -- Assumes nothing.
 use Prim.Native.Nat.{ℕ, zero, suc, ◌+◌, ◌-◌, ◌<◌, ◌≤◌}
-use mathlib.Core.Path.{◌≡◌, refl, ap}
-use mathlib.Core.Bool.{Bool, true, false, ◌||◌}
+use mathlib.Core.Path.{◌≡◌, refl, ap, ◌∙◌}
+use mathlib.Core.Bool.{Bool, true, false, ◌||◌, or_comm}
 use mathlib.Core.List.{List, ◌∷◌}
 use native.Mathlib.Omega.{arith}
 use native.Mathlib.Numerals.{add-one}
 use lib.Dec.{eqb}
-use lib.ListN.{length, get_or, set}
+use lib.ListN.{length, get_or, set, take}
 use lib.Seq.{get_or-set_same, get_or-set_other}
-use borrow.Author.Tests.{eq-eqb, ne_eqb}
+use Rattle.std.specs.List.{list_any}
+use Rattle.std.proofs.lemmas.List.Folds.{list_any_more}
 use Rattle.attachment.specs.Attached.{among}
 use Rattle.state.specs.Inner.{latest}
 
 module _ (words : List ℕ) (n : ℕ) where
-  last : (i : ℕ) → 0 < i → latest words i ≡ get_or words (i - 1) 0 ∷ latest words (i - 1)
-  unfolding latest
-  last i h = let e : i ≡ suc (i - 1) = omega arith in ap (latest words) e
+  abbrev is : ℕ → Bool
+  is x = eqb x n
 
-  pub seen_here : (i : ℕ) → 0 < i → get_or words (i - 1) 0 ≡ n → among n (latest words i) ≡ true
-  unfolding among
-  seen_here i h e = rw (last i h, eq-eqb (get_or words (i - 1) 0) n e) refl
-
-  pub seen-past : (i : ℕ) → 0 < i → (get_or words (i - 1) 0 ≡ n → ⊥) → among n (latest words (i - 1)) ≡ among n (latest words i)
-  unfolding among
-  seen-past i h e = rw (last i h, ne_eqb (get_or words (i - 1) 0) n e) refl
-
-  pub seen_none : (i : ℕ) → i ≤ 0 → among n (latest words i) ≡ false
+  -- among the first words as a slice's `contains` says it
+  pub seen-any : (k : ℕ) → k ≤ length words → list_any is (take k words) ≡ among n (latest words k)
   unfolding among latest
-  seen_none i h = let e : i ≡ 0 = omega arith in rw e refl
+  seen-any zero h = refl
+  seen-any (suc k) h =
+      let e = list_any_more is words k 0 (omega arith) in
+      let z : k + 1 ≡ suc k = omega arith in
+      rw z at e ∙ or_comm (list_any is (take k words)) (is (get_or words k 0)) ∙ ap (◌||◌ (eqb (get_or words k 0) n)) (seen-any k (omega arith))
 
 or-either : (a b c d : Bool) → (a || c) ≡ d → ((a || b) || c) ≡ (b || d)
 or-either true true c d e = refl

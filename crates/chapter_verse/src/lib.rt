@@ -18,6 +18,7 @@ ghost use Rattle.chapter_verse.specs.InnerVisit.{LeafVisited};
 ghost use Rattle.table.specs.Inner.{Indexed};
 ghost use Rattle.findings.specs.Inner.{Room, Wrote};
 
+use cursor::Document;
 use findings::{
     CHAR_CROSSES_VERSE_BOUNDARY, Counts, DUPLICATE_CHAPTER, INVALID_CHAPTER_SEQUENCE,
     INVALID_VERSE_SEQUENCE, LEADING_ZEROS, MISSING_CHAPTER_NUMBER, MISSING_SPACE_BEFORE_NUMBER,
@@ -27,19 +28,12 @@ use numbers::{Suffix, Unread, VersePart};
 use state::{Context, State};
 use table::MarkerInfo;
 
-// Whether a number is among the first k words, a word at a time.
+// Whether a number is among the first k words.
 fn is_among_few(seen: &[u32], k: usize, num: u32) -> bool
     requires { k ≤ length seen.now }
     ensures { result ≡ among num (latest seen.now k) }
 {
-    let mut i = k;
-    while 0 < i {
-        if seen[i - 1] == num {
-            return true;
-        }
-        i -= 1;
-    }
-    false
+    seen[..k].contains(&num)
 }
 
 // Whether a number is among 16 words from a place, or known to be among those before it. No word ends the loop, so that it
@@ -49,10 +43,8 @@ fn is_in_block(seen: &[u32], at: usize, num: u32) -> bool
     ensures { (result || among num (latest seen.now at)) ≡ among num (latest seen.now (at + 16)) }
 {
     let mut found = false;
-    let mut i: usize = 0;
-    while i < 16 {
-        found = found | (seen[at + i] == num);
-        i += 1;
+    for i in 0..16 {
+        found |= seen[at + i] == num;
     }
     found
 }
@@ -63,6 +55,7 @@ fn is_seen(seen: &[u32], k: usize, num: u32) -> bool
     ensures { result ≡ among num (latest seen.now k) }
 {
     let mut i = k;
+    // A while: it goes back by sixteen words.
     while 16 <= i {
         i -= 16;
         if is_in_block(seen, i, num) {
@@ -75,22 +68,19 @@ fn is_seen(seen: &[u32], k: usize, num: u32) -> bool
 fn neither(a: bool, b: bool) -> bool
     ensures { result ≡ (not a && not b) }
 {
-    if a { false } else { !b }
+    !a && !b
 }
 
 fn or_not(a: bool, b: bool) -> bool
     ensures { result ≡ (a || not b) }
 {
-    if a { true } else { !b }
+    a || !b
 }
 
 fn leading_zeros(label: &[u8]) -> bool
     ensures { result ≡ (ltb 1 (length label.now) && eqb (get_or label.now 0 0) 0x30) }
 {
-    if label.len() <= 1 {
-        return false;
-    }
-    label[0] == b'0'
+    1 < label.len() && label[0] == b'0'
 }
 
 // An error with the span of a node, if it is there.
@@ -134,18 +124,26 @@ fn check_number_form(
     info: Option<MarkerInfo>,
     label: &[u8],
     glued: bool,
-    source: &[u8],
-    tape: &[u8],
+    doc: Document<'_>,
     i: usize,
     list: &mut [u64],
     c: Counts,
 ) -> Counts
-    requires { (i < count tape.now) × LabelRead (info_of info) (node_at source.now tape.now i) label.now glued × Room c (given (number_form form (info_of info) (node_at source.now tape.now i))) }
-    ensures { Wrote (given (number_form form (info_of info) (node_at source.now tape.now i))) list.old c list.new result }
+    requires { (i < count doc.tape.now) × LabelRead (info_of info) (node_at doc.source.now doc.tape.now i) label.now glued × Room c (given (number_form form (info_of info) (node_at doc.source.now doc.tape.now i))) }
+    ensures { Wrote (given (number_form form (info_of info) (node_at doc.entry.source.now doc.entry.tape.now i))) list.old c list.new result }
 {
     let zeros = leading_zeros(label);
-    let d = warn_if(tape, i, MISSING_SPACE_BEFORE_NUMBER, 0, 0, glued, list, c);
-    error_if(tape, i, LEADING_ZEROS, form, zeros, list, d)
+    let d = warn_if(
+        doc.tape,
+        i,
+        MISSING_SPACE_BEFORE_NUMBER,
+        0,
+        0,
+        glued,
+        list,
+        c,
+    );
+    error_if(doc.tape, i, LEADING_ZEROS, form, zeros, list, d)
 }
 
 // The findings of a Chapter, by its label and the chapters seen so far. Its number is its link.
@@ -153,37 +151,35 @@ fn chapter_findings(
     info: Option<MarkerInfo>,
     label: &[u8],
     glued: bool,
-    source: &[u8],
-    tape: &[u8],
+    doc: Document<'_>,
     i: usize,
     seen: &[u32],
     rec: State,
     list: &mut [u64],
 ) -> Counts
-    requires { (i < count tape.now) × LabelRead (info_of info) (node_at source.now tape.now i) label.now glued × (rec.seen_len ≤ length seen.now) × Room (counts_of rec) (given (chapter_checks (info_of info) (state_of source.now tape.now seen.now [] rec) (node_at source.now tape.now i))) }
-    ensures { Wrote (given (chapter_checks (info_of info) (state_of source.now tape.now seen.now [] rec) (node_at source.now tape.now i))) list.old (counts_of rec) list.new result }
+    requires { (i < count doc.tape.now) × LabelRead (info_of info) (node_at doc.source.now doc.tape.now i) label.now glued × (rec.seen_len ≤ length seen.now) × Room (counts_of rec) (given (chapter_checks (info_of info) (state_of doc.source.now doc.tape.now seen.now [] rec) (node_at doc.source.now doc.tape.now i))) }
+    ensures { Wrote (given (chapter_checks (info_of info) (state_of doc.entry.source.now doc.entry.tape.now seen.now [] rec) (node_at doc.entry.source.now doc.entry.tape.now i))) list.old (counts_of rec) list.new result }
 {
     let bare = label.len() == 0;
-    let number = tape::link_at(tape, i);
+    let number = tape::link_at(doc.tape, i);
     let n = number as u64;
     let twice = is_seen(seen, rec.seen_len, number);
     let next = rec.expected_chapter;
     let leaps = n != next;
     let c = state::counts(rec);
-    let d = error_if(tape, i, MISSING_CHAPTER_NUMBER, 0, bare, list, c);
-    let e = warn_if(tape, i, DUPLICATE_CHAPTER, n, 0, twice, list, d);
-    let g = warn_if(tape, i, INVALID_CHAPTER_SEQUENCE, next, n, leaps, list, e);
-    check_number_form(
-        findings::CHAPTER_FORM,
-        info,
-        label,
-        glued,
-        source,
-        tape,
+    let d = error_if(doc.tape, i, MISSING_CHAPTER_NUMBER, 0, bare, list, c);
+    let e = warn_if(doc.tape, i, DUPLICATE_CHAPTER, n, 0, twice, list, d);
+    let g = warn_if(
+        doc.tape,
         i,
+        INVALID_CHAPTER_SEQUENCE,
+        next,
+        n,
+        leaps,
         list,
-        g,
-    )
+        e,
+    );
+    check_number_form(findings::CHAPTER_FORM, info, label, glued, doc, i, list, g)
 }
 
 // Whether what is read of a label breaks the sequence of verses.
@@ -244,8 +240,7 @@ fn unread_finding(
 fn letter_byte(v: VersePart) -> u64
     ensures { result ≡ letter_byte (suffix_of v.suffix) }
 {
-    let suffix = v.suffix;
-    match suffix {
+    match v.suffix {
         Suffix::Letter(b) => b as u64,
         Suffix::None => 0,
     }
@@ -257,15 +252,14 @@ fn verse_findings(
     label: &[u8],
     glued: bool,
     read: Result<VersePart, Unread>,
-    source: &[u8],
-    tape: &[u8],
+    doc: Document<'_>,
     i: usize,
     context: Context,
     rec: State,
     list: &mut [u64],
 ) -> Counts
-    requires { (i < count tape.now) × LabelRead (info_of info) (node_at source.now tape.now i) label.now glued × (read_of read ≡ verse_part label.now) × VerseBounded rec × Room (counts_of rec) (given (verse_checks (info_of info) (context_of context) (state_of source.now tape.now [] [] rec) (node_at source.now tape.now i))) }
-    ensures { Wrote (given (verse_checks (info_of info) (context_of context) (state_of source.now tape.now [] [] rec) (node_at source.now tape.now i))) list.old (counts_of rec) list.new result }
+    requires { (i < count doc.tape.now) × LabelRead (info_of info) (node_at doc.source.now doc.tape.now i) label.now glued × (read_of read ≡ verse_part label.now) × VerseBounded rec × Room (counts_of rec) (given (verse_checks (info_of info) (context_of context) (state_of doc.source.now doc.tape.now [] [] rec) (node_at doc.source.now doc.tape.now i))) }
+    ensures { Wrote (given (verse_checks (info_of info) (context_of context) (state_of doc.entry.source.now doc.entry.tape.now [] [] rec) (node_at doc.entry.source.now doc.entry.tape.now i))) list.old (counts_of rec) list.new result }
 {
     let bare = label.len() == 0;
     let v = rec.expected_verse;
@@ -275,22 +269,29 @@ fn verse_findings(
     let outside = neither(context.in_body_para, rec.verse_outside_warned);
     let crosses = context.in_char;
     let c = state::counts(rec);
-    let d = warn_if(tape, i, VERSE_OUTSIDE_PARAGRAPH, 0, 0, outside, list, c);
-    let e = error_if(tape, i, CHAR_CROSSES_VERSE_BOUNDARY, 0, crosses, list, d);
-    let g = error_if(tape, i, MISSING_VERSE_NUMBER, 0, bare, list, e);
-    let h = warn_if(tape, i, INVALID_VERSE_SEQUENCE, n, letter, amiss, list, g);
-    let k = unread_finding(bare, read, tape, i, list, h);
-    check_number_form(
-        findings::VERSE_FORM,
-        info,
-        label,
-        glued,
-        source,
-        tape,
+    let d = warn_if(doc.tape, i, VERSE_OUTSIDE_PARAGRAPH, 0, 0, outside, list, c);
+    let e = error_if(
+        doc.tape,
         i,
+        CHAR_CROSSES_VERSE_BOUNDARY,
+        0,
+        crosses,
         list,
-        k,
-    )
+        d,
+    );
+    let g = error_if(doc.tape, i, MISSING_VERSE_NUMBER, 0, bare, list, e);
+    let h = warn_if(
+        doc.tape,
+        i,
+        INVALID_VERSE_SEQUENCE,
+        n,
+        letter,
+        amiss,
+        list,
+        g,
+    );
+    let k = unread_finding(bare, read, doc.tape, i, list, h);
+    check_number_form(findings::VERSE_FORM, info, label, glued, doc, i, list, k)
 }
 
 // The record after a Chapter, whose number is added to the chapters seen.
@@ -319,19 +320,17 @@ fn end_read(label: &[u8], start: Result<VersePart, Unread>) -> Result<VersePart,
     ensures { read_of result ≡ verse_end label.now }
 {
     if text::find_byte(label, b'-') < label.len() {
-        return numbers::parse_verse_range_end(label);
+        numbers::parse_verse_range_end(label)
+    } else {
+        start
     }
-    start
 }
 
 // The position that a label ends with: an end that isn't read lets the start serve.
 fn end_or(end: Result<VersePart, Unread>, start: VersePart) -> VersePart
     ensures { position_of result ≡ end_or (read_of end) (position_of start) }
 {
-    match end {
-        Ok(p) => p,
-        Err(_) => start,
-    }
+    end.unwrap_or(start)
 }
 
 // The position expected after a label, by what is read of its start. A label that isn't read doesn't change it.
@@ -350,14 +349,13 @@ fn after_verse(
     info: Option<MarkerInfo>,
     label: &[u8],
     read: Result<VersePart, Unread>,
-    source: &[u8],
-    tape: &[u8],
+    doc: Document<'_>,
     i: usize,
     context: Context,
     rec: State,
 ) -> State
-    requires { (label.now ≡ label_of (info_of info) (node_at source.now tape.now i).text) × (read_of read ≡ verse_part label.now) × VerseBounded rec × (rec.verses < 4611686018427387904) }
-    ensures { PassedVerse (info_of info) source.now tape.now (context_of context) i rec result }
+    requires { (label.now ≡ label_of (info_of info) (node_at doc.source.now doc.tape.now i).text) × (read_of read ≡ verse_part label.now) × VerseBounded rec × (rec.verses < 4611686018427387904) }
+    ensures { PassedVerse (info_of info) doc.entry.source.now doc.entry.tape.now (context_of context) i rec result }
 {
     let v = rec.expected_verse;
     let next = verse_after(label, read, v);
@@ -375,37 +373,34 @@ pub fn visit_leaf(
     table: &[u8],
     index: &[u64],
     entries: usize,
-    source: &[u8],
-    tape: &[u8],
+    doc: Document<'_>,
     i: usize,
     context: Context,
     rec: State,
     seen: &mut [u32],
     list: &mut [u64],
 ) -> State
-    requires { (Indexed table.now index.now entries) × (Spanned source.now tape.now i) × VerseBounded rec × (rec.seen_len < length seen.old) × (rec.verses < 4611686018427387904) × Room (counts_of rec) (leaf_checked table.now (context_of context) (state_of source.now tape.now seen.old [] rec) (node_at source.now tape.now i)).findings }
-    ensures { LeafVisited table.now source.now tape.now (context_of context) i seen.old list.old rec seen.new list.new result }
+    requires { (Indexed table.now index.now entries) × (Spanned doc.source.now doc.tape.now i) × VerseBounded rec × (rec.seen_len < length seen.old) × (rec.verses < 4611686018427387904) × Room (counts_of rec) (leaf_checked table.now (context_of context) (state_of doc.source.now doc.tape.now seen.old [] rec) (node_at doc.source.now doc.tape.now i)).findings }
+    ensures { LeafVisited table.now doc.entry.source.now doc.entry.tape.now (context_of context) i seen.old list.old rec seen.new list.new result }
 {
-    let kind = tape::kind_at(tape, i);
+    let kind = tape::kind_at(doc.tape, i);
     if !numbers::is_numbered(kind) {
         return rec;
     }
-    let info = cursor::marker_info(table, index, entries, tape, i);
-    let text = cursor::text(source, tape, i);
+    let info = cursor::marker_info(table, index, entries, doc.tape, i);
+    let text = doc.text(i);
     let at = numbers::label_span(info, text);
     let from = at.start;
     let to = at.end;
     let label = &text[from..to];
     let glued = at.glued;
     if kind == tape::CHAPTER {
-        let c = chapter_findings(info, label, glued, source, tape, i, seen, rec, list);
-        let q = after_chapter(tape, i, rec, seen);
+        let c = chapter_findings(info, label, glued, doc, i, seen, rec, list);
+        let q = after_chapter(doc.tape, i, rec, seen);
         return state::with_counts(q, c);
     }
     let read = numbers::parse_verse_part(label);
-    let c = verse_findings(
-        info, label, glued, read, source, tape, i, context, rec, list,
-    );
-    let q = after_verse(info, label, read, source, tape, i, context, rec);
+    let c = verse_findings(info, label, glued, read, doc, i, context, rec, list);
+    let q = after_verse(info, label, read, doc, i, context, rec);
     state::with_counts(q, c)
 }

@@ -8,6 +8,7 @@ ghost use Rattle.tape.specs.Forest.{Accepted};
 ghost use Rattle.table.specs.Inner.{Indexed};
 ghost use Rattle.findings.specs.Written.{whole_records};
 
+use cursor::Document;
 use exercise::Exercise;
 use refusals::Refusal;
 use std::io;
@@ -47,7 +48,16 @@ fn write_findings(
     // A while: the step is as many findings as a piece lists.
     while k < held {
         let piece = listing::put_findings(
-            table, index, entries, source, tape, list, held, k, &lines, &columns, &mut text,
+            table,
+            index,
+            entries,
+            Document { source, tape },
+            list,
+            held,
+            k,
+            &lines,
+            &columns,
+            &mut text,
             &mut out,
         );
         exercise::write(rt, &out, piece.end)?;

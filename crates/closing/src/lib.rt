@@ -7,12 +7,13 @@ ghost use Rattle.cursor.specs.Inner.{Run};
 ghost use Rattle.findings.specs.Finding.{finding_of};
 ghost use Rattle.definition.specs.Checks.{given};
 ghost use Rattle.definition.specs.Document.{text_before, of_document};
-ghost use Rattle.definition.specs.Document;
+ghost use Rattle.definition.specs.Document as document;
 ghost use Rattle.definition.specs.Outcome.{no_start, cleared};
 ghost use Rattle.state.specs.Inner.{counts_of, open_nodes};
 ghost use Rattle.closing.specs.Inner.{missing_checks, Left, of_open, UnclosedReady};
 ghost use Rattle.findings.specs.Inner.{Wrote, Room};
 
+use cursor::Document;
 use definition::OpenStart;
 use findings::{
     Counts, Finding, MILESTONE_MISMATCH, MISSING_CHAPTER_MARKER, MISSING_ID_MARKER, Severity,
@@ -37,20 +38,20 @@ fn of_document(code: u64) -> Finding
 }
 
 // Text before the `\id` marker: the first child of the root.
-pub fn text_before(source: &[u8], tape: &[u8], to: usize, rec: State, list: &mut [u64]) -> Counts
-    requires { (Run source.now tape.now 1 to) × Room (counts_of rec) (text_before (forest source.now tape.now 1 to)) }
-    ensures { Wrote (text_before (forest source.now tape.now 1 to)) list.old (counts_of rec) list.new result }
+pub fn text_before(doc: Document<'_>, to: usize, rec: State, list: &mut [u64]) -> Counts
+    requires { (Run doc.source.now doc.tape.now 1 to) × Room (counts_of rec) (text_before (forest doc.source.now doc.tape.now 1 to)) }
+    ensures { Wrote (text_before (forest doc.entry.source.now doc.entry.tape.now 1 to)) list.old (counts_of rec) list.new result }
 {
     let c = state::counts(rec);
     if to <= 1 {
         return c;
     }
-    let there = cursor::is_kind(source, tape, 1, tape::TEXT, false);
+    let there = doc.is_kind(1, tape::TEXT, false);
     findings::push_if(
         list,
         c,
         there,
-        state::about(tape, 1, Severity::Warning, TEXT_BEFORE_ID, 0, 0, 0),
+        state::about(doc.tape, 1, Severity::Warning, TEXT_BEFORE_ID, 0, 0, 0),
     )
 }
 
@@ -72,19 +73,13 @@ fn push_unclosed(tape: &[u8], o: OpenStart, list: &mut [u64], c: Counts) -> Coun
 }
 
 // The open starts that are left, in opening order.
-pub fn unclosed(
-    source: &[u8],
-    tape: &[u8],
-    opens: &mut [OpenStart],
-    rec: State,
-    list: &mut [u64],
-) -> Counts
-    requires { Left source.now tape.now opens.old rec }
-    ensures { (opens.new ≡ opens.old) × Wrote (Document.unclosed (open_nodes source.now tape.now opens.old rec.open_len)) list.old (counts_of rec) list.new result }
+pub fn unclosed(doc: Document<'_>, opens: &mut [OpenStart], rec: State, list: &mut [u64]) -> Counts
+    requires { Left doc.source.now doc.tape.now opens.old rec }
+    ensures { (opens.new ≡ opens.old) × Wrote (document.unclosed (open_nodes doc.entry.source.now doc.entry.tape.now opens.old rec.open_len)) list.old (counts_of rec) list.new result }
 {
     let mut c = state::counts(rec);
     for o in &opens[..rec.open_len] {
-        c = push_unclosed(tape, *o, list, c);
+        c = push_unclosed(doc.tape, *o, list, c);
     }
     c
 }

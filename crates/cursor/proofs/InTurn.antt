@@ -18,7 +18,7 @@ use Rattle.tape.proofs.Nest.{forest-done, forest-leaf, forest-node}
 use Rattle.cursor.specs.Inner.{Run, Spanned}
 use Rattle.cursor.specs.Steps.{past_node}
 use Rattle.cursor.specs.declared.Siblings.{Siblings}
-use Rattle.cursor.specs.InTurn.{numbers, siblings, SomeRun, left}
+use Rattle.cursor.specs.InnerTurn.{numbers, siblings, SomeRun, left}
 use Rattle.cursor.proofs.Runs.{run-spanned, run-next, past-later, past_is, forest-at-leaf, forest-at-open}
 
 pub siblings-none : (t : List ℕ) (a b : ℕ) → b ≤ a → siblings t a b ≡ []

@@ -104,20 +104,6 @@ module _ (s : List ℕ) (a n : ℕ) (fits : a + n ≤ length s) (some : 0 < leng
   unfolding name_part
   named-at = sym (rw (slash-at) at (one_at 0x2B past_slash slash-less))
 
--- the test of a code point, by the tests that the code takes
-module _ (c : ℕ) (x : Bool) (is-blank : x ≡ blank c) where
-  pub ends-blank : x ≡ true → true ≡ ends_name c
-  ends-blank y = rw (← is-blank, y)
-
-  pub ends-star : x ≡ false → c ≡ 0x2A → true ≡ ends_name c
-  ends-star y e = rw (← is-blank, y, eq-eqb c 0x2A e)
-
-  pub ends-bar : x ≡ false → (c ≡ 0x2A → ⊥) → c ≡ 0x7C → true ≡ ends_name c
-  ends-bar y n e = rw (← is-blank, y, ne_eqb c 0x2A n, eq-eqb c 0x7C e)
-
-  pub ends-slash : x ≡ false → (c ≡ 0x2A → ⊥) → (c ≡ 0x7C → ⊥) → eqb c 0x5C ≡ ends_name c
-  ends-slash y n m = rw (← is-blank, y, ne_eqb c 0x2A n, ne_eqb c 0x7C m)
-
 pub is_plain : (b : ℕ) → 0x2A < b → b < 0x7C → (b ≡ 0x5C → ⊥) → PlainByte b
 is_plain b h k n =
     record {

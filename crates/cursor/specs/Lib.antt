@@ -2,4 +2,4 @@ pub mod Names
 pub mod Steps
 pub mod Info
 pub mod Inner
-pub mod InTurn
+pub mod InnerTurn

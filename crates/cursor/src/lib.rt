@@ -11,12 +11,19 @@ ghost use Rattle.cursor.specs.Steps.{first_child, next_sibling, number_at, holds
 ghost use Rattle.table.specs.Entries.{info_of};
 ghost use Rattle.cursor.specs.Info.{has_marker, info_at};
 ghost use Rattle.cursor.specs.Inner.{is_kind, Spanned, Reached, PlainByte, Named};
-ghost use Rattle.cursor.specs.InTurn.{siblings, SomeRun, left, HasRun};
+ghost use Rattle.cursor.specs.InnerTurn.{siblings, SomeRun, left, HasRun};
 ghost use Rattle.std.specs.Iterator.{YieldsFirst, item_count};
 ghost use Rattle.text.specs.Inner.{Ended};
 ghost use Rattle.table.specs.Inner.{Indexed};
 
 use table::{MarkerId, MarkerInfo};
+
+// A source with the tape of its nodes.
+#[derive(Clone, Copy)]
+pub struct Document<'a> {
+    pub source: &'a [u8],
+    pub tape: &'a [u8],
+}
 
 // Where a node's text stands in the source.
 #[derive(Clone, Copy)]
@@ -42,46 +49,24 @@ pub fn span(tape: &[u8], i: usize) -> NodeSpan
     }
 }
 
-// The text of a node: a part of the source.
-pub fn text<'a, 'b>(source: &'a [u8], tape: &'b [u8], i: usize) -> &'a [u8]
-    requires { Spanned source.now tape.now i }
-    ensures { result.now ≡ cut (nodes.span tape.now i) source.now }
-{
-    let a = tape::start_at(tape, i) as usize;
-    let e = a + tape::len_at(tape, i) as usize;
-    &source[a..e]
-}
-
 fn past_one(s: &[u8], i: usize, b: u8) -> usize
     requires { i ≤ length s.now }
     ensures { Reached s.now (past_one b s.now i) result }
 {
-    if s.len() <= i {
-        return i;
-    }
-    if s[i] == b { i + 1 } else { i }
+    if i < s.len() && s[i] == b { i + 1 } else { i }
 }
 
 fn ends_name(cp: u32) -> bool
     ensures { result ≡ ends_name cp }
 {
-    if text::is_blank(cp) {
-        return true;
-    }
-    if cp == 0x2A {
-        return true;
-    }
-    if cp == 0x7C { true } else { cp == 0x5C }
+    text::is_blank(cp) || cp == 0x2A || cp == 0x7C || cp == 0x5C
 }
 
 // Whether a name goes on past a byte, by a few tests: they hold for letters and digits, of which most names consist.
 fn is_plain(b: u8) -> bool
     ensures { result ≡ true → PlainByte b }
 {
-    if b <= 0x2A {
-        return false;
-    }
-    if b < 0x7C { b != 0x5C } else { false }
+    0x2A < b && b < 0x7C && b != 0x5C
 }
 
 // The place of the first character from a place on that ends a name, or the length. A sequence of three bytes that begins with E4 to
@@ -91,6 +76,7 @@ fn name_end(s: &[u8], from: usize) -> usize
     ensures { Ended s.now from (find ends_name (drop from s.now)) result }
 {
     let mut i = from;
+    // A while: it goes on by the character's width.
     while i < s.len() {
         if is_plain(s[i]) {
             i += 1;
@@ -119,16 +105,6 @@ pub fn name_start(s: &[u8]) -> usize
     past_one(s, a, 0x2B)
 }
 
-// Where the name of a node stands in the source. If it isn't empty, this needs no test of the text's length.
-pub fn name_at(source: &[u8], tape: &[u8], i: usize) -> usize
-    requires { (Spanned source.now tape.now i) × (0 < length (name_of (cut (nodes.span tape.now i) source.now))) }
-    ensures { result ≡ start_at tape.now i + (name_part (cut (nodes.span tape.now i) source.now)).start }
-{
-    let a = tape::start_at(tape, i) as usize;
-    let b = a + tape::one_if(source[a] == 0x5C);
-    b + tape::one_if(source[b] == 0x2B)
-}
-
 pub fn name_span(s: &[u8]) -> NameSpan
     ensures { Named s.now result }
 {
@@ -149,32 +125,56 @@ pub fn name_of(s: &[u8]) -> &[u8]
     &s[b..e]
 }
 
-// The marker's name as written: a part of the source.
-pub fn marker_name<'a, 'b>(source: &'a [u8], tape: &'b [u8], i: usize) -> &'a [u8]
-    requires { Spanned source.now tape.now i }
-    ensures { result.now ≡ name_of (cut (nodes.span tape.now i) source.now) }
-{
-    name_of(text(source, tape, i))
+impl<'a> Document<'a> {
+    // The text of a node: a part of the source.
+    pub fn text(self, i: usize) -> &'a [u8]
+        requires { Spanned self.source.now self.tape.now i }
+        ensures { result.now ≡ cut (nodes.span self.entry.tape.now i) self.entry.source.now }
+    {
+        let a = tape::start_at(self.tape, i) as usize;
+        let e = a + tape::len_at(self.tape, i) as usize;
+        &self.source[a..e]
+    }
+
+    // Where the name of a node stands in the source. If it isn't empty, this needs no test of the text's length.
+    pub fn name_at(self, i: usize) -> usize
+        requires { (Spanned self.source.now self.tape.now i) × (0 < length (name_of (cut (nodes.span self.tape.now i) self.source.now))) }
+        ensures { result ≡ start_at self.entry.tape.now i + (name_part (cut (nodes.span self.entry.tape.now i) self.entry.source.now)).start }
+    {
+        let a = tape::start_at(self.tape, i) as usize;
+        let b = a + tape::one_if(self.source[a] == 0x5C);
+        b + tape::one_if(self.source[b] == 0x2B)
+    }
+
+    // The marker's name as written: a part of the source.
+    pub fn marker_name(self, i: usize) -> &'a [u8]
+        requires { Spanned self.source.now self.tape.now i }
+        ensures { result.now ≡ name_of (cut (nodes.span self.entry.tape.now i) self.entry.source.now) }
+    {
+        name_of(self.text(i))
+    }
+
+    // Whether a node is of a kind; one whose text is blank counts if `blank` says so.
+    pub fn is_kind(self, i: usize, kind: u8, blank: bool) -> bool
+        requires { Spanned self.source.now self.tape.now i }
+        ensures { result ≡ is_kind kind blank (node_at self.entry.source.now self.entry.tape.now i) }
+    {
+        tape::kind_at(self.tape, i) == kind && (blank || !text::is_blank_text(self.text(i)))
+    }
 }
 
 fn holds_nodes(kind: u8) -> bool
     ensures { result ≡ holds_nodes kind }
 {
-    if kind == tape::ROOT {
-        true
-    } else {
-        kind == tape::MARKER_OPEN
-    }
+    kind == tape::ROOT || kind == tape::MARKER_OPEN
 }
 
+#[tactic(auto, unfolding(crate::specs::Steps::first_child))]
 pub fn first_child(tape: &[u8], i: usize) -> Option<usize>
     requires { i < count tape.now }
     ensures { result ≡ first_child tape.now i }
 {
-    if !holds_nodes(tape::kind_at(tape, i)) {
-        return None;
-    }
-    if i + 1 < tape::link_at(tape, i) as usize {
+    if holds_nodes(tape::kind_at(tape, i)) && i + 1 < tape::link_at(tape, i) as usize {
         Some(i + 1)
     } else {
         None
@@ -267,17 +267,11 @@ pub fn number(tape: &[u8], i: usize) -> Option<u32>
 fn has_marker(kind: u8) -> bool
     ensures { result ≡ has_marker kind }
 {
-    if kind < tape::MARKER_OPEN {
-        return false;
-    }
-    if kind <= tape::VERSE {
-        true
-    } else {
-        kind == tape::BLOCK_END
-    }
+    (tape::MARKER_OPEN..=tape::VERSE).contains(&kind) || kind == tape::BLOCK_END
 }
 
 // The table entry of a node that bears a marker.
+#[tactic(auto, unfolding(crate::specs::Info::info_at, crate::specs::Info::only_for))]
 pub fn marker_info(
     table: &[u8],
     index: &[u64],
@@ -292,18 +286,4 @@ pub fn marker_info(
         return None;
     }
     MarkerId::info(table, index, entries, MarkerId(tape::marker_at(tape, i)))
-}
-
-// Whether a node is of a kind; one whose text is blank counts if `blank` says so.
-pub fn is_kind(source: &[u8], tape: &[u8], i: usize, kind: u8, blank: bool) -> bool
-    requires { Spanned source.now tape.now i }
-    ensures { result ≡ is_kind kind blank (node_at source.now tape.now i) }
-{
-    if tape::kind_at(tape, i) != kind {
-        return false;
-    }
-    if blank {
-        return true;
-    }
-    !text::is_blank_text(text(source, tape, i))
 }

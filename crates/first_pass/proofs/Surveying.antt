@@ -33,9 +33,10 @@ use Rattle.pieces.specs.declared.Piece.TheVariants as found
 use Rattle.pieces.specs.Shown.{shown, bytes_of}
 use Rattle.pieces.specs.Depth.{depth_after}
 use Rattle.pieces.specs.Closes.{is_inline, OwnClose}
+use Rattle.pieces.proofs.Sizes.{depth-few}
 use Rattle.pieces.proofs.Places.{rest_is, rest-length, found_here, here-size, goes_on, next-inside, next-made}
 use Rattle.first_pass.specs.Counted.{one, run_count, nodes_in, block_after, innermost_place, block_fault, piece_fault, place_kept, Windowed, ReadyFor, Nameable, InnermostClosed}
-use Rattle.first_pass.proofs.Windows.{Onward, onward, depth-piece, depth-few, kept-long, kept_piece}
+use Rattle.first_pass.proofs.Windows.{Onward, onward, depth-piece, kept-long, kept_piece}
 
 abbrev pub is_some : Option ℕ → Bool
 is_some None = false

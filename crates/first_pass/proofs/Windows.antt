@@ -19,6 +19,7 @@ use Rattle.pieces.specs.declared.Piece.{Piece}
 use Rattle.pieces.specs.declared.Piece.TheVariants as found
 use Rattle.pieces.specs.Shown.{shown, bytes_of}
 use Rattle.pieces.specs.Depth.{depth_after}
+use Rattle.pieces.proofs.Sizes.{depth-few}
 use Rattle.pieces.proofs.Places.{found_here, here-size, goes_on, next-inside, next-made}
 use Rattle.first_pass.specs.Counted.{place_kept, Windowed}
 
@@ -33,16 +34,6 @@ depth-piece t l at (found.Verse m n) ps = refl
 depth-piece t l at (found.Inline m n) ps = omega arith
 depth-piece t l at (found.Milestone m n x y) ps = refl
 depth-piece t l at (found.Fault k) ps = refl
-
-pub depth-few : (p : Piece) (d : ℕ) → depth_after p d ≤ d + 1
-depth-few (found.Run n) d = omega arith
-depth-few (found.Close n) d = omega arith
-depth-few (found.Block m n) d = omega arith
-depth-few (found.Chapter m n) d = omega arith
-depth-few (found.Verse m n) d = omega arith
-depth-few (found.Inline m n) d = omega arith
-depth-few (found.Milestone m n x y) d = omega arith
-depth-few (found.Fault k) d = omega arith
 
 -- the window keeps its length
 pub kept-long : (w : List ℕ) (low d at : ℕ) (p : Piece) → length (place_kept w low d at p) ≡ length w

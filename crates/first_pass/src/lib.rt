@@ -82,6 +82,7 @@ fn fill_window(
 {
     let mut at: usize = 0;
     let mut depth: usize = 0;
+    // A while: the step is the piece's size.
     while at < to {
         let p = pieces::piece_at(table, index, entries, chains, &s[at..]);
         keep_place(p, at, depth, low, window);
@@ -193,6 +194,7 @@ fn survey_with(
     let mut depth: usize = 0;
     let mut low: usize = 0;
     let mut block = false;
+    // A while: the step is the piece's size.
     while at < s.len() {
         if let Some(n) = innermost_close(s, at, depth, low, window) {
             at += n;

@@ -21,6 +21,7 @@ ghost use Rattle.reader_spec.specs.Answer.{read_answer, nodes_after};
 ghost use Rattle.reader.specs.Read.{read_answer_of};
 ghost use Rattle.validate.specs.Entry.{lent};
 
+use cursor::Document;
 use definition::OpenStart;
 use mark::PaperMark;
 use messages::{MessageRequest, Texts};
@@ -180,22 +181,21 @@ fn write_held<'a>(
     table: &'a [u8],
     index: &[u64],
     entries: usize,
-    source: &'a [u8],
-    tape: &[u8],
+    doc: Document<'a>,
     a: Result<Report, Refusal>,
     list: &mut [u64],
     ends: &mut [u64],
     text: &mut [u8],
     out: &mut [u64],
 )
-    requires { (Indexed table.now index.now entries) × (Accepted source.now tape.now) × (length source.now ≤ 1048576) × (8 * held_of (answer_of a) ≤ length list.old) }
-    ensures answer { out.new ≡ over out.old 0 (answer_words (answer_of a) ++ messages_words (held_answer table.now source.now tape.now (held_in (answer_of a) list.old) (length text.old))) }
-    ensures text { text.new ≡ over text.old 0 (joined (texts_of table.now source.now tape.now (held_in (answer_of a) list.old) (length text.old))) }
-    ensures ends { ends.new ≡ over ends.old 0 (ends_from 0 (texts_of table.now source.now tape.now (held_in (answer_of a) list.old) (length text.old))) }
+    requires { (Indexed table.now index.now entries) × (Accepted doc.source.now doc.tape.now) × (length doc.source.now ≤ 1048576) × (8 * held_of (answer_of a) ≤ length list.old) }
+    ensures answer { out.new ≡ over out.old 0 (answer_words (answer_of a) ++ messages_words (held_answer table.now doc.entry.source.now doc.entry.tape.now (held_in (answer_of a) list.old) (length text.old))) }
+    ensures text { text.new ≡ over text.old 0 (joined (texts_of table.now doc.entry.source.now doc.entry.tape.now (held_in (answer_of a) list.old) (length text.old))) }
+    ensures ends { ends.new ≡ over ends.old 0 (ends_from 0 (texts_of table.now doc.entry.source.now doc.entry.tape.now (held_in (answer_of a) list.old) (length text.old))) }
     ensures list { list.new ≡ list.old }
 {
     let k = 8 * held(a) as usize;
-    let t = messages::messages_in(table, index, entries, source, tape, &list[..k], ends, text);
+    let t = messages::messages_in(table, index, entries, doc, &list[..k], ends, text);
     write_answer(a, out);
     write_messages_answer(Ok(t), 9, out);
 }
@@ -233,10 +233,9 @@ pub extern "C" fn harkoxin_report<'a>(
     match validate::check_input(table, &mut index, source, tape, seen.len(), opens.len()) {
         Err(r) => write_turned_back(r, out),
         Ok(entries) => {
-            let a = Ok(validate::passed(table, &index, entries, source, tape, seen, opens, list));
-            write_held(
-                table, &index, entries, source, tape, a, list, ends, text, out,
-            )
+            let doc = Document { source, tape };
+            let a = Ok(validate::passed(table, &index, entries, doc, seen, opens, list));
+            write_held(table, &index, entries, doc, a, list, ends, text, out)
         }
     }
 }

@@ -21,6 +21,7 @@ ghost use Rattle.validate.specs.Entry.{answer_of};
 ghost use Rattle.messages.specs.Message.{message_text};
 ghost use Rattle.messages.specs.Answer.{request_by};
 
+use cursor::Document;
 use messages::MessageRequest;
 use refusals::Refusal;
 use validate::Report;
@@ -262,15 +263,14 @@ fn write_shown<'a>(
     table: &'a [u8],
     index: &[u64],
     entries: usize,
-    source: &'a [u8],
-    tape: &[u8],
+    doc: Document<'a>,
     q: MessageRequest,
     text: &mut [u8],
 ) -> usize
-    requires { (Indexed table.now index.now entries) × (Accepted source.now tape.now) × (length source.now ≤ 1048576) }
-    ensures { ShownIn (message_shown (length text.old) (message_text table.now source.now tape.now (request_by q))) text.new result }
+    requires { (Indexed table.now index.now entries) × (Accepted doc.source.now doc.tape.now) × (length doc.source.now ≤ 1048576) }
+    ensures { ShownIn (message_shown (length text.old) (message_text table.now doc.entry.source.now doc.entry.tape.now (request_by q))) text.new result }
 {
-    match messages::message_in(table, index, entries, source, tape, q, text) {
+    match messages::message_in(table, index, entries, doc, q, text) {
         Ok(n) => n,
         Err(_) => 0,
     }
@@ -328,8 +328,7 @@ fn put_whole<'a>(
     table: &'a [u8],
     index: &[u64],
     entries: usize,
-    source: &'a [u8],
-    tape: &[u8],
+    doc: Document<'a>,
     list: &[u64],
     k: usize,
     lines: &[u32],
@@ -338,12 +337,12 @@ fn put_whole<'a>(
     out: &mut [u8],
     at: usize,
 ) -> usize
-    requires { (Listable table.now index.now entries source.now tape.now lines.now columns.now) × (k < whole_records list.now) × (length text.old ≤ farthest) × (at ≤ farthest) }
-    ensures { PutWhole (listed_finding (length text.old) table.now source.now tape.now (record_at list.now k)) out.old at out.new result }
+    requires { (Listable table.now index.now entries doc.source.now doc.tape.now lines.now columns.now) × (k < whole_records list.now) × (length text.old ≤ farthest) × (at ≤ farthest) }
+    ensures { PutWhole (listed_finding (length text.old) table.now doc.entry.source.now doc.entry.tape.now (record_at list.now k)) out.old at out.new result }
 {
     let q = messages::request_at(list, k);
-    let n = write_shown(table, index, entries, source, tape, q, text);
-    let f = listed_at(source, list, k, lines, columns);
+    let n = write_shown(table, index, entries, doc, q, text);
+    let f = listed_at(doc.source, list, k, lines, columns);
     let end = end_of(at, f, &text[..n]);
     if end <= out.len() {
         put_finding(out, at, f.severity, f.code, f.line, f.column, &text[..n]);
@@ -364,8 +363,7 @@ pub fn put_findings<'a>(
     table: &'a [u8],
     index: &[u64],
     entries: usize,
-    source: &'a [u8],
-    tape: &[u8],
+    doc: Document<'a>,
     list: &[u64],
     held: usize,
     from: usize,
@@ -374,14 +372,14 @@ pub fn put_findings<'a>(
     text: &mut [u8],
     out: &mut [u8],
 ) -> Piece
-    requires { (Listable table.now index.now entries source.now tape.now lines.now columns.now) × (held ≤ whole_records list.now) × (from ≤ held) × (length text.old ≤ farthest) × (length out.old ≤ farthest) }
-    ensures piece { Put (piece_of (listed_each (length text.old) table.now source.now tape.now (held_findings held list.now)) from (length out.old)) out.old 0 out.new result.end }
-    ensures next { result.next ≡ next_of (listed_each (length text.old) table.now source.now tape.now (held_findings held list.now)) from (length out.old) }
+    requires { (Listable table.now index.now entries doc.source.now doc.tape.now lines.now columns.now) × (held ≤ whole_records list.now) × (from ≤ held) × (length text.old ≤ farthest) × (length out.old ≤ farthest) }
+    ensures piece { Put (piece_of (listed_each (length text.old) table.now doc.entry.source.now doc.entry.tape.now (held_findings held list.now)) from (length out.old)) out.old 0 out.new result.end }
+    ensures next { result.next ≡ next_of (listed_each (length text.old) table.now doc.entry.source.now doc.entry.tape.now (held_findings held list.now)) from (length out.old) }
 {
     let mut at: usize = 0;
     for k in from..held {
         let end = put_whole(
-            table, index, entries, source, tape, list, k, lines, columns, text, out, at,
+            table, index, entries, doc, list, k, lines, columns, text, out, at,
         );
         if out.len() < end {
             return Piece { end: at, next: k };

@@ -14,7 +14,7 @@ use Rattle.tape.specs.Nodes.{node_at, kind_at, link_at, span, is_open, text_kind
 use Rattle.tape.specs.Forest.{Forest, end, leaf, node, forest}
 use Rattle.numbers.specs.Label.{numbered}
 use Rattle.cursor.specs.Inner.{Run, is_kind}
-use Rattle.cursor.specs.InTurn.{siblings}
+use Rattle.cursor.specs.InnerTurn.{siblings}
 use Rattle.cursor.proofs.InTurn.{reads-list}
 use Rattle.cursor.proofs.Runs.{run-children}
 use Rattle.attachment.specs.Attached.{plain}

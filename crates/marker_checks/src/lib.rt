@@ -24,7 +24,7 @@ ghost use Rattle.text.specs.Bytes.{equal, one_of, upper};
 ghost use Rattle.findings.specs.Inner.{Room, Wrote};
 
 use attachment::Attached;
-use cursor::Siblings;
+use cursor::{Document, Siblings};
 use findings::{
     BODY_PARAGRAPH_BEFORE_CHAPTER, Counts, DUPLICATE_ID, EMPTY_FIGURE, EMPTY_WORD_MARKER,
     INVALID_BOOK_CODE, MISPLACED_NUMBER_MARKER, MISSING_REQUIRED_ATTRIBUTE, NON_EMPTY_BLANK_LINE,
@@ -54,44 +54,42 @@ fn push_for_node(
 }
 
 // The first word of the first Text of a run; empty where there is none.
-pub fn book_code<'a, 'b>(source: &'a [u8], tape: &'b [u8], from: usize, to: usize) -> &'a [u8]
-    requires { Run source.now tape.now from to }
-    ensures { result.now ≡ book_code (forest source.now tape.now from to) }
+pub fn book_code<'a>(doc: Document<'a>, from: usize, to: usize) -> &'a [u8]
+    requires { Run doc.source.now doc.tape.now from to }
+    ensures { result.now ≡ book_code (forest doc.entry.source.now doc.entry.tape.now from to) }
 {
-    match Siblings::new(tape, from, to).find(|i| tape::kind_at(tape, *i) == tape::TEXT) {
-        Some(i) => text::first_word(cursor::text(source, tape, i)),
-        None => &source[..0],
+    match Siblings::new(doc.tape, from, to).find(|i| tape::kind_at(doc.tape, *i) == tape::TEXT) {
+        Some(i) => text::first_word(doc.text(i)),
+        None => &doc.source[..0],
     }
 }
 
 // Whether a node settles if a line has content: a marker, a chapter, a verse, or a text that isn't blank.
-fn settles(source: &[u8], tape: &[u8], i: usize) -> bool
-    requires { Spanned source.now tape.now i }
-    ensures { result ≡ settles (node_at source.now tape.now i) }
+fn settles(doc: Document<'_>, i: usize) -> bool
+    requires { Spanned doc.source.now doc.tape.now i }
+    ensures { result ≡ settles (node_at doc.entry.source.now doc.entry.tape.now i) }
 {
-    let kind = tape::kind_at(tape, i);
-    kind == tape::MARKER_OPEN
-        || numbers::is_numbered(kind)
-        || cursor::is_kind(source, tape, i, tape::TEXT, false)
+    let kind = tape::kind_at(doc.tape, i);
+    kind == tape::MARKER_OPEN || numbers::is_numbered(kind) || doc.is_kind(i, tape::TEXT, false)
 }
 
 // Whether a line has a text that isn't blank or a marker, before any verse or chapter.
-fn blank_line_has_inline_content(source: &[u8], tape: &[u8], from: usize, to: usize) -> bool
-    requires { Run source.now tape.now from to }
-    ensures { result ≡ inline_content (forest source.now tape.now from to) }
+fn blank_line_has_inline_content(doc: Document<'_>, from: usize, to: usize) -> bool
+    requires { Run doc.source.now doc.tape.now from to }
+    ensures { result ≡ inline_content (forest doc.entry.source.now doc.entry.tape.now from to) }
 {
-    match Siblings::new(tape, from, to).find(|i| settles(source, tape, *i)) {
-        Some(i) => !numbers::is_numbered(tape::kind_at(tape, i)),
+    match Siblings::new(doc.tape, from, to).find(|i| settles(doc, *i)) {
+        Some(i) => !numbers::is_numbered(tape::kind_at(doc.tape, i)),
         None => false,
     }
 }
 
 // Whether a run has a leaf of a kind; one whose text is blank counts if `blank` says so.
-fn has_leaf(source: &[u8], tape: &[u8], from: usize, to: usize, kind: u8, blank: bool) -> bool
-    requires { (Run source.now tape.now from to) × (is_open kind ≡ false) }
-    ensures { result ≡ has_leaf kind blank (forest source.now tape.now from to) }
+fn has_leaf(doc: Document<'_>, from: usize, to: usize, kind: u8, blank: bool) -> bool
+    requires { (Run doc.source.now doc.tape.now from to) × (is_open kind ≡ false) }
+    ensures { result ≡ has_leaf kind blank (forest doc.entry.source.now doc.entry.tape.now from to) }
 {
-    Siblings::new(tape, from, to).any(|i| cursor::is_kind(source, tape, i, kind, blank))
+    Siblings::new(doc.tape, from, to).any(|i| doc.is_kind(i, kind, blank))
 }
 
 fn is_book(code: &[u8]) -> bool
@@ -133,27 +131,26 @@ fn code_form(code: &[u8]) -> u64
 // The findings of node i if it is an `id`: `link` is the end of its children.
 fn id_findings(
     named: bool,
-    source: &[u8],
-    tape: &[u8],
+    doc: Document<'_>,
     i: usize,
     link: usize,
     rec: State,
     list: &mut [u64],
     c: Counts,
 ) -> Counts
-    requires { (i < count tape.now) × (Run source.now tape.now (i + 1) link) × Room c (given (id_checks named (state_of source.now tape.now [] [] rec) (book_code (forest source.now tape.now (i + 1) link)) (node_at source.now tape.now i))) }
-    ensures { Wrote (given (id_checks named (state_of source.now tape.now [] [] rec) (book_code (forest source.now tape.now (i + 1) link)) (node_at source.now tape.now i))) list.old c list.new result }
+    requires { (i < count doc.tape.now) × (Run doc.source.now doc.tape.now (i + 1) link) × Room c (given (id_checks named (state_of doc.source.now doc.tape.now [] [] rec) (book_code (forest doc.source.now doc.tape.now (i + 1) link)) (node_at doc.source.now doc.tape.now i))) }
+    ensures { Wrote (given (id_checks named (state_of doc.entry.source.now doc.entry.tape.now [] [] rec) (book_code (forest doc.entry.source.now doc.entry.tape.now (i + 1) link)) (node_at doc.entry.source.now doc.entry.tape.now i))) list.old c list.new result }
 {
     if !named {
         return c;
     }
-    let code = book_code(source, tape, i + 1, link);
+    let code = book_code(doc, i + 1, link);
     let e = Severity::Error;
-    let d = push_for_node(tape, i, rec.has_id, e, DUPLICATE_ID, 0, list, c);
+    let d = push_for_node(doc.tape, i, rec.has_id, e, DUPLICATE_ID, 0, list, c);
     let bad = is_bad_code(code);
     let form = code_form(code);
     let w = Severity::Warning;
-    push_for_node(tape, i, bad, w, INVALID_BOOK_CODE, form, list, d)
+    push_for_node(doc.tape, i, bad, w, INVALID_BOOK_CODE, form, list, d)
 }
 
 // Without a code the flag stays.
@@ -168,14 +165,14 @@ fn front_after(code: &[u8], before: bool) -> bool
 }
 
 // The record after a marker with the children from one node up to another.
-fn after_id(named: bool, source: &[u8], tape: &[u8], from: usize, to: usize, rec: State) -> State
-    requires { Run source.now tape.now from to }
-    ensures { result ≡ with_id named (book_code (forest source.now tape.now from to)) rec }
+fn after_id(named: bool, doc: Document<'_>, from: usize, to: usize, rec: State) -> State
+    requires { Run doc.source.now doc.tape.now from to }
+    ensures { result ≡ with_id named (book_code (forest doc.entry.source.now doc.entry.tape.now from to)) rec }
 {
     if !named {
         return rec;
     }
-    let front = front_after(book_code(source, tape, from, to), rec.front_matter);
+    let front = front_after(book_code(doc, from, to), rec.front_matter);
     State {
         has_id: true,
         front_matter: front,
@@ -201,11 +198,11 @@ fn outside_note(m: MarkerInfo, note: bool, name: &[u8]) -> bool
 }
 
 #[tactic(auto, unfolding(text::specs::Literal::ascii))]
-fn filled_blank_line(name: &[u8], source: &[u8], tape: &[u8], from: usize, to: usize) -> bool
-    requires { Run source.now tape.now from to }
-    ensures { result ≡ (equal name.now b_name && inline_content (forest source.now tape.now from to)) }
+fn filled_blank_line(name: &[u8], doc: Document<'_>, from: usize, to: usize) -> bool
+    requires { Run doc.source.now doc.tape.now from to }
+    ensures { result ≡ (equal name.now b_name && inline_content (forest doc.entry.source.now doc.entry.tape.now from to)) }
 {
-    text::equal(name, b"b") && blank_line_has_inline_content(source, tape, from, to)
+    text::equal(name, b"b") && blank_line_has_inline_content(doc, from, to)
 }
 
 fn before_chapter(m: MarkerInfo, rec: State) -> bool
@@ -215,21 +212,20 @@ fn before_chapter(m: MarkerInfo, rec: State) -> bool
 }
 
 // A number that isn't attached, by the table's name and the name as written.
-fn is_misplaced(name: &[u8], source: &[u8], tape: &[u8], i: usize, numbers: Attached) -> bool
-    requires { Spanned source.now tape.now i }
-    ensures { result ≡ (one_of number_markers name.now && (one_of number_markers (name_of (node_at source.now tape.now i).text) && not (among (start_at tape.now i) (starts_of numbers)))) }
+fn is_misplaced(name: &[u8], doc: Document<'_>, i: usize, numbers: Attached) -> bool
+    requires { Spanned doc.source.now doc.tape.now i }
+    ensures { result ≡ (one_of number_markers name.now && (one_of number_markers (name_of (node_at doc.entry.source.now doc.entry.tape.now i).text) && not (among (start_at doc.entry.tape.now i) (starts_of numbers)))) }
 {
     is_number_marker(name)
-        && is_number_marker(cursor::marker_name(source, tape, i))
-        && !attachment::is_attached(numbers, tape::start_at(tape, i))
+        && is_number_marker(doc.marker_name(i))
+        && !attachment::is_attached(numbers, tape::start_at(doc.tape, i))
 }
 
 // The findings about the place of node i, by its name in the table and the record after `id`. Its run ends at `to`.
 fn place_findings(
     name: &[u8],
     m: MarkerInfo,
-    source: &[u8],
-    tape: &[u8],
+    doc: Document<'_>,
     i: usize,
     to: usize,
     context: Context,
@@ -238,78 +234,98 @@ fn place_findings(
     list: &mut [u64],
     c: Counts,
 ) -> Counts
-    requires { (Run source.now tape.now i to) × (i < to) × (is_open (kind_at tape.now i) ≡ true) × (starts_of numbers ≡ starts_for (anchor_of source.now tape.now rec.anchor i) (forest source.now tape.now i to)) × Room c (given (place_checks name.now (entry_of_info m) (context_of context) (anchor_of source.now tape.now rec.anchor i) (state_of source.now tape.now [] [] rec) (node_at source.now tape.now i) (children_at source.now tape.now i) (forest source.now tape.now i to))) }
-    ensures { Wrote (given (place_checks name.now (entry_of_info m) (context_of context) (anchor_of source.now tape.now rec.anchor i) (state_of source.now tape.now [] [] rec) (node_at source.now tape.now i) (children_at source.now tape.now i) (forest source.now tape.now i to))) list.old c list.new result }
+    requires { (Run doc.source.now doc.tape.now i to) × (i < to) × (is_open (kind_at doc.tape.now i) ≡ true) × (starts_of numbers ≡ starts_for (anchor_of doc.source.now doc.tape.now rec.anchor i) (forest doc.source.now doc.tape.now i to)) × Room c (given (place_checks name.now (entry_of_info m) (context_of context) (anchor_of doc.source.now doc.tape.now rec.anchor i) (state_of doc.source.now doc.tape.now [] [] rec) (node_at doc.source.now doc.tape.now i) (children_at doc.source.now doc.tape.now i) (forest doc.source.now doc.tape.now i to))) }
+    ensures { Wrote (given (place_checks name.now (entry_of_info m) (context_of context) (anchor_of doc.entry.source.now doc.entry.tape.now rec.anchor i) (state_of doc.entry.source.now doc.entry.tape.now [] [] rec) (node_at doc.entry.source.now doc.entry.tape.now i) (children_at doc.entry.source.now doc.entry.tape.now i) (forest doc.entry.source.now doc.entry.tape.now i to))) list.old c list.new result }
 {
-    let link = tape::link_at(tape, i) as usize;
+    let link = tape::link_at(doc.tape, i) as usize;
     let outside = outside_note(m, context.in_note, name);
-    let filled = filled_blank_line(name, source, tape, i + 1, link);
+    let filled = filled_blank_line(name, doc, i + 1, link);
     let early = before_chapter(m, rec);
-    let misplaced = is_misplaced(name, source, tape, i, numbers);
+    let misplaced = is_misplaced(name, doc, i, numbers);
     let e = Severity::Error;
     let w = Severity::Warning;
-    let mut d = push_for_node(tape, i, outside, e, NOTE_SUBMARKER_OUTSIDE_NOTE, 0, list, c);
-    d = push_for_node(tape, i, filled, e, NON_EMPTY_BLANK_LINE, 0, list, d);
-    d = push_for_node(tape, i, early, e, BODY_PARAGRAPH_BEFORE_CHAPTER, 0, list, d);
-    push_for_node(tape, i, misplaced, w, MISPLACED_NUMBER_MARKER, 0, list, d)
+    let mut d = push_for_node(
+        doc.tape,
+        i,
+        outside,
+        e,
+        NOTE_SUBMARKER_OUTSIDE_NOTE,
+        0,
+        list,
+        c,
+    );
+    d = push_for_node(doc.tape, i, filled, e, NON_EMPTY_BLANK_LINE, 0, list, d);
+    d = push_for_node(
+        doc.tape,
+        i,
+        early,
+        e,
+        BODY_PARAGRAPH_BEFORE_CHAPTER,
+        0,
+        list,
+        d,
+    );
+    push_for_node(
+        doc.tape,
+        i,
+        misplaced,
+        w,
+        MISPLACED_NUMBER_MARKER,
+        0,
+        list,
+        d,
+    )
 }
 
 // A figure without text, or with blank text alone; attributes don't count.
 #[tactic(auto, unfolding(text::specs::Literal::ascii))]
-fn is_empty_figure(name: &[u8], source: &[u8], tape: &[u8], from: usize, to: usize) -> bool
-    requires { Run source.now tape.now from to }
-    ensures { result ≡ (equal name.now fig_name && not (has_text (forest source.now tape.now from to))) }
+fn is_empty_figure(name: &[u8], doc: Document<'_>, from: usize, to: usize) -> bool
+    requires { Run doc.source.now doc.tape.now from to }
+    ensures { result ≡ (equal name.now fig_name && not (has_text (forest doc.entry.source.now doc.entry.tape.now from to))) }
 {
-    text::equal(name, b"fig") && !has_leaf(source, tape, from, to, tape::TEXT, false)
+    text::equal(name, b"fig") && !has_leaf(doc, from, to, tape::TEXT, false)
 }
 
 // A `\\w` without text, but for blank text, without an attribute and without a marker.
 #[tactic(auto, using(crate::proofs::Children::markers_plain), unfolding(text::specs::Literal::ascii))]
-fn is_empty_word(name: &[u8], source: &[u8], tape: &[u8], from: usize, to: usize) -> bool
-    requires { Run source.now tape.now from to }
-    ensures { result ≡ (equal name.now w_name && not (has_content (forest source.now tape.now from to))) }
+fn is_empty_word(name: &[u8], doc: Document<'_>, from: usize, to: usize) -> bool
+    requires { Run doc.source.now doc.tape.now from to }
+    ensures { result ≡ (equal name.now w_name && not (has_content (forest doc.entry.source.now doc.entry.tape.now from to))) }
 {
     text::equal(name, b"w")
-        && !has_leaf(source, tape, from, to, tape::TEXT, false)
-        && !has_leaf(source, tape, from, to, tape::ATTRIBUTE, true)
-        && attachment::is_plain_text(source, tape, from, to)
+        && !has_leaf(doc, from, to, tape::TEXT, false)
+        && !has_leaf(doc, from, to, tape::ATTRIBUTE, true)
+        && attachment::is_plain_text(doc, from, to)
 }
 
 #[tactic(auto, unfolding(text::specs::Literal::ascii))]
-fn lacks_required_attributes(
-    name: &[u8],
-    source: &[u8],
-    tape: &[u8],
-    from: usize,
-    to: usize,
-) -> bool
-    requires { Run source.now tape.now from to }
-    ensures { result ≡ (equal name.now rb_name && not (has_attribute (forest source.now tape.now from to))) }
+fn lacks_required_attributes(name: &[u8], doc: Document<'_>, from: usize, to: usize) -> bool
+    requires { Run doc.source.now doc.tape.now from to }
+    ensures { result ≡ (equal name.now rb_name && not (has_attribute (forest doc.entry.source.now doc.entry.tape.now from to))) }
 {
-    text::equal(name, b"rb") && !has_leaf(source, tape, from, to, tape::ATTRIBUTE, true)
+    text::equal(name, b"rb") && !has_leaf(doc, from, to, tape::ATTRIBUTE, true)
 }
 
 // The findings about the children of node i, which end at `link`.
 fn content_findings(
     name: &[u8],
-    source: &[u8],
-    tape: &[u8],
+    doc: Document<'_>,
     i: usize,
     link: usize,
     list: &mut [u64],
     c: Counts,
 ) -> Counts
-    requires { (i < count tape.now) × (Run source.now tape.now (i + 1) link) × Room c (given (content_checks name.now (node_at source.now tape.now i) (forest source.now tape.now (i + 1) link))) }
-    ensures { Wrote (given (content_checks name.now (node_at source.now tape.now i) (forest source.now tape.now (i + 1) link))) list.old c list.new result }
+    requires { (i < count doc.tape.now) × (Run doc.source.now doc.tape.now (i + 1) link) × Room c (given (content_checks name.now (node_at doc.source.now doc.tape.now i) (forest doc.source.now doc.tape.now (i + 1) link))) }
+    ensures { Wrote (given (content_checks name.now (node_at doc.entry.source.now doc.entry.tape.now i) (forest doc.entry.source.now doc.entry.tape.now (i + 1) link))) list.old c list.new result }
 {
-    let figure = is_empty_figure(name, source, tape, i + 1, link);
-    let word = is_empty_word(name, source, tape, i + 1, link);
-    let attribute = lacks_required_attributes(name, source, tape, i + 1, link);
+    let figure = is_empty_figure(name, doc, i + 1, link);
+    let word = is_empty_word(name, doc, i + 1, link);
+    let attribute = lacks_required_attributes(name, doc, i + 1, link);
     let e = Severity::Error;
-    let mut d = push_for_node(tape, i, figure, e, EMPTY_FIGURE, 0, list, c);
-    d = push_for_node(tape, i, word, e, EMPTY_WORD_MARKER, 0, list, d);
+    let mut d = push_for_node(doc.tape, i, figure, e, EMPTY_FIGURE, 0, list, c);
+    d = push_for_node(doc.tape, i, word, e, EMPTY_WORD_MARKER, 0, list, d);
     push_for_node(
-        tape,
+        doc.tape,
         i,
         attribute,
         e,
@@ -324,18 +340,17 @@ fn content_findings(
 #[tactic(auto, unfolding(text::specs::Literal::ascii))]
 fn row_findings(
     name: &[u8],
-    source: &[u8],
-    tape: &[u8],
+    doc: Document<'_>,
     from: usize,
     to: usize,
     list: &mut [u64],
     c: Counts,
 ) -> Counts
-    requires { (Run source.now tape.now from to) × Room c (pick (equal name.now tr_name) (row_findings (forest source.now tape.now from to)) []) }
-    ensures { Wrote (pick (equal name.now tr_name) (row_findings (forest source.now tape.now from to)) []) list.old c list.new result }
+    requires { (Run doc.source.now doc.tape.now from to) × Room c (pick (equal name.now tr_name) (row_findings (forest doc.source.now doc.tape.now from to)) []) }
+    ensures { Wrote (pick (equal name.now tr_name) (row_findings (forest doc.entry.source.now doc.entry.tape.now from to)) []) list.old c list.new result }
 {
     if text::equal(name, b"tr") {
-        return rows::validate_table_row(source, tape, from, to, list, c);
+        return rows::validate_table_row(doc, from, to, list, c);
     }
     c
 }
@@ -344,8 +359,7 @@ fn row_findings(
 pub fn visit_marker(
     table: &[u8],
     m: MarkerInfo,
-    source: &[u8],
-    tape: &[u8],
+    doc: Document<'_>,
     i: usize,
     to: usize,
     context: Context,
@@ -353,31 +367,29 @@ pub fn visit_marker(
     rec: State,
     list: &mut [u64],
 ) -> State
-    requires { (m.name_start + m.name_len ≤ length table.now) × (Run source.now tape.now i to) × (i < to) × (is_open (kind_at tape.now i) ≡ true) × (starts_of numbers ≡ starts_for (anchor_of source.now tape.now rec.anchor i) (forest source.now tape.now i to)) × Room (counts_of rec) (own_at table.now source.now tape.now (context_of context) (anchor_of source.now tape.now rec.anchor i) (entry_of_info m) i to rec) }
-    ensures { MarkerVisited table.now source.now tape.now (context_of context) (anchor_of source.now tape.now rec.anchor i) (entry_of_info m) i to list.old rec list.new result }
+    requires { (m.name_start + m.name_len ≤ length table.now) × (Run doc.source.now doc.tape.now i to) × (i < to) × (is_open (kind_at doc.tape.now i) ≡ true) × (starts_of numbers ≡ starts_for (anchor_of doc.source.now doc.tape.now rec.anchor i) (forest doc.source.now doc.tape.now i to)) × Room (counts_of rec) (own_at table.now doc.source.now doc.tape.now (context_of context) (anchor_of doc.source.now doc.tape.now rec.anchor i) (entry_of_info m) i to rec) }
+    ensures { MarkerVisited table.now doc.entry.source.now doc.entry.tape.now (context_of context) (anchor_of doc.entry.source.now doc.entry.tape.now rec.anchor i) (entry_of_info m) i to list.old rec list.new result }
 {
     let name = table::name(table, m);
-    let link = tape::link_at(tape, i) as usize;
+    let link = tape::link_at(doc.tape, i) as usize;
     let from = i + 1;
     let named = text::equal(name, b"id");
-    let next = after_id(named, source, tape, from, link, rec);
+    let next = after_id(named, doc, from, link, rec);
     let mut c = state::counts(rec);
-    c = id_findings(named, source, tape, i, link, rec, list, c);
-    c = place_findings(
-        name, m, source, tape, i, to, context, numbers, next, list, c,
-    );
-    c = content_findings(name, source, tape, i, link, list, c);
-    c = row_findings(name, source, tape, from, link, list, c);
-    c = attributes::validate_attributes(source, tape, from, link, i, list, c);
+    c = id_findings(named, doc, i, link, rec, list, c);
+    c = place_findings(name, m, doc, i, to, context, numbers, next, list, c);
+    c = content_findings(name, doc, i, link, list, c);
+    c = row_findings(name, doc, from, link, list, c);
+    c = attributes::validate_attributes(doc, from, link, i, list, c);
     state::with_counts(next, c)
 }
 
 // Whether a run has Texts alone.
-fn has_only_texts(source: &[u8], tape: &[u8], from: usize, to: usize) -> bool
-    requires { Run source.now tape.now from to }
-    ensures { result ≡ only_texts (forest source.now tape.now from to) }
+fn has_only_texts(doc: Document<'_>, from: usize, to: usize) -> bool
+    requires { Run doc.source.now doc.tape.now from to }
+    ensures { result ≡ only_texts (forest doc.entry.source.now doc.entry.tape.now from to) }
 {
-    Siblings::new(tape, from, to).all(|i| tape::kind_at(tape, i) == tape::TEXT)
+    Siblings::new(doc.tape, from, to).all(|i| tape::kind_at(doc.tape, i) == tape::TEXT)
 }
 
 // Whether there is a check for markers of this name.
@@ -409,16 +421,15 @@ fn is_placed(m: MarkerInfo, context: Context, chapter: bool) -> bool
 pub fn can_skip_marker(
     table: &[u8],
     m: MarkerInfo,
-    source: &[u8],
-    tape: &[u8],
+    doc: Document<'_>,
     i: usize,
     context: Context,
     chapter: bool,
 ) -> bool
-    requires { (m.name_start + m.name_len ≤ length table.now) × (i < count tape.now) × (Run source.now tape.now (i + 1) (link_at tape.now i)) }
-    ensures { result ≡ can_skip_marker_at table.now source.now tape.now (context_of context) (entry_of_info m) i chapter }
+    requires { (m.name_start + m.name_len ≤ length table.now) × (i < count doc.tape.now) × (Run doc.source.now doc.tape.now (i + 1) (link_at doc.tape.now i)) }
+    ensures { result ≡ can_skip_marker_at table.now doc.entry.source.now doc.entry.tape.now (context_of context) (entry_of_info m) i chapter }
 {
     is_placed(m, context, chapter)
-        && has_only_texts(source, tape, i + 1, tape::link_at(tape, i) as usize)
+        && has_only_texts(doc, i + 1, tape::link_at(doc.tape, i) as usize)
         && !has_own_check(table::name(table, m))
 }

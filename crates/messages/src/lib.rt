@@ -25,6 +25,7 @@ ghost use Rattle.message_texts.specs.Inner.{WrittenFrom};
 ghost use Rattle.table.specs.Inner.{Indexed};
 ghost use Rattle.messages.specs.Answer.{request_by, message_answer_of};
 
+use cursor::Document;
 use findings::{
     BODY_PARAGRAPH_BEFORE_CHAPTER, DEFAULT_ATTRIBUTE_NOT_DEFINED, DUPLICATE_CHAPTER,
     INVALID_BOOK_CODE, INVALID_CHAPTER_SEQUENCE, INVALID_TABLE_COLUMN_SEQUENCE,
@@ -56,55 +57,49 @@ pub struct Texts {
 fn shows_entry(code: u64) -> bool
     ensures { result ≡ is_tables code }
 {
-    if code == NOTE_SUBMARKER_OUTSIDE_NOTE {
-        return true;
-    }
-    if code == MISSING_REQUIRED_ATTRIBUTE {
-        return true;
-    }
-    code == BODY_PARAGRAPH_BEFORE_CHAPTER
+    code == NOTE_SUBMARKER_OUTSIDE_NOTE
+        || code == MISSING_REQUIRED_ATTRIBUTE
+        || code == BODY_PARAGRAPH_BEFORE_CHAPTER
 }
 
 // The name that a text shows: the table's or the source's, by code; empty where the table has none.
-fn name_shown<'a, 'b, 'c>(
+fn name_shown<'a, 'b>(
     table: &'a [u8],
     index: &'b [u64],
     entries: usize,
-    source: &'a [u8],
-    tape: &'c [u8],
+    doc: Document<'a>,
     i: usize,
     code: u64,
 ) -> &'a [u8]
-    requires { (Indexed table.now index.now entries) × Spanned source.now tape.now i }
-    ensures { result.now ≡ pick (is_tables code) (name_or table.now (info_at table.now tape.now i)) (name_of (node_at source.now tape.now i).text) }
+    requires { (Indexed table.now index.now entries) × Spanned doc.source.now doc.tape.now i }
+    ensures { result.now ≡ pick (is_tables code) (name_or table.now (info_at table.now doc.entry.tape.now i)) (name_of (node_at doc.entry.source.now doc.entry.tape.now i).text) }
 {
     if !shows_entry(code) {
-        return cursor::marker_name(source, tape, i);
+        return doc.marker_name(i);
     }
-    match cursor::marker_info(table, index, entries, tape, i) {
+    match cursor::marker_info(table, index, entries, doc.tape, i) {
         Some(m) => table::name(table, m),
         None => &table[..0],
     }
 }
 
 // The label of a Chapter or a Verse; empty for any other node.
-fn label_shown<'a, 'b, 'c, 'd>(
+fn label_shown<'a, 'b, 'c>(
     table: &'b [u8],
     index: &'c [u64],
     entries: usize,
-    source: &'a [u8],
-    tape: &'d [u8],
+    doc: Document<'a>,
     i: usize,
 ) -> &'a [u8]
-    requires { DocumentNode table.now index.now entries source.now tape.now i }
-    ensures { result.now ≡ pick (numbered (kind_at tape.now i)) (label_of (info_at table.now tape.now i) (node_at source.now tape.now i).text) [] }
+    requires { DocumentNode table.now index.now entries doc.source.now doc.tape.now i }
+    ensures { result.now ≡ pick (numbered (kind_at doc.entry.tape.now i)) (label_of (info_at table.now doc.entry.tape.now i) (node_at doc.entry.source.now doc.entry.tape.now i).text) [] }
 {
-    if !numbers::is_numbered(tape::kind_at(tape, i)) {
-        return &source[..0];
+    if !numbers::is_numbered(tape::kind_at(doc.tape, i)) {
+        return &doc.source[..0];
     }
     numbers::number_label(
-        cursor::marker_info(table, index, entries, tape, i),
-        cursor::text(source, tape, i),
+        cursor::marker_info(table, index, entries, doc.tape, i),
+        doc.text(i),
     )
 }
 
@@ -146,18 +141,17 @@ fn write_verse(
     table: &[u8],
     index: &[u64],
     entries: usize,
-    source: &[u8],
-    tape: &[u8],
+    doc: Document<'_>,
     q: MessageRequest,
     out: &mut [u8],
 ) -> Option<usize>
-    requires { (DocumentNode table.now index.now entries source.now tape.now q.node) × (q.code ≡ invalid_verse_sequence) }
-    ensures { WrittenBy table.now source.now tape.now (request_by q) out.old out.new result }
+    requires { (DocumentNode table.now index.now entries doc.source.now doc.tape.now q.node) × (q.code ≡ invalid_verse_sequence) }
+    ensures { WrittenBy table.now doc.entry.source.now doc.entry.tape.now (request_by q) out.old out.new result }
 {
     if 127 < q.second {
         return None;
     }
-    let label = label_shown(table, index, entries, source, tape, q.node as usize);
+    let label = label_shown(table, index, entries, doc, q.node as usize);
     if label.len() == 0 {
         return None;
     }
@@ -169,15 +163,14 @@ fn write_label(
     table: &[u8],
     index: &[u64],
     entries: usize,
-    source: &[u8],
-    tape: &[u8],
+    doc: Document<'_>,
     q: MessageRequest,
     out: &mut [u8],
 ) -> Option<usize>
-    requires { (DocumentNode table.now index.now entries source.now tape.now q.node) × (is_labels q.code ≡ true) }
-    ensures { WrittenBy table.now source.now tape.now (request_by q) out.old out.new result }
+    requires { (DocumentNode table.now index.now entries doc.source.now doc.tape.now q.node) × (is_labels q.code ≡ true) }
+    ensures { WrittenBy table.now doc.entry.source.now doc.entry.tape.now (request_by q) out.old out.new result }
 {
-    let label = label_shown(table, index, entries, source, tape, q.node as usize);
+    let label = label_shown(table, index, entries, doc, q.node as usize);
     if label.len() == 0 {
         return None;
     }
@@ -198,24 +191,23 @@ fn write_glued<'a>(
     table: &'a [u8],
     index: &[u64],
     entries: usize,
-    source: &'a [u8],
-    tape: &[u8],
+    doc: Document<'a>,
     q: MessageRequest,
     out: &mut [u8],
 ) -> Option<usize>
-    requires { (DocumentNode table.now index.now entries source.now tape.now q.node) × (q.code ≡ missing_space_before_number) }
-    ensures { WrittenBy table.now source.now tape.now (request_by q) out.old out.new result }
+    requires { (DocumentNode table.now index.now entries doc.source.now doc.tape.now q.node) × (q.code ≡ missing_space_before_number) }
+    ensures { WrittenBy table.now doc.entry.source.now doc.entry.tape.now (request_by q) out.old out.new result }
 {
     let i = q.node as usize;
-    if !numbers::is_numbered(tape::kind_at(tape, i)) {
+    if !numbers::is_numbered(tape::kind_at(doc.tape, i)) {
         return None;
     }
-    let info = cursor::marker_info(table, index, entries, tape, i);
-    let text = cursor::text(source, tape, i);
+    let info = cursor::marker_info(table, index, entries, doc.tape, i);
+    let text = doc.text(i);
     if !numbers::is_glued(info, text) {
         return None;
     }
-    let name = name_shown(table, index, entries, source, tape, i, q.code);
+    let name = name_shown(table, index, entries, doc, i, q.code);
     let label = numbers::number_label(info, text);
     write_parts(q.code, q.form, name, label, out)
 }
@@ -225,19 +217,18 @@ fn write_entry<'a>(
     table: &'a [u8],
     index: &[u64],
     entries: usize,
-    source: &'a [u8],
-    tape: &[u8],
+    doc: Document<'a>,
     q: MessageRequest,
     out: &mut [u8],
 ) -> Option<usize>
-    requires { (DocumentNode table.now index.now entries source.now tape.now q.node) × (is_tables q.code ≡ true) }
-    ensures { WrittenBy table.now source.now tape.now (request_by q) out.old out.new result }
+    requires { (DocumentNode table.now index.now entries doc.source.now doc.tape.now q.node) × (is_tables q.code ≡ true) }
+    ensures { WrittenBy table.now doc.entry.source.now doc.entry.tape.now (request_by q) out.old out.new result }
 {
     if q.node == 0 {
         return None;
     }
     let i = q.node as usize;
-    let name = name_shown(table, index, entries, source, tape, i, q.code);
+    let name = name_shown(table, index, entries, doc, i, q.code);
     if name.len() == 0 {
         return None;
     }
@@ -249,19 +240,18 @@ fn write_base<'a>(
     table: &'a [u8],
     index: &[u64],
     entries: usize,
-    source: &'a [u8],
-    tape: &[u8],
+    doc: Document<'a>,
     q: MessageRequest,
     out: &mut [u8],
 ) -> Option<usize>
-    requires { (DocumentNode table.now index.now entries source.now tape.now q.node) × (q.code ≡ milestone_mismatch) }
-    ensures { WrittenBy table.now source.now tape.now (request_by q) out.old out.new result }
+    requires { (DocumentNode table.now index.now entries doc.source.now doc.tape.now q.node) × (q.code ≡ milestone_mismatch) }
+    ensures { WrittenBy table.now doc.entry.source.now doc.entry.tape.now (request_by q) out.old out.new result }
 {
     if q.node == 0 {
         return None;
     }
     let i = q.node as usize;
-    let name = name_shown(table, index, entries, source, tape, i, q.code);
+    let name = name_shown(table, index, entries, doc, i, q.code);
     if !is_paired(name) {
         return None;
     }
@@ -279,10 +269,7 @@ fn write_base<'a>(
 fn is_paired(name: &[u8]) -> bool
     ensures { result ≡ (ends_in 0x73 name.now || ends_in 0x65 name.now) }
 {
-    if milestones::ends_in(name, b's') {
-        return true;
-    }
-    milestones::ends_in(name, b'e')
+    milestones::ends_in(name, b's') || milestones::ends_in(name, b'e')
 }
 
 // DefaultAttributeNotDefined.
@@ -290,22 +277,21 @@ fn write_owner<'a>(
     table: &'a [u8],
     index: &[u64],
     entries: usize,
-    source: &'a [u8],
-    tape: &[u8],
+    doc: Document<'a>,
     q: MessageRequest,
     out: &mut [u8],
 ) -> Option<usize>
-    requires { (DocumentNode table.now index.now entries source.now tape.now q.node) × (q.code ≡ default_attribute_not_defined) }
-    ensures { WrittenBy table.now source.now tape.now (request_by q) out.old out.new result }
+    requires { (DocumentNode table.now index.now entries doc.source.now doc.tape.now q.node) × (q.code ≡ default_attribute_not_defined) }
+    ensures { WrittenBy table.now doc.entry.source.now doc.entry.tape.now (request_by q) out.old out.new result }
 {
     if q.first == 0 {
         return None;
     }
-    if tape.len() as u64 / 16 <= q.first {
+    if doc.tape.len() as u64 / 16 <= q.first {
         return None;
     }
     let i = q.first as usize;
-    let name = name_shown(table, index, entries, source, tape, i, q.code);
+    let name = name_shown(table, index, entries, doc, i, q.code);
     message_texts::write_text(q.code, q.form, name, b"", b"", out)
 }
 
@@ -325,19 +311,18 @@ fn write_number<'a>(
     table: &'a [u8],
     index: &[u64],
     entries: usize,
-    source: &'a [u8],
-    tape: &[u8],
+    doc: Document<'a>,
     q: MessageRequest,
     out: &mut [u8],
 ) -> Option<usize>
-    requires { (DocumentNode table.now index.now entries source.now tape.now q.node) × (q.code ≡ misplaced_number_marker) }
-    ensures { WrittenBy table.now source.now tape.now (request_by q) out.old out.new result }
+    requires { (DocumentNode table.now index.now entries doc.source.now doc.tape.now q.node) × (q.code ≡ misplaced_number_marker) }
+    ensures { WrittenBy table.now doc.entry.source.now doc.entry.tape.now (request_by q) out.old out.new result }
 {
     if q.node == 0 {
         return None;
     }
     let i = q.node as usize;
-    let name = name_shown(table, index, entries, source, tape, i, q.code);
+    let name = name_shown(table, index, entries, doc, i, q.code);
     if !marker_checks::is_number_marker(name) {
         return None;
     }
@@ -345,15 +330,15 @@ fn write_number<'a>(
 }
 
 // InvalidBookCode.
-fn write_book(source: &[u8], tape: &[u8], q: MessageRequest, out: &mut [u8]) -> Option<usize>
-    requires { (Accepted source.now tape.now) × (length source.now ≤ 1048576) × (q.node < count tape.now) × (q.code ≡ invalid_book_code) }
-    ensures { (table : List ℕ) → WrittenBy table source.now tape.now (request_by q) out.old out.new result }
+fn write_book(doc: Document<'_>, q: MessageRequest, out: &mut [u8]) -> Option<usize>
+    requires { (Accepted doc.source.now doc.tape.now) × (length doc.source.now ≤ 1048576) × (q.node < count doc.tape.now) × (q.code ≡ invalid_book_code) }
+    ensures { (table : List ℕ) → WrittenBy table doc.entry.source.now doc.entry.tape.now (request_by q) out.old out.new result }
 {
     let i = q.node as usize;
-    if tape::kind_at(tape, i) != tape::MARKER_OPEN {
+    if tape::kind_at(doc.tape, i) != tape::MARKER_OPEN {
         return None;
     }
-    let code = marker_checks::book_code(source, tape, i + 1, tape::link_at(tape, i) as usize);
+    let code = marker_checks::book_code(doc, i + 1, tape::link_at(doc.tape, i) as usize);
     if code.len() == 0 {
         return None;
     }
@@ -365,30 +350,29 @@ fn write_message<'a>(
     table: &'a [u8],
     index: &[u64],
     entries: usize,
-    source: &'a [u8],
-    tape: &[u8],
+    doc: Document<'a>,
     q: MessageRequest,
     out: &mut [u8],
 ) -> Option<usize>
-    requires { DocumentNode table.now index.now entries source.now tape.now q.node }
-    ensures { WrittenBy table.now source.now tape.now (request_by q) out.old out.new result }
+    requires { DocumentNode table.now index.now entries doc.source.now doc.tape.now q.node }
+    ensures { WrittenBy table.now doc.entry.source.now doc.entry.tape.now (request_by q) out.old out.new result }
 {
     let code = q.code;
     match code {
-        INVALID_BOOK_CODE => write_book(source, tape, q, out),
+        INVALID_BOOK_CODE => write_book(doc, q, out),
         INVALID_CHAPTER_SEQUENCE => write_numbers(code, q.form, q.first, q.second, out),
         DUPLICATE_CHAPTER => write_numbers(code, q.form, q.first, q.second, out),
-        INVALID_VERSE_SEQUENCE => write_verse(table, index, entries, source, tape, q, out),
-        NOTE_SUBMARKER_OUTSIDE_NOTE => write_entry(table, index, entries, source, tape, q, out),
-        LEADING_ZEROS => write_label(table, index, entries, source, tape, q, out),
-        MILESTONE_MISMATCH => write_base(table, index, entries, source, tape, q, out),
-        MISSING_REQUIRED_ATTRIBUTE => write_entry(table, index, entries, source, tape, q, out),
-        BODY_PARAGRAPH_BEFORE_CHAPTER => write_entry(table, index, entries, source, tape, q, out),
+        INVALID_VERSE_SEQUENCE => write_verse(table, index, entries, doc, q, out),
+        NOTE_SUBMARKER_OUTSIDE_NOTE => write_entry(table, index, entries, doc, q, out),
+        LEADING_ZEROS => write_label(table, index, entries, doc, q, out),
+        MILESTONE_MISMATCH => write_base(table, index, entries, doc, q, out),
+        MISSING_REQUIRED_ATTRIBUTE => write_entry(table, index, entries, doc, q, out),
+        BODY_PARAGRAPH_BEFORE_CHAPTER => write_entry(table, index, entries, doc, q, out),
         INVALID_TABLE_COLUMN_SEQUENCE => write_numbers(code, q.form, q.first, q.second, out),
-        DEFAULT_ATTRIBUTE_NOT_DEFINED => write_owner(table, index, entries, source, tape, q, out),
-        MISPLACED_NUMBER_MARKER => write_number(table, index, entries, source, tape, q, out),
-        MISSING_SPACE_BEFORE_NUMBER => write_glued(table, index, entries, source, tape, q, out),
-        UNREADABLE_VERSE_NUMBER => write_label(table, index, entries, source, tape, q, out),
+        DEFAULT_ATTRIBUTE_NOT_DEFINED => write_owner(table, index, entries, doc, q, out),
+        MISPLACED_NUMBER_MARKER => write_number(table, index, entries, doc, q, out),
+        MISSING_SPACE_BEFORE_NUMBER => write_glued(table, index, entries, doc, q, out),
+        UNREADABLE_VERSE_NUMBER => write_label(table, index, entries, doc, q, out),
         _ => message_texts::write_text(q.code, q.form, b"", b"", b"", out),
     }
 }
@@ -398,18 +382,17 @@ pub fn message_in<'a>(
     table: &'a [u8],
     index: &[u64],
     entries: usize,
-    source: &'a [u8],
-    tape: &[u8],
+    doc: Document<'a>,
     q: MessageRequest,
     out: &mut [u8],
 ) -> Result<usize, Refusal>
-    requires { (Indexed table.now index.now entries) × (Accepted source.now tape.now) × (length source.now ≤ 1048576) }
-    ensures { (message_answer_of result ≡ by_room (message_text table.now source.now tape.now (request_by q)) (length out.old)) × (out.new ≡ bytes_by None (message_text table.now source.now tape.now (request_by q)) out.old) }
+    requires { (Indexed table.now index.now entries) × (Accepted doc.source.now doc.tape.now) × (length doc.source.now ≤ 1048576) }
+    ensures { (message_answer_of result ≡ by_room (message_text table.now doc.entry.source.now doc.entry.tape.now (request_by q)) (length out.old)) × (out.new ≡ bytes_by None (message_text table.now doc.entry.source.now doc.entry.tape.now (request_by q)) out.old) }
 {
-    if tape.len() as u64 / 16 <= q.node {
+    if doc.tape.len() as u64 / 16 <= q.node {
         return Err(Reason::NoMessage.at(0));
     }
-    let Some(len) = write_message(table, index, entries, source, tape, q, out) else {
+    let Some(len) = write_message(table, index, entries, doc, q, out) else {
         return Err(Reason::NoMessage.at(0));
     };
     if out.len() < len {
@@ -431,7 +414,7 @@ pub fn message<'a>(
 {
     let mut index = [0u64; 512];
     let entries = validate::check_input(table, &mut index, source, tape, 65535, 65535)?;
-    message_in(table, &index, entries, source, tape, q, out)
+    message_in(table, &index, entries, Document { source, tape }, q, out)
 }
 
 // The request for the text of a record of a list.
@@ -454,22 +437,20 @@ pub fn messages_in<'a>(
     table: &'a [u8],
     index: &[u64],
     entries: usize,
-    source: &'a [u8],
-    tape: &[u8],
+    doc: Document<'a>,
     list: &[u64],
     ends: &mut [u64],
     out: &mut [u8],
 ) -> Texts
-    requires { (Indexed table.now index.now entries) × (Accepted source.now tape.now) × (length source.now ≤ 1048576) }
-    ensures answer { messages_answer_of (Ok result) ≡ answer_by_texts (text_at table.now source.now tape.now list.now) (whole_records list.now) (texts_of table.now source.now tape.now list.now (length out.old)) }
-    ensures bytes { out.new ≡ over out.old 0 (joined (texts_of table.now source.now tape.now list.now (length out.old))) }
-    ensures ends { ends.new ≡ over ends.old 0 (ends_from 0 (texts_of table.now source.now tape.now list.now (length out.old))) }
+    requires { (Indexed table.now index.now entries) × (Accepted doc.source.now doc.tape.now) × (length doc.source.now ≤ 1048576) }
+    ensures answer { messages_answer_of (Ok result) ≡ answer_by_texts (text_at table.now doc.entry.source.now doc.entry.tape.now list.now) (whole_records list.now) (texts_of table.now doc.entry.source.now doc.entry.tape.now list.now (length out.old)) }
+    ensures bytes { out.new ≡ over out.old 0 (joined (texts_of table.now doc.entry.source.now doc.entry.tape.now list.now (length out.old))) }
+    ensures ends { ends.new ≡ over ends.old 0 (ends_from 0 (texts_of table.now doc.entry.source.now doc.entry.tape.now list.now (length out.old))) }
 {
     let mut at: usize = 0;
-    let mut k: usize = 0;
-    while k < list.len() / 8 {
+    for k in 0..list.len() / 8 {
         let q = request_at(list, k);
-        match message_in(table, index, entries, source, tape, q, &mut out[at..]) {
+        match message_in(table, index, entries, doc, q, &mut out[at..]) {
             Err(stop) => {
                 return Texts {
                     records: k,
@@ -482,12 +463,11 @@ pub fn messages_in<'a>(
                 if k < ends.len() {
                     ends[k] = at as u64;
                 }
-                k += 1;
             }
         }
     }
     Texts {
-        records: k,
+        records: list.len() / 8,
         bytes: at,
         stop: None,
     }
@@ -508,5 +488,13 @@ pub fn messages<'a>(
 {
     let mut index = [0u64; 512];
     let entries = validate::check_input(table, &mut index, source, tape, 65535, 65535)?;
-    Ok(messages_in(table, &index, entries, source, tape, list, ends, out))
+    Ok(messages_in(
+        table,
+        &index,
+        entries,
+        Document { source, tape },
+        list,
+        ends,
+        out,
+    ))
 }

@@ -3,12 +3,13 @@
 use Prim.Native.Nat.{ℕ, ◌+◌, ◌-◌, ◌<◌, ◌≤◌}
 use native.Mathlib.Omega.{arith}
 use mathlib.Core.Path.{◌≡◌, sym, ap, ◌∙◌}
-use mathlib.Core.Bool.{Bool, true, false, and-true}
+use mathlib.Core.Bool.{Bool, true, false, ◌&&◌, and-true}
 use mathlib.Core.List.{List, [], ◌∷◌}
-use lib.Dec.{eqb}
+use native.Mathlib.Decide.{dec_le}
+use lib.Dec.{eqb, leb}
 use lib.ListN.{length, get_or, take, drop, length-take, length-drop, drop_of_length-le}
 use lib.Seq.{length-take-le, take-take}
-use borrow.Author.Tests.{eq-eqb, ne_eqb}
+use borrow.Author.Tests.{le-leb, lt-leb}
 use Rattle.text.specs.Pick.{cut}
 use Rattle.text.proofs.Rows.{place}
 use Rattle.tape.specs.Nodes.{node_at, span, start_at, len_at}
@@ -30,14 +31,14 @@ last-two name h =
     let z : length name ≤ length name - 1 + 1 = omega arith in
     place name (length name - 2) a ∙ rw e (rw (place name (length name - 1) b) (rw (drop_of_length-le name z)))
 
-module _ (name : List ℕ) (letter : ℕ) (h : 2 ≤ length name) where
-  pub no-hyphen : (get_or name (length name - 2) 0 ≡ 0x2D → ⊥) → false ≡ ends_in letter name
-  unfolding equal
-  no-hyphen g = rw (last-two name h, ne_eqb _ _ g)
-
-  pub hyphen : get_or name (length name - 2) 0 ≡ 0x2D → eqb (get_or name (length name - 1) 0) letter ≡ ends_in letter name
-  unfolding equal
-  hyphen g = rw (last-two name h, eq-eqb _ _ g) (sym (and-true (eqb (get_or name (length name - 1) 0) letter)))
+-- the last two bytes of a name
+pub ends_are : (name : List ℕ) (letter : ℕ) → ends_in letter name ≡ (leb 2 (length name) && (eqb (get_or name (length name - 2) 0) 0x2D && eqb (get_or name (length name - 1) 0) letter))
+unfolding equal
+ends_are name letter = go (dec_le 2 (length name))
+  where
+    go : Dec (2 ≤ length name) → equal (drop (length name - 2) name) (0x2D ∷ letter ∷ []) ≡ (leb 2 (length name) && (eqb (get_or name (length name - 2) 0) 0x2D && eqb (get_or name (length name - 1) 0) letter))
+    go (yes h) = rw (last-two name h, le-leb 2 (length name) h, and-true (eqb (get_or name (length name - 1) 0) letter))
+    go (no h) = rw (lt-leb 2 (length name) (omega arith)) (sym (too_short name letter (omega arith)))
 
 pub no-base : (name : List ℕ) → length name < 2 → [] ≡ base_in name
 no-base name h = let e : length name - 2 ≡ 0 = omega arith in rw e

@@ -14,6 +14,7 @@ ghost use Rattle.findings.specs.Codes.{milestone_mismatch, end_alone};
 ghost use Rattle.text.specs.Bytes.{equal};
 ghost use Rattle.findings.specs.Inner.{Room};
 
+use cursor::Document;
 use definition::OpenStart;
 use findings::Severity;
 use state::State;
@@ -27,38 +28,28 @@ pub enum MilestoneSide {
 }
 
 // Whether a name ends in a hyphen and the letter.
+#[tactic(auto, using(crate::proofs::Endings::ends_are))]
 pub fn ends_in(name: &[u8], letter: u8) -> bool
     ensures { result ≡ ends_in letter name.now }
 {
-    let n = name.len();
-    if n < 2 {
-        return false;
-    }
-    if name[n - 2] != b'-' {
-        return false;
-    }
-    name[n - 1] == letter
+    matches!(name, [.., b'-', last] if *last == letter)
 }
 
 // The base of a start or an end, `qt` of `qt-s`: its name without the last two bytes, a part of it.
 pub fn milestone_base(name: &[u8]) -> &[u8]
     ensures { result.now ≡ base_in name.now }
 {
-    let n = name.len();
-    if n < 2 {
-        return &name[..0];
-    }
-    &name[..n - 2]
+    &name[..name.len().saturating_sub(2)]
 }
 
 // What a marker whose category is milestone is, by its name.
-fn step_named(source: &[u8], tape: &[u8], i: usize) -> Option<MilestoneSide>
-    requires { (Spanned source.now tape.now i) × (i < 4294967296) }
-    ensures { ((e : Entry) → e.category ≡ milestone_category → step_means source.now result ≡ among_milestones e (node_at source.now tape.now i)) × (Placed source.now result) }
+fn step_named(doc: Document<'_>, i: usize) -> Option<MilestoneSide>
+    requires { (Spanned doc.source.now doc.tape.now i) × (i < 4294967296) }
+    ensures { ((e : Entry) → e.category ≡ milestone_category → step_means doc.entry.source.now result ≡ among_milestones e (node_at doc.entry.source.now doc.entry.tape.now i)) × (Placed doc.entry.source.now result) }
 {
-    let a = tape::start_at(tape, i) as usize;
-    let n = tape::len_at(tape, i) as usize;
-    let text = &source[a..a + n];
+    let a = tape::start_at(doc.tape, i) as usize;
+    let n = tape::len_at(doc.tape, i) as usize;
+    let text = &doc.source[a..a + n];
     let at = cursor::name_span(text);
     let b = at.start;
     let e = at.end;
@@ -76,20 +67,20 @@ fn step_named(source: &[u8], tape: &[u8], i: usize) -> Option<MilestoneSide>
 }
 
 // What a marker is. Most are no milestones, and their names aren't read.
-pub fn step_of(m: MarkerInfo, source: &[u8], tape: &[u8], i: usize) -> Option<MilestoneSide>
-    requires { (Spanned source.now tape.now i) × (i < 4294967296) }
-    ensures { (step_means source.now result ≡ among_milestones (entry_of_info m) (node_at source.now tape.now i)) × (Placed source.now result) }
+pub fn step_of(m: MarkerInfo, doc: Document<'_>, i: usize) -> Option<MilestoneSide>
+    requires { (Spanned doc.source.now doc.tape.now i) × (i < 4294967296) }
+    ensures { (step_means doc.entry.source.now result ≡ among_milestones (entry_of_info m) (node_at doc.entry.source.now doc.entry.tape.now i)) × (Placed doc.entry.source.now result) }
 {
     if state::is_of(m, table::MILESTONE) {
-        return step_named(source, tape, i);
+        return step_named(doc, i);
     }
     None
 }
 
 // Whether an open start has the base that stands at a place of the source; the length of its own is known, and most differ by it.
-fn has_base(source: &[u8], tape: &[u8], o: OpenStart, at: usize, len: usize) -> bool
-    requires { (Measured source.now tape.now o.node o.base_len) × (at + len ≤ length source.now) }
-    ensures { result ≡ equal (base_of (node_at source.now tape.now o.node)) (base_at source.now at len) }
+fn has_base(doc: Document<'_>, o: OpenStart, at: usize, len: usize) -> bool
+    requires { (Measured doc.source.now doc.tape.now o.node o.base_len) × (at + len ≤ length doc.source.now) }
+    ensures { result ≡ equal (base_of (node_at doc.entry.source.now doc.entry.tape.now o.node)) (base_at doc.entry.source.now at len) }
 {
     let n = o.base_len as usize;
     if n != len {
@@ -98,10 +89,10 @@ fn has_base(source: &[u8], tape: &[u8], o: OpenStart, at: usize, len: usize) -> 
     if n == 0 {
         return true;
     }
-    let from = cursor::name_at(source, tape, o.node as usize);
+    let from = doc.name_at(o.node as usize);
     let end = from + n;
     let to = at + len;
-    text::equal(&source[from..end], &source[at..to])
+    text::equal(&doc.source[from..end], &doc.source[at..to])
 }
 
 fn with_open(r: State, n: usize) -> State
@@ -131,21 +122,17 @@ fn push_end_alone(tape: &[u8], i: usize, rec: State, list: &mut [u64]) -> State
 
 // The latest of the first k open starts with the base that stands at a place of the source.
 fn nearest(
-    source: &[u8],
-    tape: &[u8],
+    doc: Document<'_>,
     opens: &mut [OpenStart],
     k: usize,
     at: usize,
     len: usize,
 ) -> Option<usize>
-    requires { (Opens source.now tape.now opens.old k) × (at + len ≤ length source.now) }
-    ensures { (opens.new ≡ opens.old) × (result ≡ nearest_in source.now tape.now opens.old k (base_at source.now at len)) }
+    requires { (Opens doc.source.now doc.tape.now opens.old k) × (at + len ≤ length doc.source.now) }
+    ensures { (opens.new ≡ opens.old) × (result ≡ nearest_in doc.entry.source.now doc.entry.tape.now opens.old k (base_at doc.entry.source.now at len)) }
 {
-    let mut j = k;
-    while 0 < j {
-        j -= 1;
-        let o = opens[j];
-        if has_base(source, tape, o, at, len) {
+    for j in (0..k).rev() {
+        if has_base(doc, opens[j], at, len) {
             return Some(j);
         }
     }
@@ -164,27 +151,21 @@ fn remove(opens: &mut [OpenStart], k: usize, at: usize)
     requires { (at < k) × (k ≤ length opens.old) }
     ensures { opens.new ≡ removed opens.old k at }
 {
-    let last = k - 1;
-    let mut i = at;
-    while i < last {
-        let next = i + 1;
-        let o = opens[next];
-        opens[i] = o;
-        i = next;
+    for i in at..k - 1 {
+        opens[i] = opens[i + 1];
     }
 }
 
 // How many open starts there are after a marker, of k before it: a start is one more, an end takes the latest of its base. None is an end
 // without an open start.
 fn pair(
-    source: &[u8],
-    tape: &[u8],
+    doc: Document<'_>,
     step: Option<MilestoneSide>,
     opens: &mut [OpenStart],
     k: usize,
 ) -> Option<usize>
-    requires { (Opens source.now tape.now opens.old k) × (k < length opens.old) × (Placed source.now step) }
-    ensures { (opens.new ≡ opens_by source.now tape.now opens.old k (step_means source.now step)) × (result ≡ paired_by source.now tape.now opens.old k (step_means source.now step)) }
+    requires { (Opens doc.source.now doc.tape.now opens.old k) × (k < length opens.old) × (Placed doc.source.now step) }
+    ensures { (opens.new ≡ opens_by doc.entry.source.now doc.entry.tape.now opens.old k (step_means doc.entry.source.now step)) × (result ≡ paired_by doc.entry.source.now doc.entry.tape.now opens.old k (step_means doc.entry.source.now step)) }
 {
     let Some(side) = step else {
         return Some(k);
@@ -195,7 +176,7 @@ fn pair(
             Some(k + 1)
         }
         MilestoneSide::End(at, len) => {
-            let j = nearest(source, tape, opens, k, at, len)?;
+            let j = nearest(doc, opens, k, at, len)?;
             remove(opens, k, j);
             Some(k - 1)
         }
@@ -222,17 +203,16 @@ pub fn after_pair(
 // The finding and the step of a marker: most are no milestones.
 pub fn milestone(
     m: MarkerInfo,
-    source: &[u8],
-    tape: &[u8],
+    doc: Document<'_>,
     i: usize,
     opens: &mut [OpenStart],
     rec: State,
     list: &mut [u64],
 ) -> State
-    requires { Steppable (entry_of_info m) source.now tape.now i opens.old rec }
-    ensures { Milestoned (entry_of_info m) source.now tape.now i opens.old list.old rec opens.new list.new result }
+    requires { Steppable (entry_of_info m) doc.source.now doc.tape.now i opens.old rec }
+    ensures { Milestoned (entry_of_info m) doc.entry.source.now doc.entry.tape.now i opens.old list.old rec opens.new list.new result }
 {
-    let step = step_of(m, source, tape, i);
-    let paired = pair(source, tape, step, opens, rec.open_len);
-    after_pair(tape, i, paired, rec, list)
+    let step = step_of(m, doc, i);
+    let paired = pair(doc, step, opens, rec.open_len);
+    after_pair(doc.tape, i, paired, rec, list)
 }

@@ -1,10 +1,10 @@
 -- What the functions store, part by part, is what their contracts say.
 -- Assumes nothing.
-use Prim.Native.Nat.{ℕ, zero, suc, ◌+◌, ◌*◌, ◌/◌, ◌%◌, ◌<◌, ◌≤◌}
+use Prim.Native.Nat.{ℕ, suc, ◌+◌, ◌*◌, ◌/◌, ◌%◌, ◌<◌, ◌≤◌}
 use native.Mathlib.Nat.{add-zero}
 use native.Mathlib.Omega.{arith}
 use native.Mathlib.Numerals.{towards_suc}
-use mathlib.Core.Path.{◌≡◌, refl, sym, ap, ◌∙◌}
+use mathlib.Core.Path.{◌≡◌, refl, ap, ◌∙◌}
 use mathlib.Core.List.{List, [], ◌∷◌, append_assoc}
 use lib.ListN.{length, set, take}
 use lib.Seq.{drop-drop}
@@ -12,11 +12,9 @@ use borrow.Rule.Slice.PartMut.{put_mid}
 use Rattle.std.specs.Int.{w16, w32, to_le_bytes}
 use Rattle.std.proofs.lemmas.List.Edits.{sets, sets-eq}
 use borrow.Author.Tests.{eq-eqb, ne_eqb}
-use Rattle.tape.specs.Nodes.{marker_at, link_at, text_kind, attribute_kind, block_end_kind}
+use Rattle.tape.specs.Nodes.{marker_at, link_at, block_end_kind}
 use Rattle.definition.specs.Examples.{row, four, tape_of}
-use Rattle.reader_spec.specs.Pass.{with_text, with_attribute}
-use Rattle.reader_spec.specs.Rows.{rows_from}
-use Rattle.reader_spec.specs.InnerWriting.{put_row, put_link, laid}
+use Rattle.reader_spec.specs.InnerWriting.{put_row, put_link}
 use Rattle.node_writer.specs.declared.Written.{Written}
 use Rattle.node_writer.specs.Written.{written, Ready, closed, after_close, block_ends, ended_block, after_block}
 
@@ -36,35 +34,6 @@ unfolding put_row tape_of
 row-stored w w0 w1 w2 w3 n k m a l x d e f g =
     let z : 16 * n + 12 ≡ suc (suc (suc (suc (suc (suc (suc (suc (suc (suc (suc (suc (16 * n)))))))))))) = omega arith in
     g ∙ rw (f, e, d, z) (simp towards_suc)
-
--- a Text and an Attribute: of no bytes, and of some
-module _ (w : List ℕ) (n at : ℕ) where
-  pub text-none : (len : ℕ) → len ≡ 0 → (w ≡ laid w n (rows_from n (with_text at len []))) × (n ≡ n + length (with_text at len []))
-  unfolding laid rows_from
-  text-none len e = rw e (refl, sym (add-zero n))
-
-  pub attribute-none : (len : ℕ) → len ≡ 0 → (w ≡ laid w n (rows_from n (with_attribute at len []))) × (n ≡ n + length (with_attribute at len []))
-  unfolding laid rows_from
-  attribute-none len e = rw e (refl, sym (add-zero n))
-
-  pub text-room : (len : ℕ) → (len ≡ 0 → ⊥) → 16 * (n + length (with_text at len [])) ≤ length w → 16 * n + 16 ≤ length w
-  text-room zero k h = absurd (k refl)
-  text-room (suc len) k h = omega arith
-
-  pub attribute-room : (len : ℕ) → (len ≡ 0 → ⊥) → 16 * (n + length (with_attribute at len [])) ≤ length w → 16 * n + 16 ≤ length w
-  attribute-room zero k h = absurd (k refl)
-  attribute-room (suc len) k h = omega arith
-
-  module _ (v : List ℕ) (r : ℕ) where
-    pub text-some : (len : ℕ) → (len ≡ 0 → ⊥) → (v ≡ put_row w n (row text_kind 0 at len 0)) × (r ≡ n + 1) → (v ≡ laid w n (rows_from n (with_text at len []))) × (r ≡ n + length (with_text at len []))
-    unfolding laid rows_from
-    text-some zero k e = absurd (k refl)
-    text-some (suc len) k e = e
-
-    pub attribute-some : (len : ℕ) → (len ≡ 0 → ⊥) → (v ≡ put_row w n (row attribute_kind 0 at len 0)) × (r ≡ n + 1) → (v ≡ laid w n (rows_from n (with_attribute at len []))) × (r ≡ n + length (with_attribute at len []))
-    unfolding laid rows_from
-    attribute-some zero k e = absurd (k refl)
-    attribute-some (suc len) k e = e
 
 -- a close, from what is read of the innermost open node before its link is set
 pub close-stored : (t t1 t2 : List ℕ) (w : Written) (kind at len m outer next : ℕ) → m ≡ marker_at t w.top → outer ≡ link_at t w.top → t1 ≡ put_link t w.top w.next → (t2 ≡ put_row t1 w.next (row kind m at len 0)) × (next ≡ w.next + 1) → (t2 ≡ closed t w kind at len) × (written next outer ≡ after_close t w)

@@ -1,8 +1,8 @@
 -- What the functions that write nodes need, and what they leave in the lent list.
-use Rattle.std.specs.Prelude.{ℕ, ◌+◌, ◌*◌, ◌<◌, ◌≤◌, List, eqb, length}
+use Rattle.std.specs.Prelude.{ℕ, ◌+◌, ◌*◌, ◌<◌, ◌≤◌, List, [], ◌∷◌, eqb, length}
 use Rattle.text.specs.Pick.{pick}
 use Rattle.tape.specs.Nodes.{marker_at, link_at, block_end_kind}
-use Rattle.definition.specs.Examples.{row}
+use Rattle.definition.specs.Examples.{Row, row}
 use Rattle.reader_spec.specs.InnerWriting.{put_row, put_link}
 use Rattle.node_writer.specs.declared.Written.{Written}
 
@@ -15,6 +15,10 @@ text_limit = 1048576
 
 abbrev pub node_limit : ℕ
 node_limit = 1048577
+
+-- a Text or an Attribute; of no bytes it is no node
+abbrev pub leaf_rows : ℕ → ℕ → ℕ → List Row
+leaf_rows kind at len = pick (eqb len 0) [] (row kind 0 at len 0 ∷ [])
 
 -- the list has room for k more nodes, whose bytes end in the text
 pub record Ready (t : List ℕ) (w : Written) (k end : ℕ) : Type 0 where

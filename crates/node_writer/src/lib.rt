@@ -5,10 +5,10 @@ ghost use Rattle.std.specs.Prelude.{◌≡◌, [], ◌+◌, ◌*◌, ◌≤◌, 
 ghost use Rattle.std.proofs.lemmas.List.Edits.{sets};
 ghost use Rattle.tape.specs.Nodes.{marker_open_kind};
 ghost use Rattle.definition.specs.Examples.{row, four};
-ghost use Rattle.reader_spec.specs.Pass.{with_text, with_attribute, milestone_nodes};
+ghost use Rattle.reader_spec.specs.Pass.{milestone_nodes};
 ghost use Rattle.reader_spec.specs.Rows.{rows_from};
 ghost use Rattle.reader_spec.specs.InnerWriting.{put_row, put_link, laid};
-ghost use Rattle.node_writer.specs.Written.{text_limit, Ready, written, closed, after_close, block_ends, ended_block, after_block};
+ghost use Rattle.node_writer.specs.Written.{text_limit, leaf_rows, Ready, written, closed, after_close, block_ends, ended_block, after_block};
 
 // Where the writing is: the next node's number, and the innermost open node, 0 for none. Until its close comes, the link of
 // an open node is the number of the open node around it, so that no list of open nodes is needed.
@@ -58,26 +58,16 @@ pub fn put_link(t: &mut [u8], o: usize, link: u32)
     put_four(t, 16 * o + 12, link);
 }
 
-// A Text as node n; of no bytes it is no node.
-pub fn put_text(t: &mut [u8], n: usize, at: usize, len: usize) -> usize
-    requires { (16 * (n + length (with_text at len [])) ≤ length t.old) × (at + len ≤ text_limit) }
-    ensures { (t.new ≡ laid t.old n (rows_from n (with_text at len []))) × (result ≡ n + length (with_text at len [])) }
+// A Text or an Attribute as node n; of no bytes it is no node.
+#[tactic(auto, unfolding(reader_spec::specs::InnerWriting::laid))]
+pub fn put_leaf(t: &mut [u8], n: usize, kind: u8, at: usize, len: usize) -> usize
+    requires { (16 * (n + length (leaf_rows kind at len)) ≤ length t.old) × (at + len ≤ text_limit) }
+    ensures { (t.new ≡ laid t.old n (leaf_rows kind at len)) × (result ≡ n + length (leaf_rows kind at len)) }
 {
     if len == 0 {
         return n;
     }
-    put_row(t, n, tape::TEXT, 0, at as u32, len as u32, 0)
-}
-
-// An Attribute as node n; of no bytes it is no node.
-pub fn put_attribute(t: &mut [u8], n: usize, at: usize, len: usize) -> usize
-    requires { (16 * (n + length (with_attribute at len [])) ≤ length t.old) × (at + len ≤ text_limit) }
-    ensures { (t.new ≡ laid t.old n (rows_from n (with_attribute at len []))) × (result ≡ n + length (with_attribute at len [])) }
-{
-    if len == 0 {
-        return n;
-    }
-    put_row(t, n, tape::ATTRIBUTE, 0, at as u32, len as u32, 0)
+    put_row(t, n, kind, 0, at as u32, len as u32, 0)
 }
 
 // A MarkerOpen, which is the innermost open node from now on.
@@ -94,10 +84,7 @@ pub fn put_open(t: &mut [u8], w: Written, m: u16, at: usize, len: usize) -> Writ
         len as u32,
         w.top as u32,
     );
-    Written {
-        next: next,
-        top: w.next,
-    }
+    Written { next, top: w.next }
 }
 
 // The close of the innermost open node, with its marker: a MarkerClose or a BlockEnd. The open node's link is read before it
@@ -111,7 +98,7 @@ pub fn put_close(t: &mut [u8], w: Written, kind: u8, at: usize, len: usize) -> W
     put_link(t, w.top, w.next as u32);
     let next = put_row(t, w.next, kind, m, at as u32, len as u32, 0);
     Written {
-        next: next,
+        next,
         top: outer as usize,
     }
 }
@@ -143,9 +130,9 @@ pub fn put_milestone(
 {
     let opened = put_open(t, w, m, at, n);
     let blanks = at + n;
-    let second = put_text(t, opened.next, blanks, x);
+    let second = put_leaf(t, opened.next, tape::TEXT, blanks, x);
     let bar = blanks + x;
-    let third = put_attribute(t, second, bar, y);
+    let third = put_leaf(t, second, tape::ATTRIBUTE, bar, y);
     put_close(
         t,
         Written {

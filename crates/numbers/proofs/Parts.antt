@@ -2,12 +2,12 @@
 -- Assumes nothing.
 use Prim.Native.Nat.{ℕ, suc, ◌+◌, ◌-◌, ◌<◌, ◌≤◌}
 use mathlib.Core.Path.{◌≡◌, refl, sym, ap, ◌∙◌}
-use mathlib.Core.Bool.{Bool, true, false, not, false≢true, ◌&&◌}
+use mathlib.Core.Bool.{Bool, true, false, not, false≢true}
 use mathlib.Core.List.{List, [], ◌∷◌}
 use Rattle.std.specs.Prelude.{Option, Some, None}
 use native.Mathlib.Omega.{arith}
-use borrow.Author.Tests.{lt-ltb, le-ltb, ltb-true, eq-eqb, ne_eqb}
-use lib.Dec.{leb, eqb}
+use borrow.Author.Tests.{lt-ltb, le-ltb, eq-eqb, ne_eqb}
+use lib.Dec.{eqb}
 use lib.ListN.{length, take, drop, get_or}
 use Rattle.text.specs.Pick.{within, cut, pick}
 use Rattle.text.specs.Characters.{find_byte}
@@ -15,8 +15,7 @@ use Rattle.text.specs.Words.{trim_start}
 use Rattle.text.specs.Number.{digit, digits}
 use Rattle.text.specs.Number as number
 use Rattle.text.proofs.Cuts.{rest_all}
-use Rattle.numbers.specs.declared.VersePart.{VersePart}
-use Rattle.numbers.specs.Verse.{Position, PartReading, position, no_digits, too_large, Readable, letter_of, with_letter, digits_end, part_of, verse_part, verse_end, next, next_position, no_earlier, other_number, in_sequence, position_of, is_letter_low}
+use Rattle.numbers.specs.Verse.{PartReading, position, no_digits, too_large, letter_of, with_letter, digits_end, part_of, verse_part, verse_end}
 
 -- the letter that a text begins with
 pub no-letter : (s : List ℕ) → length s ≡ 0 → None ≡ letter_of s

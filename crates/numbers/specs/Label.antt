@@ -5,7 +5,7 @@ use Rattle.text.specs.Pick.{cut, pick}
 use Rattle.text.specs.Characters.{is_boundary}
 use Rattle.text.specs.Words.{second_word}
 use Rattle.tape.specs.Nodes.{count, kind_at, span, chapter_kind, verse_kind}
-use Rattle.refusals.specs.Refusal.{Refusal, refuse, first_bad, split_label}
+use Rattle.refusals.specs.Refusal.{Refusal, first_bad, split_label}
 use Rattle.table.specs.Entries.{Entry}
 use Rattle.cursor.specs.Names.{name_of}
 use Rattle.cursor.specs.Info.{info_at}

@@ -16,7 +16,7 @@ ghost use Rattle.numbers.specs.Inner.{split_at, Labelled, LabelledBy, Usual, num
 ghost use Rattle.numbers.specs.Verse.{verse_part, verse_end, next, in_sequence, letter_of, no_earlier, other_number, suffix_of, position_of, read_of, Readable};
 ghost use Rattle.table.specs.Inner.{Indexed};
 
-use cursor::NameSpan;
+use cursor::{Document, NameSpan};
 use refusals::{Reason, Refusal};
 use table::MarkerInfo;
 
@@ -84,19 +84,7 @@ fn first_word_end(text: &[u8], at: NameSpan) -> usize
 fn is_usual(text: &[u8]) -> bool
     ensures { result ≡ true → Usual text.now }
 {
-    if text.len() < 4 {
-        return false;
-    }
-    if text[0] != b'\\' {
-        return false;
-    }
-    if !text::holds(text[1], b'a', b'z') {
-        return false;
-    }
-    if text[2] != b' ' {
-        return false;
-    }
-    text::holds(text[3], b'0', b'9')
+    matches!(text, [b'\\', b'a'..=b'z', b' ', b'0'..=b'9', ..])
 }
 
 // The label by its places, where the table's name has so many bytes. A number in place of the entry passes in a register.
@@ -155,17 +143,11 @@ fn is_split(text: &[u8], base: usize) -> bool
     ensures { result ≡ split_at (name_of text.now) base }
 {
     let b = cursor::name_start(text);
-    if text.len() - b <= base {
-        return false;
-    }
-    if text::is_char_boundary(text, b + base) {
+    if text.len() - b <= base || text::is_char_boundary(text, b + base) {
         return false;
     }
     let name = cursor::name_of(text);
-    if base < name.len() {
-        return !text::is_char_boundary(name, base);
-    }
-    false
+    base < name.len() && !text::is_char_boundary(name, base)
 }
 
 fn label_splits(info: Option<MarkerInfo>, text: &[u8]) -> bool
@@ -180,29 +162,18 @@ fn label_splits(info: Option<MarkerInfo>, text: &[u8]) -> bool
 pub fn is_numbered(kind: u8) -> bool
     ensures { result ≡ numbered kind }
 {
-    if kind == tape::CHAPTER {
-        true
-    } else {
-        kind == tape::VERSE
-    }
+    kind == tape::CHAPTER || kind == tape::VERSE
 }
 
-fn bad_label(
-    table: &[u8],
-    index: &[u64],
-    entries: usize,
-    source: &[u8],
-    tape: &[u8],
-    i: usize,
-) -> bool
-    requires { (Indexed table.now index.now entries) × (Spanned source.now tape.now i) }
-    ensures { result ≡ bad_label table.now source.now tape.now i }
+fn bad_label(table: &[u8], index: &[u64], entries: usize, doc: Document<'_>, i: usize) -> bool
+    requires { (Indexed table.now index.now entries) × (Spanned doc.source.now doc.tape.now i) }
+    ensures { result ≡ bad_label table.now doc.entry.source.now doc.entry.tape.now i }
 {
-    if !is_numbered(tape::kind_at(tape, i)) {
+    if !is_numbered(tape::kind_at(doc.tape, i)) {
         return false;
     }
-    let info = cursor::marker_info(table, index, entries, tape, i);
-    label_splits(info, cursor::text(source, tape, i))
+    let info = cursor::marker_info(table, index, entries, doc.tape, i);
+    label_splits(info, doc.text(i))
 }
 
 // The Chapters and Verses from one node up to another, in order, and how many they are. The kinds of nodes come in an
@@ -213,11 +184,9 @@ fn gather(tape: &[u8], from: usize, to: usize, found: &mut [usize]) -> usize
     ensures { (result ≤ length found.new) × (take result found.new ≡ numbers_in tape.now from (to - from)) }
 {
     let mut k: usize = 0;
-    let mut i = from;
-    while i < to {
+    for i in from..to {
         found[k] = i;
         k += tape::one_if(is_numbered(tape::kind_at(tape, i)));
-        i += 1;
     }
     k
 }
@@ -227,20 +196,16 @@ fn first_split(
     table: &[u8],
     index: &[u64],
     entries: usize,
-    source: &[u8],
-    tape: &[u8],
+    doc: Document<'_>,
     found: &[usize],
 ) -> Result<(), Refusal>
-    requires { (Indexed table.now index.now entries) × ((j : ℕ) → j < length found.now → Spanned source.now tape.now (get_or found.now j 0)) }
-    ensures { refusal_in result ≡ first_among (bad_label table.now source.now tape.now) found.now }
+    requires { (Indexed table.now index.now entries) × ((j : ℕ) → j < length found.now → Spanned doc.source.now doc.tape.now (get_or found.now j 0)) }
+    ensures { refusal_in result ≡ first_among (bad_label table.now doc.entry.source.now doc.entry.tape.now) found.now }
 {
-    let mut j: usize = 0;
-    while j < found.len() {
-        let i = found[j];
-        if bad_label(table, index, entries, source, tape, i) {
-            return Err(Reason::SplitLabel.at(i));
+    for i in found {
+        if bad_label(table, index, entries, doc, *i) {
+            return Err(Reason::SplitLabel.at(*i));
         }
-        j += 1;
     }
     Ok(())
 }
@@ -250,23 +215,16 @@ fn split_in(
     table: &[u8],
     index: &[u64],
     entries: usize,
-    source: &[u8],
-    tape: &[u8],
+    doc: Document<'_>,
     from: usize,
     to: usize,
 ) -> Result<(), Refusal>
-    requires { (Indexed table.now index.now entries) × (Accepted source.now tape.now) × (1 ≤ from) × (from ≤ to) × (to ≤ count tape.now) × (to ≤ from + 64) }
-    ensures { refusal_in result ≡ first_bad split_label (bad_label table.now source.now tape.now) from (to - from) }
+    requires { (Indexed table.now index.now entries) × (Accepted doc.source.now doc.tape.now) × (1 ≤ from) × (from ≤ to) × (to ≤ count doc.tape.now) × (to ≤ from + 64) }
+    ensures { refusal_in result ≡ first_bad split_label (bad_label table.now doc.entry.source.now doc.entry.tape.now) from (to - from) }
 {
     let mut found = [0usize; 65];
-    let k = gather(tape, from, to, &mut found);
-    first_split(table, index, entries, source, tape, &found[..k])
-}
-
-fn least(a: usize, b: usize) -> usize
-    ensures { result ≡ min a b }
-{
-    if a < b { a } else { b }
+    let k = gather(doc.tape, from, to, &mut found);
+    first_split(table, index, entries, doc, &found[..k])
 }
 
 // Number 9, over a tape that numbers 4 to 8 pass, by 64 nodes at a time.
@@ -274,17 +232,17 @@ pub fn label_check(
     table: &[u8],
     index: &[u64],
     entries: usize,
-    source: &[u8],
-    tape: &[u8],
+    doc: Document<'_>,
 ) -> Result<(), Refusal>
-    requires { (Indexed table.now index.now entries) × (Accepted source.now tape.now) }
-    ensures { refusal_in result ≡ label_refusal table.now source.now tape.now }
+    requires { (Indexed table.now index.now entries) × (Accepted doc.source.now doc.tape.now) }
+    ensures { refusal_in result ≡ label_refusal table.now doc.entry.source.now doc.entry.tape.now }
 {
-    let n = tape.len() / 16;
+    let n = doc.tape.len() / 16;
     let mut i: usize = 1;
+    // A while: it goes on by 64 nodes.
     while i < n {
-        let next = least(i + 64, n);
-        split_in(table, index, entries, source, tape, i, next)?;
+        let next = (i + 64).min(n);
+        split_in(table, index, entries, doc, i, next)?;
         i = next;
     }
     Ok(())

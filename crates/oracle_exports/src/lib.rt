@@ -23,6 +23,7 @@ ghost use Rattle.text.specs.Bytes.{one_of};
 ghost use Rattle.findings.specs.Inner.{count_limit};
 
 use attachment::Attached;
+use cursor::Document;
 use findings::Counts;
 use numbers::{Suffix, Unread, VersePart};
 use table::{BookId, MarkerId, MarkerInfo};
@@ -172,7 +173,7 @@ pub extern "C" fn compared_text(source: &[u8], tape: &[u8], i: usize, out: &mut 
     if !spanned(source, tape, i) {
         return 0;
     }
-    copy(cursor::text(source, tape, i), out)
+    copy(Document { source, tape }.text(i), out)
 }
 
 #[unsafe(no_mangle)]
@@ -185,7 +186,7 @@ pub extern "C" fn compared_marker_name(
     if !spanned(source, tape, i) {
         return 0;
     }
-    copy(cursor::marker_name(source, tape, i), out)
+    copy(Document { source, tape }.marker_name(i), out)
 }
 
 // A place, or `NONE`.
@@ -477,7 +478,7 @@ fn is_node(source: &[u8], tape: &[u8], i: usize) -> bool
 fn info_and_text<'a>(
     table: &[u8],
     source: &'a [u8],
-    tape: &[u8],
+    tape: &'a [u8],
     i: usize,
 ) -> Option<(Option<MarkerInfo>, &'a [u8])> {
     let index = index_of(table)?;
@@ -485,7 +486,7 @@ fn info_and_text<'a>(
         return None;
     }
     let info = cursor::marker_info(table, &index.words, index.entries, tape, i);
-    Some((info, cursor::text(source, tape, i)))
+    Some((info, Document { source, tape }.text(i)))
 }
 
 // The label of a node, read as that of a chapter or a verse, or nothing where `info_and_text` gives none.
@@ -518,7 +519,12 @@ pub extern "C" fn compared_label_check(table: &[u8], source: &[u8], tape: &[u8])
     if !accepted(source, tape) {
         return NONE;
     }
-    match numbers::label_check(table, &index.words, index.entries, source, tape) {
+    match numbers::label_check(
+        table,
+        &index.words,
+        index.entries,
+        Document { source, tape },
+    ) {
         Ok(()) => NONE,
         Err(r) => r.place as u64,
     }
@@ -567,7 +573,7 @@ pub extern "C" fn compared_row(source: &[u8], tape: &[u8], i: usize, list: &mut 
     let Some(to) = run_end(source, tape, i) else {
         return NONE;
     };
-    total_of(rows::validate_table_row(source, tape, i + 1, to, list, NO_COUNTS))
+    total_of(rows::validate_table_row(Document { source, tape }, i + 1, to, list, NO_COUNTS))
 }
 
 // The findings of an open node's attributes, and how many they are, or `NONE` where `run_end` gives none.
@@ -581,7 +587,14 @@ pub extern "C" fn compared_attributes(
     let Some(to) = run_end(source, tape, i) else {
         return NONE;
     };
-    total_of(attributes::validate_attributes(source, tape, i + 1, to, i, list, NO_COUNTS))
+    total_of(attributes::validate_attributes(
+        Document { source, tape },
+        i + 1,
+        to,
+        i,
+        list,
+        NO_COUNTS,
+    ))
 }
 
 // Where the siblings after a node of a run begin, or `None` if the node isn't one of its siblings.
@@ -637,7 +650,7 @@ fn after_anchor(source: &[u8], tape: &[u8], parent: usize, i: usize) -> Option<u
 fn attached(source: &[u8], tape: &[u8], parent: usize, i: usize) -> Option<Attached> {
     let from = after_anchor(source, tape, parent, i)?;
     let to = tape::link_at(tape, parent) as usize;
-    Some(attachment::attached_numbers(source, tape, tape::kind_at(tape, i), from, to))
+    Some(attachment::attached_numbers(Document { source, tape }, tape::kind_at(tape, i), from, to))
 }
 
 // The starts of the numbers attached to a chapter or a verse among a node's children, and how many they are, or `NONE` where

@@ -20,6 +20,7 @@ use Rattle.refusals.specs.Reasons.{number_of}
 use Rattle.pieces.specs.declared.Piece.{Piece}
 use Rattle.pieces.specs.declared.Piece.TheVariants as found
 use Rattle.pieces.specs.Shown.{shown, bytes_of}
+use Rattle.pieces.specs.Depth.{depth_after}
 
 pub shown-size : (t l : List ℕ) (p : Piece) → size_of (shown t l p) ≡ bytes_of p (length l)
 shown-size t l (found.Run n) = let h = byte_le (eqb bar) (take n l) in omega (arith, length-take n l)
@@ -42,6 +43,17 @@ module _ (t l : List ℕ) (p : Piece) (is : shown t l p ≡ piece_at t l) where
 
     pub piece_inside : bytes_of p (length l) ≤ length l
     piece_inside = rw piece-size (boundary-le l (size_of (piece_at t l)) (piece_cut t l sound made left).stops)
+
+-- a piece opens one character or note at the most
+pub depth-few : (p : Piece) (d : ℕ) → depth_after p d ≤ d + 1
+depth-few (found.Run n) d = omega arith
+depth-few (found.Close n) d = omega arith
+depth-few (found.Block m n) d = omega arith
+depth-few (found.Chapter m n) d = omega arith
+depth-few (found.Verse m n) d = omega arith
+depth-few (found.Inline m n) d = omega arith
+depth-few (found.Milestone m n x y) d = omega arith
+depth-few (found.Fault k) d = omega arith
 
 -- the reason that has a number
 abbrev reason_by : ℕ → Reason

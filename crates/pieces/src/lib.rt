@@ -60,6 +60,7 @@ fn word_end(l: &[u8], from: usize) -> usize
     ensures { Ended l.now from (find ends_word (drop from l.now)) result }
 {
     let mut i = from;
+    // A while: it goes on by the character's width.
     while i < l.len() {
         let b = l[i];
         if b == b'\\' {

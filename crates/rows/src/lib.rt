@@ -10,7 +10,7 @@ ghost use Rattle.rows.specs.Row.{cell_in, out_of_order, row_findings};
 ghost use Rattle.rows.specs.Cells.{is_cell, is_aligned, after_letters, pair, columns_in, cell_columns, cell_of};
 ghost use Rattle.findings.specs.Inner.{Wrote, Room};
 
-use cursor::Siblings;
+use cursor::{Document, Siblings};
 use findings::{Counts, Finding, Severity};
 
 // The first and the last column of a cell.
@@ -23,21 +23,13 @@ pub struct Columns {
 fn is_cell(name: &[u8]) -> bool
     ensures { result ≡ is_cell name.now }
 {
-    if text::starts_with(name, b"th") {
-        true
-    } else {
-        text::starts_with(name, b"tc")
-    }
+    text::starts_with(name, b"th") || text::starts_with(name, b"tc")
 }
 
 fn is_aligned(name: &[u8]) -> bool
     ensures { result ≡ is_aligned name.now }
 {
-    if name.len() <= 2 {
-        return false;
-    }
-    let b = name[2];
-    if b == b'r' { true } else { b == b'c' }
+    matches!(name, [_, _, b'r' | b'c', ..])
 }
 
 // What stands after the letters of a cell's name.
@@ -82,14 +74,14 @@ pub fn table_cell_columns(name: &[u8]) -> Option<Columns>
 }
 
 // The columns of a node, if it is a cell.
-fn cell_at(source: &[u8], tape: &[u8], i: usize) -> Option<Columns>
-    requires { Spanned source.now tape.now i }
-    ensures { cell_of result ≡ cell_in (node_at source.now tape.now i) }
+fn cell_at(doc: Document<'_>, i: usize) -> Option<Columns>
+    requires { Spanned doc.source.now doc.tape.now i }
+    ensures { cell_of result ≡ cell_in (node_at doc.entry.source.now doc.entry.tape.now i) }
 {
-    if tape::kind_at(tape, i) != tape::MARKER_OPEN {
+    if tape::kind_at(doc.tape, i) != tape::MARKER_OPEN {
         return None;
     }
-    table_cell_columns(cursor::marker_name(source, tape, i))
+    table_cell_columns(doc.marker_name(i))
 }
 
 // The finding of a cell that stands at another column than the expected one.
@@ -111,24 +103,23 @@ fn out_of_order(tape: &[u8], i: usize, expected: u64, found: u32) -> Finding
 
 // The order of the cells of a row: the nodes from one up to another are its children.
 pub fn validate_table_row(
-    source: &[u8],
-    tape: &[u8],
+    doc: Document<'_>,
     from: usize,
     to: usize,
     list: &mut [u64],
     counts: Counts,
 ) -> Counts
-    requires { (Run source.now tape.now from to) × Room counts (row_findings (forest source.now tape.now from to)) }
-    ensures { Wrote (row_findings (forest source.now tape.now from to)) list.old counts list.new result }
+    requires { (Run doc.source.now doc.tape.now from to) × Room counts (row_findings (forest doc.source.now doc.tape.now from to)) }
+    ensures { Wrote (row_findings (forest doc.entry.source.now doc.entry.tape.now from to)) list.old counts list.new result }
 {
     let mut c = counts;
     let mut expected: u64 = 1;
-    for i in Siblings::new(tape, from, to) {
-        let Some(columns) = cell_at(source, tape, i) else {
+    for i in Siblings::new(doc.tape, from, to) {
+        let Some(columns) = cell_at(doc, i) else {
             continue;
         };
         let found = columns.start;
-        let f = out_of_order(tape, i, expected, found);
+        let f = out_of_order(doc.tape, i, expected, found);
         c = findings::push_if(list, c, found as u64 != expected, f);
         expected = columns.end as u64 + 1;
     }

@@ -28,7 +28,7 @@ use Rattle.pieces.specs.Shown.{shown, bytes_of}
 use Rattle.pieces.specs.Depth.{depth_after}
 use Rattle.pieces.specs.Closes.{is_fault}
 use Rattle.pieces.specs.declared.Piece.{Piece}
-use Rattle.pieces.specs.declared.Piece.TheVariants as found
+use Rattle.pieces.proofs.Sizes.{depth-few}
 use Rattle.pieces.proofs.Places.{rest_is, rest-length, found_here, here-size, goes_on, next-inside, within-rest, next-made}
 use Rattle.node_writer.specs.declared.Written.{Written}
 use Rattle.node_writer.specs.Written.{written, text_limit, node_limit, Ready, block_ends, ended_block, after_block}
@@ -57,7 +57,7 @@ pub record Turn (whole tb s t : List ℕ) (w : Written) (at depth : ℕ) (p : Pi
   pub on : (t' : List ℕ) (w' : Written) (d : ℕ) → (t' ≡ piece_laid tb t w depth at (take (at + n - at) (drop at s)) p) × (w' ≡ after_piece t w depth at (take (at + n - at) (drop at s)) p) → d ≡ depth_after p depth → Going whole tb s t' w' (at + n) d
 
 -- the list as the root leaves it, and what it holds at the end
-module _ (tb s t : List ℕ) (count : ℕ) (h : Writable tb s t count) where
+module _ {tb s t : List ℕ} {count : ℕ} (h : Writable tb s t count) where
   pub nodes-few : count ≤ node_limit
   nodes-few =
       let few = (read-yields tb s (nodes_read tb s) h.legible h.passes).few in
@@ -68,7 +68,7 @@ module _ (tb s t : List ℕ) (count : ℕ) (h : Writable tb s t count) where
   pub root-fits : 16 ≤ length t
   root-fits = let room = h.room in omega arith
 
-  module _ (t' : List ℕ) (first : ℕ) (root : (t' ≡ put_row t 0 (row root_kind 0 0 (length s) count)) × (first ≡ 0 + 1)) where
+  module _ {t' : List ℕ} {first : ℕ} (root : (t' ≡ put_row t 0 (row root_kind 0 0 (length s) count)) × (first ≡ 0 + 1)) where
     started : Writing (tape_read tb s ++ drop (16 * node_count (nodes_read tb s)) t) t' first 0 [] [] (nodes_read tb s)
     started = rw (root.0, root.1, zero-add 1, h.counted) (write-start t s (nodes_read tb s) h.room (reads-closes tb s (nodes_read tb s) h.legible h.passes))
 
@@ -94,18 +94,7 @@ module _ (tb s t : List ℕ) (count : ℕ) (h : Writable tb s t count) where
     pub whole_is : will_hold t' first [] (nodes_read tb s) ≡ tape_read tb s ++ drop (16 * node_count (nodes_read tb s)) t
     whole_is = started.hold
 
--- a piece opens one character or note at the most
-deeper : (p : Piece) (d : ℕ) → depth_after p d ≤ d + 1
-deeper (found.Run n) d = omega arith
-deeper (found.Close n) d = omega arith
-deeper (found.Block m n) d = omega arith
-deeper (found.Chapter m n) d = omega arith
-deeper (found.Verse m n) d = omega arith
-deeper (found.Inline m n) d = omega arith
-deeper (found.Milestone m n x y) d = omega arith
-deeper (found.Fault k) d = omega arith
-
-module _ (whole tb s t : List ℕ) (w : Written) (at depth : ℕ) (legible : Legible tb s) (g : Going whole tb s t w at depth) where
+module _ {whole tb s t : List ℕ} {w : Written} {at depth : ℕ} (legible : Legible tb s) (g : Going whole tb s t w at depth) where
   pub few-open : depth < 4294967296
   few-open =
       let a = g.shallow in
@@ -124,7 +113,7 @@ module _ (whole tb s t : List ℕ) (w : Written) (at depth : ℕ) (legible : Leg
     pub size_fits : bytes_of p (length s - at) ≤ length s - at
     size_fits = within-rest tb s at p is legible.table g.made here
 
-    module _ (n : ℕ) (size : n ≡ bytes_of p (length s - at)) where
+    module _ {n : ℕ} (size : n ≡ bytes_of p (length s - at)) where
       next_fits : at + n ≤ length s
       next_fits = rw size (next-inside tb s at p is legible.table g.made here)
 
@@ -157,7 +146,7 @@ module _ (whole tb s t : List ℕ) (w : Written) (at depth : ℕ) (legible : Leg
       going_on t' w' d e k =
           let a = g.shallow in
           let b = comes-on in
-          let c = deeper p depth in
+          let c = depth-few p depth in
           rw (e.0, e.1, k)
           (record {
             state = stepped.state;
@@ -193,5 +182,5 @@ module _ (whole tb s t : List ℕ) (w : Written) (at depth : ℕ) (legible : Leg
         let b = legible.short in
         ready-for-block-end whole t w.next w.top at [] g.state.block g.waiting last.0 last.1 (omega arith)
 
-    pub all-written : (t' : List ℕ) (r : Written) → (t' ≡ ended_block t w at) × (r ≡ after_block t w) → t' ≡ whole
-    all-written t' r e = write-end whole t' r.next r.top [] [] (after-block-end whole t w.next w.top at [] t' r e g.state.block g.waiting last.0)
+    pub all-written : {t' : List ℕ} {r : Written} → (t' ≡ ended_block t w at) × (r ≡ after_block t w) → t' ≡ whole
+    all-written {t'} {r} e = write-end whole t' r.next r.top [] [] (after-block-end whole t w.next w.top at [] t' r e g.state.block g.waiting last.0)

@@ -25,14 +25,14 @@ fn put_run(t: &mut [u8], w: Written, depth: usize, at: usize, l: &[u8]) -> Writt
 {
     if depth == 0 {
         return Written {
-            next: node_writer::put_text(t, w.next, at, l.len()),
+            next: node_writer::put_leaf(t, w.next, tape::TEXT, at, l.len()),
             top: w.top,
         };
     }
     let bar = pieces::run_bar(l);
-    let next = node_writer::put_text(t, w.next, at, bar);
+    let next = node_writer::put_leaf(t, w.next, tape::TEXT, at, bar);
     Written {
-        next: node_writer::put_attribute(t, next, at + bar, l.len() - bar),
+        next: node_writer::put_leaf(t, next, tape::ATTRIBUTE, at + bar, l.len() - bar),
         top: w.top,
     }
 }
@@ -112,6 +112,7 @@ pub fn write_nodes(
     };
     let mut at: usize = 0;
     let mut depth: usize = 0;
+    // A while: the step is the piece's size.
     while at < s.len() {
         let p = pieces::faultless_piece_at(table, index, entries, chains, &s[at..]);
         let to = at + pieces::size_of(p, s.len() - at);

@@ -16,14 +16,6 @@ use Rattle.table.specs.Inner.{Indexed, Cleared, Chained, name_in, bucket_of, fir
 use Rattle.table.proofs.Unpack.{There, there, info-past, word-name}
 use Rattle.table.proofs.Buckets.{bucket-low, first-none, first-hit, first-miss}
 
--- the heads that are cleared so far
-pub clear-on : (c : List ℕ) (h : ℕ) → h < length c → Cleared h c → Cleared (h + 1) (set c h 0)
-clear-on c h l z j b = go (eqb j h) refl
-  where
-    go : (q : Bool) → eqb j h ≡ q → get_or (set c h 0) j 0 ≡ 0
-    go true e = let same = eqb-true j h e in rw same (get_or-set_same c h 0 0 l)
-    go false e = let n = eqb-false j h e in get_or-set_other c h j 0 0 n ∙ z j (omega (arith, n))
-
 -- the entries from number k on are linked
 pub record Linked (t c : List ℕ) (k : ℕ) : Type 0 where
   pub room : 768 ≤ length c

@@ -1,14 +1,13 @@
 -- The digits and the columns at the end of a name.
 -- Assumes nothing.
-use mathlib.Core.Path.{◌≡◌, refl, sym, ap, ◌∙◌}
+use mathlib.Core.Path.{◌≡◌, refl, ap, ◌∙◌}
 use mathlib.Core.Bool.{Bool, true, false, ◌&&◌}
 use mathlib.Core.List.{List, [], ◌∷◌, ◌++◌}
 use Prim.Native.Nat.{ℕ, zero, suc, ◌-◌, ◌<◌, ◌≤◌}
 use native.Mathlib.Omega.{arith}
 use lib.Dec.{eqb, ltb}
 use lib.ListN.{length, get_or, take}
-use lib.Seq.{take-suc, take-length, length-take-le}
-use borrow.Author.Tests.{lt-ltb, le-ltb, eq-eqb, ne_eqb}
+use lib.Seq.{take-suc, length-take-le}
 use Rattle.text.specs.Pick.{pick}
 use Rattle.text.specs.Number.{digit}
 use Rattle.table.specs.Names.{undigited, keep_before, tail_off, stripped_length}
@@ -48,46 +47,12 @@ pub no_bytes : (s : List ℕ) → undigited (take 0 s) ≡ 0
 unfolding undigited
 no_bytes s = refl
 
--- the tail of a hyphen and digits
-module _ (s : List ℕ) (i : ℕ) (e : i ≡ undigited (take (length s) s)) where
-  whole : i ≡ undigited s
-  whole = rw (take-length s) at e
-
-  pub no-tail : length s ≤ i → length s ≡ tail_off s
-  no-tail h = rw (← whole, le-ltb i (length s) h)
-
-  pub all_tail : i < length s → i ≡ 0 → length s ≡ tail_off s
-  all_tail h z = rw (← whole, z, lt-ltb 0 (length s) (omega arith))
-
-  pub a-tail : i < length s → (i ≡ 0 → ⊥) → get_or s (i - 1) 0 ≡ 45 → i - 1 ≡ tail_off s
-  a-tail h z y = rw (← whole, lt-ltb i (length s) h, lt-ltb 0 i (omega arith), eq-eqb _ _ y)
-
-  pub no-hyphen : i < length s → (i ≡ 0 → ⊥) → (get_or s (i - 1) 0 ≡ 45 → ⊥) → length s ≡ tail_off s
-  no-hyphen h z y = rw (← whole, lt-ltb i (length s) h, lt-ltb 0 i (omega arith), ne_eqb _ _ y)
-
 pub tail-le : (s : List ℕ) → tail_off s ≤ length s
 tail-le s = go (ltb (undigited s) (length s) && (ltb 0 (undigited s) && eqb (get_or s (undigited s - 1) 0) 45))
   where
     go : (t : Bool) → pick t (undigited s - 1) (length s) ≤ length s
     go true = omega (arith, undigited-le s)
     go false = omega arith
-
--- what is left of the name
-module _ (s : List ℕ) (end base : ℕ) (e : end ≡ tail_off s) (b : base ≡ undigited (take end s)) where
-  pub base-le : base ≤ end
-  base-le = omega (arith, undigited-le (take end s), length-take-le end s (rw e (tail-le s)))
-
-  pub kept-base : base ≡ 0 → s ≡ take (stripped_length s) s
-  unfolding stripped_length
-  kept-base z = rw (← e, ← b, z) (sym (take-length s))
-
-  pub kept-end : (base ≡ 0 → ⊥) → end ≤ base → s ≡ take (stripped_length s) s
-  unfolding stripped_length
-  kept-end z h = rw (← e, ← b, lt-ltb 0 base (omega arith), le-ltb base end h) (sym (take-length s))
-
-  pub off : (base ≡ 0 → ⊥) → base < end → take base s ≡ take (stripped_length s) s
-  unfolding stripped_length
-  off z h = rw (← e, ← b, lt-ltb 0 base (omega arith), lt-ltb base end h)
 
 pub stripped-le : (s : List ℕ) → stripped_length s ≤ length s
 unfolding stripped_length

@@ -1,16 +1,20 @@
 -- The first word of a list that equals another.
 -- Assumes nothing.
 use mathlib.Core.Path.{◌≡◌, refl, sym, ◌∙◌}
-use mathlib.Core.Bool.{Bool, true, false, false≢true, ◌&&◌, ◌||◌}
-use mathlib.Core.List.{List, [], ◌∷◌}
+use mathlib.Core.Bool.{Bool, true, false, false≢true, not, ◌&&◌, ◌||◌}
+use mathlib.Core.List.{List, [], ◌∷◌, ◌++◌}
 use Rattle.std.specs.Prelude.{Some, None}
-use Prim.Native.Nat.{ℕ, suc, ◌+◌, ◌-◌, ◌*◌, ◌/◌, ◌<◌, ◌≤◌}
+use Rattle.std.proofs.Common.{cond}
+use Rattle.std.specs.List.{position_or_len}
+use Rattle.std.specs.Slice.Iter.{chunks_exact_rest, chunks_exact_size, chunks_exact_steps}
+use Rattle.std.proofs.lemmas.Iterator.{YieldsList}
+use Rattle.std.proofs.lemmas.Iterator.Splits.{YieldsList-from_shown_while}
+use Prim.Native.Nat.{ℕ, suc, ◌+◌, ◌<◌}
 use native.Mathlib.Numerals.{add-one}
 use native.Mathlib.Omega.{arith}
-use lib.Dec.{eqb}
-use lib.ListN.{length, get_or, take, drop, length-drop}
-use lib.Seq.{drop-drop}
-use borrow.Author.Tests.{ne_eqb}
+use lib.Dec.{eqb, ltb, leb-suc-suc}
+use lib.ListN.{length, get_or}
+use borrow.Author.Tests.{ne_eqb, lt-ltb}
 use Rattle.text.specs.Pick.{pick, known}
 use Rattle.table.specs.Entries.{position}
 use Rattle.table.specs.Names.{note_only}
@@ -83,26 +87,40 @@ found (w ∷ ws) s k p e = let g = go (equal w s) e (found ws s (suc k) p) in re
     go true e ih = let z : k ≡ p = cc in (omega arith, omega arith, refl)
     go false e ih = let a = ih e in (omega arith, omega arith, a.there)
 
--- a list of codes of three bytes, at code number k
-pub code_at : (l : List ℕ) (k : ℕ) → k < length l / 3 → triples (drop (3 * k) l) ≡ take (3 * k + 3 - 3 * k) (drop (3 * k) l) ∷ triples (drop (3 * (k + 1)) l)
-unfolding triples
-code_at l k h =
-    let n : 3 * k + 3 - 3 * k ≡ 3 = omega arith in
-    let e : 3 * (k + 1) ≡ 3 * k + 3 = omega arith in
-    rw (n, e, ← drop-drop 3 (3 * k) l) (go (drop (3 * k) l) (omega (arith, length-drop (3 * k) l)))
-  where
-    go : (m : List ℕ) → 3 ≤ length m → triples m ≡ take 3 m ∷ triples (drop 3 m)
-    go [] g = absurd (omega arith)
-    go (a ∷ []) g = absurd (omega arith)
-    go (a ∷ b ∷ []) g = absurd (omega arith)
-    go (a ∷ b ∷ c ∷ m) g = refl
+-- the first word that equals the list, as `position` finds it
+module _ (s : List ℕ) where
+  abbrev is : List ℕ → Bool
+  is w = equal w s
 
-pub code-end : (l : List ℕ) (k : ℕ) → length l / 3 ≤ k → triples (drop (3 * k) l) ≡ []
+  position-from : (ws : List (List ℕ)) (k : ℕ) → code_from k ws s ≡ cond (ltb (position_or_len is ws) (length ws)) (Some (k + position_or_len is ws)) None
+  unfolding code_from
+  position-from [] k = refl
+  position-from (w ∷ ws) k = go (equal w s) (position_or_len is ws) (position-from ws (suc k))
+    where
+      go : (t : Bool) (n : ℕ) → code_from (suc k) ws s ≡ cond (ltb n (length ws)) (Some (suc k + n)) None →
+          pick t (Some k) (code_from (suc k) ws s) ≡ cond (ltb (cond (not t) (1 + n) 0) (suc (length ws))) (Some (k + cond (not t) (1 + n) 0)) None
+      go true n h = let e : k + 0 ≡ k = omega arith in rw (lt-ltb 0 (suc (length ws)) (omega arith), e)
+      go false n h = let e : 1 + n ≡ suc n = omega arith in let f : k + suc n ≡ suc k + n = omega arith in rw (e, f, leb-suc-suc (suc n) (length ws)) h
+
+  pub position-is : (ws : List (List ℕ)) → cond (ltb (position_or_len is ws) (length ws)) (Some (position_or_len is ws)) None ≡ code_from 0 ws s
+  position-is ws = let e : 0 + position_or_len is ws ≡ position_or_len is ws = omega arith in sym (position-from ws 0 ∙ rw e)
+
+triples-step : (a b : List ℕ) → length a ≡ 3 → triples (a ++ b) ≡ a ∷ triples b
 unfolding triples
-code-end l k h = go (drop (3 * k) l) (omega (arith, length-drop (3 * k) l))
-  where
-    go : (m : List ℕ) → length m < 3 → triples m ≡ []
-    go [] g = refl
-    go (a ∷ []) g = refl
-    go (a ∷ b ∷ []) g = refl
-    go (a ∷ b ∷ c ∷ m) g = absurd (omega arith)
+triples-step [] b h = absurd (omega arith)
+triples-step (x ∷ []) b h = absurd (omega arith)
+triples-step (x ∷ y ∷ []) b h = absurd (omega arith)
+triples-step (x ∷ y ∷ z ∷ []) b h = refl
+triples-step (x ∷ y ∷ z ∷ w ∷ a) b h = absurd (omega arith)
+
+triples-end : (l : List ℕ) → length l < 3 → triples l ≡ []
+unfolding triples
+triples-end [] g = refl
+triples-end (a ∷ []) g = refl
+triples-end (a ∷ b ∷ []) g = refl
+triples-end (a ∷ b ∷ c ∷ m) g = absurd (omega arith)
+
+-- the chunks of three bytes
+pub YieldsList-from_codes : {it : _} (l : List ℕ) → chunks_exact_rest it ≡ l → chunks_exact_size it ≡ 3 → YieldsList chunks_exact_steps (λ x. x.now) it (triples l)
+YieldsList-from_codes {it} l e z = rw (← e) (YieldsList-from_shown_while chunks_exact_steps (λ x. x.now) (λ s. triples (chunks_exact_rest s)) (λ s. chunks_exact_size s ≡ 3)
+    (λ s t p h. rw (triples-end (chunks_exact_rest s) (omega (arith, p, h.1.0)))) (λ s x t p h. (h.0 ∙ p, rw h.1.0 (triples-step x.now (chunks_exact_rest t) (h.1.1 ∙ p)))) it z)

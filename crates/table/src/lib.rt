@@ -117,17 +117,7 @@ const BOUNDARY_WORD: u64 = 8751164109912108898;
 fn code_in(codes: &[u8], s: &[u8]) -> Option<usize>
     ensures { result ≡ code_from 0 (triples codes.now) s.now }
 {
-    let n = codes.len() / 3;
-    let mut k: usize = 0;
-    while k < n {
-        let at = 3 * k;
-        let end = at + 3;
-        if text::equal(&codes[at..end], s) {
-            return Some(k);
-        }
-        k += 1;
-    }
-    None
+    codes.chunks_exact(3).position(|code| text::equal(code, s))
 }
 
 // The position in a list of words, each ended by byte 10.
@@ -136,6 +126,7 @@ fn word_in(words: &[u8], s: &[u8]) -> Option<usize>
 {
     let mut at: usize = 0;
     let mut k: usize = 0;
+    // A while: the step is the word's length. `split` gives one empty word more, behind the last byte 10.
     while at < words.len() {
         let rest = &words[at..];
         let n = text::find_byte(rest, 10);
@@ -167,21 +158,13 @@ pub fn is_front_matter_code(code: &[u8]) -> bool
 pub fn is_note_only_marker(name: &[u8]) -> bool
     ensures { result ≡ one_of note_only name.now }
 {
-    if name.len() == 0 {
-        return false;
-    }
     // All of them begin with one of two letters, and few other names do.
-    let b = name[0];
-    if b != b'f' {
-        if b != b'x' {
-            return false;
-        }
-    }
-    word_in(
-        b"fr\nft\nfk\nfq\nfqa\nfl\nfw\nfp\nfv\nfdc\nxop\nxot\nxnt\nxdc\n",
-        name,
-    )
-    .is_some()
+    matches!(name, [b'f' | b'x', ..])
+        && word_in(
+            b"fr\nft\nfk\nfq\nfqa\nfl\nfw\nfp\nfv\nfdc\nxop\nxot\nxnt\nxdc\n",
+            name,
+        )
+        .is_some()
 }
 
 fn attribute(p: usize) -> DefaultAttribute
@@ -215,12 +198,10 @@ fn undigited_len(s: &[u8], end: usize) -> usize
     requires { end ≤ length s.now }
     ensures { result ≡ undigited (take end s.now) }
 {
-    let mut i = end;
-    while 0 < i {
-        if !text::holds(s[i - 1], b'0', b'9') {
-            return i;
+    for i in (0..end).rev() {
+        if !s[i].is_ascii_digit() {
+            return i + 1;
         }
-        i -= 1;
     }
     0
 }
@@ -230,58 +211,38 @@ fn tail_off(s: &[u8]) -> usize
 {
     let n = s.len();
     let i = undigited_len(s, n);
-    if n <= i {
-        return n;
+    if i < n && 0 < i && s[i - 1] == b'-' {
+        i - 1
+    } else {
+        n
     }
-    if i == 0 {
-        return n;
-    }
-    if s[i - 1] == b'-' { i - 1 } else { n }
 }
 
 // The name without the level or the columns at its end.
+#[tactic(auto, unfolding(crate::specs::Names::stripped_length))]
 pub fn strip_level_suffix(name: &[u8]) -> &[u8]
     ensures { result.now ≡ take (stripped_length name.now) name.now }
 {
     let end = tail_off(name);
     let base = undigited_len(name, end);
-    if base == 0 {
-        return name;
+    if 0 < base && base < end {
+        &name[..base]
+    } else {
+        name
     }
-    if end <= base {
-        return name;
-    }
-    &name[..base]
 }
 
 fn is_name_byte(b: u8) -> bool
     ensures { result ≡ name_byte b }
 {
-    if text::holds(b, b'A', b'Z') {
-        return true;
-    }
-    if text::holds(b, b'a', b'z') {
-        return true;
-    }
-    if text::holds(b, b'0', b'9') {
-        true
-    } else {
-        b == b'-'
-    }
+    matches!(b, b'A'..=b'Z' | b'a'..=b'z' | b'0'..=b'9' | b'-')
 }
 
 // The number of name bytes at the start.
 fn name_len(s: &[u8]) -> usize
     ensures { result ≡ find_byte (λ b. not (name_byte b)) s.now }
 {
-    let mut i: usize = 0;
-    while i < s.len() {
-        if !is_name_byte(s[i]) {
-            return i;
-        }
-        i += 1;
-    }
-    i
+    s.iter().position(|b| !is_name_byte(*b)).unwrap_or(s.len())
 }
 
 // The first eight bytes as a number, the first the lowest, or 0 where there are fewer.
@@ -289,9 +250,10 @@ fn head(s: &[u8]) -> u64
     ensures { result ≡ head_of s.now }
 {
     if s.len() < 8 {
-        return 0;
+        0
+    } else {
+        text::eight_bytes(s, 0)
     }
-    text::eight_bytes(s, 0)
 }
 
 // What a line says whose first eight bytes are a word's, if the word's other bytes stand behind them.
@@ -299,10 +261,7 @@ fn tail_step(s: &[u8], tail: &[u8], value: usize, next: usize) -> Option<(usize,
     requires { 8 ≤ length s.now }
     ensures { result ≡ step_by (starting tail.now (drop 8 s.now)) (Some value) next }
 {
-    if text::starts_with(&s[8..], tail) {
-        return Some((value, next));
-    }
-    None
+    text::starts_with(&s[8..], tail).then_some((value, next))
 }
 
 // What a name's line says, from behind its key on. No name byte is byte 10, so that the search for the end of the name finds the end of the line.
@@ -388,10 +347,8 @@ fn moved(at: usize, step: Option<(usize, usize)>) -> Option<(usize, usize)>
     requires { at + past_of step < 2 ^ 64 }
     ensures { result ≡ further at step }
 {
-    match step {
-        Some((v, n)) => Some((v, at + n)),
-        None => None,
-    }
+    let (v, n) = step?;
+    Some((v, at + n))
 }
 
 // The first line of a marker, at a place of the table. Each line has its own function, so that the compiler knows what it is compared with.
@@ -443,6 +400,7 @@ pub fn index(table: &[u8], index: &mut [u64]) -> Result<usize, Refusal>
 {
     let mut at: usize = 0;
     let mut k: usize = 0;
+    // A while: the step is the length of three lines.
     while at < table.len() {
         if k == 512 {
             return Err(Reason::BadTableLayout.at(at));
@@ -543,11 +501,7 @@ fn clear_heads(chains: &mut [u16])
     requires { 256 ≤ length chains.old }
     ensures { Cleared 256 chains.new }
 {
-    let mut h: usize = 0;
-    while h < 256 {
-        chains[h] = 0;
-        h += 1;
-    }
+    chains[..256].fill(0);
 }
 
 // Links the entries whose names share a bucket, so that a name is compared with few others: 256 numbers for the first entry of
@@ -558,13 +512,10 @@ pub fn link_names(table: &[u8], index: &[u64], entries: usize, chains: &mut [u16
     ensures { Chained table.now chains.new }
 {
     clear_heads(chains);
-    let mut k = entries;
-    while 0 < k {
-        let i = k - 1;
-        let h = bucket_of(name_in(table, index[i]));
-        chains[256 + i] = chains[h];
-        chains[h] = k as u16;
-        k = i;
+    for k in (0..entries).rev() {
+        let h = bucket_of(name_in(table, index[k]));
+        chains[256 + k] = chains[h];
+        chains[h] = (k + 1) as u16;
     }
 }
 
@@ -580,6 +531,7 @@ fn find_name(
     ensures { found_of result ≡ entry_named table.now name.now }
 {
     let mut link = chains[bucket_of(name)] as usize;
+    // A while: it goes from entry to entry by the numbers of the chain.
     while 0 < link {
         let k = link - 1;
         if text::equal(name_in(table, index[k]), name) {
@@ -611,18 +563,7 @@ fn find_stripped(
 fn is_glued(s: &[u8]) -> bool
     ensures { result ≡ glued_digit s.now }
 {
-    if s.len() < 2 {
-        return false;
-    }
-    let b = s[0];
-    if b == b'v' {
-        return text::holds(s[1], b'0', b'9');
-    }
-    if b == b'c' {
-        text::holds(s[1], b'0', b'9')
-    } else {
-        false
-    }
+    matches!(s, [b'v' | b'c', b'0'..=b'9', ..])
 }
 
 fn find_glued(

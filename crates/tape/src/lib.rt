@@ -262,8 +262,7 @@ fn scan_each(source: &[u8], tape: &[u8], n: usize) -> Result<(), Refusal>
     let mut span = None;
     let mut taken = false;
     let mut reading = Ok(0);
-    let mut i: usize = 1;
-    while i < n {
+    for i in 1..n {
         let kind = kind_at(tape, i);
         if bad_kind(kind) {
             return Err(Reason::BadNodeKind.at(i));
@@ -271,7 +270,6 @@ fn scan_each(source: &[u8], tape: &[u8], n: usize) -> Result<(), Refusal>
         span = span_step(source, tape, i, span);
         taken = taken_step(tape, root, i, kind, taken);
         reading = step(tape, root, i, kind, &mut stack, reading);
-        i += 1;
     }
     answer(tape, n, root, span, taken, reading)
 }

@@ -14,7 +14,7 @@ use lib.Seq.{take-length, length-take-le, drop-drop}
 use borrow.Author.Tests.{eq-eqb, ne_eqb, eqb-true, eqb-false}
 use Rattle.std.specs.Cmp.Lexicographic.{pointwise}
 use Rattle.text.specs.Bytes.{equal, starting, beyond}
-use Rattle.text.specs.Inner.{four_bytes, eight_bytes}
+use Rattle.text.specs.Inner.{eight_bytes}
 use Rattle.text.proofs.Rows.{place}
 use Rattle.text.proofs.Bool.{and_left, and_right}
 

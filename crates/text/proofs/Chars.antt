@@ -14,11 +14,9 @@ use Rattle.std.specs.List.{position_or_len}
 use Rattle.std.proofs.lemmas.List.Recursion.{is_position_or_len}
 use lib.ListN.{length, get_or, drop, length-drop, drop_of_length-le}
 use lib.Seq.{drop-drop}
-use Rattle.text.specs.Pick.{same, pick}
+use Rattle.text.specs.Pick.{pick}
 use Rattle.text.specs.declared.Decoded.{Decoded}
 use Rattle.text.specs.Utf8.{decode}
-use Rattle.text.specs.Blank.{blank}
-use Rattle.text.specs.Inner.{blank_is}
 use Rattle.text.specs.Characters.{chars_past, chars, bytes_before, find, find_byte}
 use Rattle.text.proofs.Rows.{place}
 use Rattle.text.proofs.Decode.{decode-width}

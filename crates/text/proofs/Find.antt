@@ -3,8 +3,7 @@
 use mathlib.Core.Path.{◌≡◌, refl, sym, ap, ◌∙◌}
 use mathlib.Core.Bool.{Bool, true, false, not, false≢true, and-false}
 use mathlib.Core.List.{List, [], ◌∷◌, ◌++◌, Memᴰ}
-use mathlib.Core.Logic.{inl}
-use Prim.Native.Nat.{ℕ, zero, suc, ◌+◌, ◌*◌, ◌%◌, ◌<◌, ◌≤◌}
+use Prim.Native.Nat.{ℕ, zero, suc, ◌+◌, ◌<◌, ◌≤◌}
 use native.Mathlib.Nat.{not-suc-le-zero, le_of_suc-le-suc, zero-add}
 use native.Mathlib.Decide.{dec_lt}
 use native.Mathlib.Omega.{arith}
@@ -12,17 +11,14 @@ use lib.Dec.{leb, eqb}
 use lib.ListN.{length, get_or, take, drop, length-drop}
 use lib.Seq.{get_or-take}
 use borrow.Author.Tests.{ne_eqb, lt-leb}
-use Rattle.text.specs.Pick.{Range, range, within, same, pick}
+use Rattle.text.specs.Pick.{Range, range, within, pick}
 use Rattle.text.specs.declared.Decoded.{Decoded}
 use Rattle.text.specs.Utf8.{begins, table3_7, width_of, fits, decoded, decode}
-use Rattle.text.specs.Blank.{blank}
-use Rattle.text.specs.Inner.{blank_is}
 use Rattle.text.specs.Number.{digit}
 use Rattle.text.specs.Characters.{bytes_before, find, find_byte}
 use Rattle.text.proofs.Rows.{within-lo, within-hi}
-use Rattle.text.proofs.Blank.{ascii-not-blank, blank-key}
 use Rattle.text.proofs.Scan.{ascii-one}
-use Rattle.text.proofs.Decode.{decode-1, decode-3, decode-width}
+use Rattle.text.proofs.Decode.{decode-1, decode-width}
 use Rattle.text.proofs.Chars.{chars-nil, chars-cons, tested-by, past, stops}
 use Rattle.text.proofs.Exact.{found, begins-fits, fits-length}
 use Rattle.text.proofs.Shape.{row-further}

@@ -155,6 +155,7 @@ fn read_full(input: &mut impl Read, buf: &mut [u8]) -> usize
     ensures { result ≤ length buf.new }
 {
     let mut done: usize = 0;
+    // A while: the step is as many bytes as a read gives.
     while done < buf.len() {
         match input.read(&mut buf[done..]) {
             Ok(0) => return done,

@@ -17,6 +17,7 @@ ghost use Rattle.findings.specs.Inner.{count_limit};
 ghost use Rattle.validate.specs.Inner.{source_refusal, lists_refusal, from_table, AcceptedIndex, fresh, Begun, Endable, MissingWritten, Ran, Fit, reported, Finished};
 ghost use Rattle.validate.specs.Entry.{lent};
 
+use cursor::Document;
 use definition::OpenStart;
 use findings::Counts;
 use numbers::{Suffix, VersePart};
@@ -48,12 +49,12 @@ fn initial() -> State
 }
 
 // The record before the walk.
-fn begun(source: &[u8], tape: &[u8], to: usize, list: &mut [u64]) -> State
-    requires { (Run source.now tape.now 1 to) × (to ≡ link_at tape.now 0) }
-    ensures { Begun source.now tape.now list.old list.new result }
+fn begun(doc: Document<'_>, to: usize, list: &mut [u64]) -> State
+    requires { (Run doc.source.now doc.tape.now 1 to) × (to ≡ link_at doc.tape.now 0) }
+    ensures { Begun doc.entry.source.now doc.entry.tape.now list.old list.new result }
 {
     let start = initial();
-    state::with_counts(start, closing::text_before(source, tape, to, start, list))
+    state::with_counts(start, closing::text_before(doc, to, start, list))
 }
 
 // The record after the findings of the open starts that are left.
@@ -69,26 +70,25 @@ fn run(
     table: &[u8],
     index: &[u64],
     entries: usize,
-    source: &[u8],
-    tape: &[u8],
+    doc: Document<'_>,
     seen: &mut [u32],
     opens: &mut [OpenStart],
     list: &mut [u64],
 ) -> State
-    requires { Fit table.now index.now entries source.now tape.now seen.old opens.old }
-    ensures { Ran table.now source.now tape.now list.old list.new result }
+    requires { Fit table.now index.now entries doc.source.now doc.tape.now seen.old opens.old }
+    ensures { Ran table.now doc.entry.source.now doc.entry.tape.now list.old list.new result }
 {
-    let to = tape::link_at(tape, 0) as usize;
-    let mut rec = begun(source, tape, to, list);
+    let to = tape::link_at(doc.tape, 0) as usize;
+    let mut rec = begun(doc, to, list);
     let outside = Context {
         in_body_para: false,
         in_note: false,
         in_char: false,
     };
     walk::walk(
-        table, index, entries, source, tape, 1, to, 64, outside, &mut rec, seen, opens, list,
+        table, index, entries, doc, 1, to, 64, outside, &mut rec, seen, opens, list,
     );
-    let left = closing::unclosed(source, tape, opens, rec, list);
+    let left = closing::unclosed(doc, opens, rec, list);
     ended(rec, list, left)
 }
 
@@ -147,7 +147,7 @@ pub fn check_input(
     let entries = table::index(table, index)?;
     check_source(source)?;
     tape::tape_check(source, tape)?;
-    numbers::label_check(table, index, entries, source, tape)?;
+    numbers::label_check(table, index, entries, Document { source, tape })?;
     check_lists(tape.len() / 16, seen, opens)?;
     Ok(entries)
 }
@@ -181,17 +181,16 @@ fn checked(
     table: &[u8],
     index: &[u64],
     entries: usize,
-    source: &[u8],
-    tape: &[u8],
+    doc: Document<'_>,
     seen: &mut [u32],
     opens: &mut [OpenStart],
     list: &mut [u64],
 ) -> Report
-    requires { Fit table.now index.now entries source.now tape.now seen.old opens.old }
-    ensures { Finished table.now source.now tape.now seen.old opens.old list.old seen.new opens.new list.new result }
+    requires { Fit table.now index.now entries doc.source.now doc.tape.now seen.old opens.old }
+    ensures { Finished table.now doc.entry.source.now doc.entry.tape.now seen.old opens.old list.old seen.new opens.new list.new result }
 {
-    let r = run(table, index, entries, source, tape, seen, opens, list);
-    let n = node_count(tape);
+    let r = run(table, index, entries, doc, seen, opens, list);
+    let n = node_count(doc.tape);
     closing::clear_seen(seen, n);
     closing::clear_opens(opens, n);
     reported(r, list.len())
@@ -202,25 +201,23 @@ pub fn passed(
     table: &[u8],
     index: &[u64],
     entries: usize,
-    source: &[u8],
-    tape: &[u8],
+    doc: Document<'_>,
     seen: &mut [u32],
     opens: &mut [OpenStart],
     list: &mut [u64],
 ) -> Report
-    requires { (Indexed table.now index.now entries) × (None ≡ from_table table.now source.now tape.now (length seen.old) (length opens.old)) }
-    ensures answer { answer_of (Ok result) ≡ answer (lent table.now source.now tape.now seen.old opens.old list.old) }
-    ensures list { list.new ≡ list_after (lent table.now source.now tape.now seen.old opens.old list.old) }
-    ensures seen { seen.new ≡ seen_after (lent table.now source.now tape.now seen.old opens.old list.old) }
-    ensures opens { opens.new ≡ open_after (lent table.now source.now tape.now seen.old opens.old list.old) }
+    requires { (Indexed table.now index.now entries) × (None ≡ from_table table.now doc.source.now doc.tape.now (length seen.old) (length opens.old)) }
+    ensures answer { answer_of (Ok result) ≡ answer (lent table.now doc.entry.source.now doc.entry.tape.now seen.old opens.old list.old) }
+    ensures list { list.new ≡ list_after (lent table.now doc.entry.source.now doc.entry.tape.now seen.old opens.old list.old) }
+    ensures seen { seen.new ≡ seen_after (lent table.now doc.entry.source.now doc.entry.tape.now seen.old opens.old list.old) }
+    ensures opens { opens.new ≡ open_after (lent table.now doc.entry.source.now doc.entry.tape.now seen.old opens.old list.old) }
 {
-    let n = node_count(tape);
+    let n = node_count(doc.tape);
     checked(
         table,
         index,
         entries,
-        source,
-        tape,
+        doc,
         &mut seen[..n],
         &mut opens[..n],
         list,
@@ -243,5 +240,13 @@ pub fn check(
 {
     let mut index = [0u64; 512];
     let entries = check_input(table, &mut index, source, tape, seen.len(), opens.len())?;
-    Ok(passed(table, &index, entries, source, tape, seen, opens, list))
+    Ok(passed(
+        table,
+        &index,
+        entries,
+        Document { source, tape },
+        seen,
+        opens,
+        list,
+    ))
 }

@@ -12,7 +12,7 @@ use Rattle.tape.specs.Nodes.{kind_at, is_open, chapter_kind, verse_kind, text_ki
 use Rattle.tape.specs.Forest.{Forest, end, leaf, node, forest}
 use Rattle.cursor.specs.Inner.{Run}
 use Rattle.cursor.proofs.InTurn.{reads-list}
-use Rattle.cursor.specs.InTurn.{siblings}
+use Rattle.cursor.specs.InnerTurn.{siblings}
 use Rattle.std.specs.List.{list_all}
 use Rattle.findings.proofs.Overlay.{wrote_none}
 use Rattle.numbers.specs.Label.{numbered}

@@ -16,22 +16,15 @@ ghost use Rattle.table.specs.Inner.{Indexed};
 ghost use Rattle.findings.specs.Inner.{Room};
 
 use attachment::Attached;
-use cursor::Siblings;
+use cursor::{Document, Siblings};
 use definition::OpenStart;
 use state::{Context, State};
 use table::MarkerInfo;
 
 // The numbers attached to an anchor, among the siblings up to `to`; none without an anchor.
-fn anchored(
-    source: &[u8],
-    tape: &[u8],
-    depth: usize,
-    anchor: usize,
-    from: usize,
-    to: usize,
-) -> Attached
-    requires { (Accepted source.now tape.now) × (Nested tape.now depth from to) × (to ≤ count tape.now) × (Anchored tape.now depth anchor from) }
-    ensures { starts_of result ≡ starts_for (anchor_of source.now tape.now anchor from) (forest source.now tape.now from to) }
+fn anchored(doc: Document<'_>, depth: usize, anchor: usize, from: usize, to: usize) -> Attached
+    requires { (Accepted doc.source.now doc.tape.now) × (Nested doc.tape.now depth from to) × (to ≤ count doc.tape.now) × (Anchored doc.tape.now depth anchor from) }
+    ensures { starts_of result ≡ starts_for (anchor_of doc.entry.source.now doc.entry.tape.now anchor from) (forest doc.entry.source.now doc.entry.tape.now from to) }
 {
     if anchor == 0 {
         return Attached {
@@ -41,32 +34,24 @@ fn anchored(
         };
     }
     attachment::attached_numbers(
-        source,
-        tape,
-        tape::kind_at(tape, anchor),
-        cursor::past_node(tape, anchor),
+        doc,
+        tape::kind_at(doc.tape, anchor),
+        cursor::past_node(doc.tape, anchor),
         to,
     )
 }
 
 // The numbers attached after a leaf, to those that follow it: of a new anchor, or unchanged.
-fn numbers_after(
-    source: &[u8],
-    tape: &[u8],
-    i: usize,
-    next: usize,
-    to: usize,
-    numbers: Attached,
-) -> Attached
-    requires { (i < count tape.now) × (Run source.now tape.now next to) }
-    ensures { starts_of result ≡ numbers_after source.now tape.now i next to (starts_of numbers) }
+fn numbers_after(doc: Document<'_>, i: usize, next: usize, to: usize, numbers: Attached) -> Attached
+    requires { (i < count doc.tape.now) × (Run doc.source.now doc.tape.now next to) }
+    ensures { starts_of result ≡ numbers_after doc.entry.source.now doc.entry.tape.now i next to (starts_of numbers) }
 {
-    let kind = tape::kind_at(tape, i);
+    let kind = tape::kind_at(doc.tape, i);
     if kind == tape::CHAPTER {
-        return attachment::attached_numbers(source, tape, kind, next, to);
+        return attachment::attached_numbers(doc, kind, next, to);
     }
     if kind == tape::VERSE {
-        return attachment::attached_numbers(source, tape, kind, next, to);
+        return attachment::attached_numbers(doc, kind, next, to);
     }
     numbers
 }
@@ -76,21 +61,18 @@ fn leaf(
     table: &[u8],
     index: &[u64],
     entries: usize,
-    source: &[u8],
-    tape: &[u8],
+    doc: Document<'_>,
     i: usize,
     context: Context,
     rec: State,
     seen: &mut [u32],
     list: &mut [u64],
 ) -> State
-    requires { (Indexed table.now index.now entries) × (Spanned source.now tape.now i) × VerseBounded rec × (rec.seen_len < length seen.old) × (rec.verses < 4611686018427387904) × Room (counts_of rec) (leaf_checked table.now (context_of context) (state_of source.now tape.now seen.old [] rec) (node_at source.now tape.now i)).findings }
-    ensures { LeafPassed table.now source.now tape.now (context_of context) i seen.old list.old rec seen.new list.new result }
+    requires { (Indexed table.now index.now entries) × (Spanned doc.source.now doc.tape.now i) × VerseBounded rec × (rec.seen_len < length seen.old) × (rec.verses < 4611686018427387904) × Room (counts_of rec) (leaf_checked table.now (context_of context) (state_of doc.source.now doc.tape.now seen.old [] rec) (node_at doc.source.now doc.tape.now i)).findings }
+    ensures { LeafPassed table.now doc.entry.source.now doc.entry.tape.now (context_of context) i seen.old list.old rec seen.new list.new result }
 {
-    let r = chapter_verse::visit_leaf(
-        table, index, entries, source, tape, i, context, rec, seen, list,
-    );
-    let kind = tape::kind_at(tape, i);
+    let r = chapter_verse::visit_leaf(table, index, entries, doc, i, context, rec, seen, list);
+    let kind = tape::kind_at(doc.tape, i);
     if kind == tape::CHAPTER {
         return state::with_anchor(r, i);
     }
@@ -114,8 +96,7 @@ fn visit_leaf(
     table: &[u8],
     index: &[u64],
     entries: usize,
-    source: &[u8],
-    tape: &[u8],
+    doc: Document<'_>,
     i: usize,
     next: usize,
     to: usize,
@@ -125,26 +106,24 @@ fn visit_leaf(
     seen: &mut [u32],
     list: &mut [u64],
 ) -> Attached
-    requires { Passable table.now index.now entries source.now tape.now (context_of context) i next to seen.old rec.old }
-    ensures { PassedBy table.now source.now tape.now (context_of context) i next to numbers seen.old list.old rec.old seen.new list.new rec.new result }
+    requires { Passable table.now index.now entries doc.source.now doc.tape.now (context_of context) i next to seen.old rec.old }
+    ensures { PassedBy table.now doc.entry.source.now doc.entry.tape.now (context_of context) i next to numbers seen.old list.old rec.old seen.new list.new rec.new result }
 {
-    if is_number(tape, i) {
+    if is_number(doc.tape, i) {
         let before = *rec;
-        *rec = leaf(
-            table, index, entries, source, tape, i, context, before, seen, list,
-        );
-        return numbers_after(source, tape, i, next, to, numbers);
+        *rec = leaf(table, index, entries, doc, i, context, before, seen, list);
+        return numbers_after(doc, i, next, to, numbers);
     }
     numbers
 }
 
 // Whether a run has no marker, no chapter and no verse. Most markers hold such a run, and its walk is skipped.
-fn can_skip_children(source: &[u8], tape: &[u8], from: usize, to: usize) -> bool
-    requires { Run source.now tape.now from to }
-    ensures { result ≡ can_skip_children (forest source.now tape.now from to) }
+fn can_skip_children(doc: Document<'_>, from: usize, to: usize) -> bool
+    requires { Run doc.source.now doc.tape.now from to }
+    ensures { result ≡ can_skip_children (forest doc.entry.source.now doc.entry.tape.now from to) }
 {
-    Siblings::new(tape, from, to).all(|i| {
-        let kind = tape::kind_at(tape, i);
+    Siblings::new(doc.tape, from, to).all(|i| {
+        let kind = tape::kind_at(doc.tape, i);
         kind != tape::MARKER_OPEN && !numbers::is_numbered(kind)
     })
 }
@@ -155,8 +134,7 @@ fn visit(
     table: &[u8],
     index: &[u64],
     entries: usize,
-    source: &[u8],
-    tape: &[u8],
+    doc: Document<'_>,
     i: usize,
     to: usize,
     depth: usize,
@@ -168,20 +146,18 @@ fn visit(
     opens: &mut [OpenStart],
     list: &mut [u64],
 )
-    requires { (Ready table.now index.now entries source.now tape.now depth i to seen.old opens.old rec.old) × (Visitable source.now tape.now i to numbers rec.old) × (m.name_start + m.name_len ≤ length table.now) × Room (counts_of rec.old) (visit_findings table.now source.now tape.now (context_of context) (entry_of_info m) i to seen.old opens.old rec.old) }
-    ensures { Visited table.now source.now tape.now (context_of context) (entry_of_info m) i to seen.old opens.old list.old rec.old seen.new opens.new list.new rec.new }
+    requires { (Ready table.now index.now entries doc.source.now doc.tape.now depth i to seen.old opens.old rec.old) × (Visitable doc.source.now doc.tape.now i to numbers rec.old) × (m.name_start + m.name_len ≤ length table.now) × Room (counts_of rec.old) (visit_findings table.now doc.source.now doc.tape.now (context_of context) (entry_of_info m) i to seen.old opens.old rec.old) }
+    ensures { Visited table.now doc.entry.source.now doc.entry.tape.now (context_of context) (entry_of_info m) i to seen.old opens.old list.old rec.old seen.new opens.new list.new rec.new }
 {
-    if marker_checks::can_skip_marker(table, m, source, tape, i, context, rec.has_chapter) {
+    if marker_checks::can_skip_marker(table, m, doc, i, context, rec.has_chapter) {
         return;
     }
     let before = *rec;
-    let marked = marker_checks::visit_marker(
-        table, m, source, tape, i, to, context, numbers, before, list,
-    );
-    let paired = milestones::milestone(m, source, tape, i, opens, marked, list);
+    let marked = marker_checks::visit_marker(table, m, doc, i, to, context, numbers, before, list);
+    let paired = milestones::milestone(m, doc, i, opens, marked, list);
     let from = i + 1;
-    let link = tape::link_at(tape, i) as usize;
-    if can_skip_children(source, tape, from, link) {
+    let link = tape::link_at(doc.tape, i) as usize;
+    if can_skip_children(doc, from, link) {
         *rec = state::with_anchor(paired, before.anchor);
         return;
     }
@@ -189,7 +165,7 @@ fn visit(
     let deeper = depth - 1;
     let inner = state::inside(context, m);
     walk(
-        table, index, entries, source, tape, from, link, deeper, inner, rec, seen, opens, list,
+        table, index, entries, doc, from, link, deeper, inner, rec, seen, opens, list,
     );
     *rec = state::with_anchor(*rec, before.anchor);
 }
@@ -200,8 +176,7 @@ pub fn walk(
     table: &[u8],
     index: &[u64],
     entries: usize,
-    source: &[u8],
-    tape: &[u8],
+    doc: Document<'_>,
     from: usize,
     to: usize,
     depth: usize,
@@ -211,27 +186,27 @@ pub fn walk(
     opens: &mut [OpenStart],
     list: &mut [u64],
 )
-    requires { (Ready table.now index.now entries source.now tape.now depth from to seen.old opens.old rec.old) × Room (counts_of rec.old) (walk_at table.now source.now tape.now (context_of context) from to seen.old opens.old rec.old).findings }
-    ensures { RunWalked source.now tape.now (walk_at table.now source.now tape.now (context_of context) from to seen.old opens.old rec.old) depth from to list.old rec.old seen.new opens.new list.new rec.new }
+    requires { (Ready table.now index.now entries doc.source.now doc.tape.now depth from to seen.old opens.old rec.old) × Room (counts_of rec.old) (walk_at table.now doc.source.now doc.tape.now (context_of context) from to seen.old opens.old rec.old).findings }
+    ensures { RunWalked doc.entry.source.now doc.entry.tape.now (walk_at table.now doc.entry.source.now doc.entry.tape.now (context_of context) from to seen.old opens.old rec.old) depth from to list.old rec.old seen.new opens.new list.new rec.new }
 {
-    let mut numbers = anchored(source, tape, depth, rec.anchor, from, to);
+    let mut numbers = anchored(doc, depth, rec.anchor, from, to);
     // A while: the visit of a leaf takes the node that follows.
     let mut i = from;
     while i < to {
         let here = i;
-        i = cursor::past_node(tape, here);
-        if tape::kind_at(tape, here) == tape::MARKER_OPEN {
+        i = cursor::past_node(doc.tape, here);
+        if tape::kind_at(doc.tape, here) == tape::MARKER_OPEN {
             // A marker without a table entry is passed over with all below it.
-            let Some(m) = cursor::marker_info(table, index, entries, tape, here) else {
+            let Some(m) = cursor::marker_info(table, index, entries, doc.tape, here) else {
                 continue;
             };
             visit(
-                table, index, entries, source, tape, here, to, depth, m, context, numbers, rec,
-                seen, opens, list,
+                table, index, entries, doc, here, to, depth, m, context, numbers, rec, seen, opens,
+                list,
             );
         } else {
             numbers = visit_leaf(
-                table, index, entries, source, tape, here, i, to, context, numbers, rec, seen, list,
+                table, index, entries, doc, here, i, to, context, numbers, rec, seen, list,
             );
         }
     }

@@ -1,6 +1,6 @@
 -- `attachment::attached_numbers` meets its contract.
 use mathlib.Core.Path.{refl, sym, ap, ◌∙◌}
-use Rattle.cursor.specs.InTurn.{left}
+use Rattle.cursor.specs.InnerTurn.{left}
 use Rattle.cursor.proofs.InTurn.{turn, last-turn}
 use Rattle.attachment.proofs.Steps.{going_start, going-blank, going-stop, going-few, going-children, going-last, going_next, going_end}
 use Rattle.attachment.proofs.attached_numbers.Goals as goal
@@ -9,7 +9,7 @@ pub loop-i-init : goal.loop-i-init
 loop-i-init c =
     let e = c.into_iter-i-iterator.ensures.into_iter_gives in
     let a = c.args in
-    (rw e c.new-i-items.ensures.run, tt, record { at = a.from; items = ap left e ∙ c.new-i-items.ensures.items; fact = going_start a.source.now a.tape.now a.kind a.from a.to c.requires })
+    (rw e c.new-i-items.ensures.run, tt, record { at = a.from; items = ap left e ∙ c.new-i-items.ensures.items; fact = going_start a.doc.source.now a.doc.tape.now a.kind a.from a.to c.requires })
 
 pub is_blank-requires : goal.is_blank-requires
 is_blank-requires c = (turn (λ i g. g.run) c.loop-i.invariant.2 c.in-Some.ensures.steps).spanned

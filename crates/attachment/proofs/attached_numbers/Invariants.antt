@@ -7,4 +7,4 @@ abbrev pub invariant-loop-i : goal.invariant-loop-i
 invariant-loop-i l =
     (goal.iterator-loop-i).can_next l.i-iterator
     × (goal.iterator-loop-i).is_finite l.i-iterator
-    × At l.tape l.to (Going l.source l.tape l.kind l.from l.to l.found l.alt l.pubn) l.i-iterator
+    × At l.doc.tape.now l.to (Going l.doc.source.now l.doc.tape.now l.kind l.from l.to l.found l.alt l.pubn) l.i-iterator

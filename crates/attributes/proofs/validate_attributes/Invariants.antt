@@ -7,4 +7,4 @@ abbrev pub invariant-loop-i : goal.invariant-loop-i
 invariant-loop-i l =
     (goal.iterator-loop-i).can_next l.i-iterator
     × (goal.iterator-loop-i).is_finite l.i-iterator
-    × At l.tape l.to (λ i. Along l.owner l.source l.tape l.from l.to l.initial.list l.initial.r i l.list l.r) l.i-iterator
+    × At l.doc.tape.now l.to (λ i. Along l.owner l.doc.source.now l.doc.tape.now l.from l.to l.initial.list l.initial.r i l.list l.r) l.i-iterator

@@ -7,4 +7,4 @@ abbrev pub invariant-loop-i : goal.invariant-loop-i
 invariant-loop-i l =
     (goal.iterator-loop-i).can_next l.i-iterator
     × (goal.iterator-loop-i).is_finite l.i-iterator
-    × At l.tape l.end (λ i. Along l.source l.tape l.p i l.end) l.i-iterator
+    × At l.doc.tape.now l.end (λ i. Along l.doc.source.now l.doc.tape.now l.p i l.end) l.i-iterator

@@ -8,7 +8,7 @@ pub returns-then-not-is_of : goal.returns-then-not-is_of
 returns-then-not-is_of c =
     let a = c.args in
     let m = c.is_of in
-    other-category (entry_of_info a.m) (node_at a.source.now a.tape.now a.i) a.base_len m.result m.ensures c.if-not-is_of.true-raw
+    other-category (entry_of_info a.m) (node_at a.doc.source.now a.doc.tape.now a.i) a.base_len m.result m.ensures c.if-not-is_of.true-raw
 
 pub returns-then-not-ends_in : goal.returns-then-not-ends_in
 returns-then-not-ends_in c =
@@ -16,7 +16,7 @@ returns-then-not-ends_in c =
     let m = c.is_of in
     let n = c.marker_name-name in
     let y = c.ends_in in
-    no_start (entry_of_info a.m) (node_at a.source.now a.tape.now a.i) a.base_len m.result m.ensures c.if-not-is_of.false-raw n.result.now n.ensures y.result y.ensures c.if-not-ends_in.true-raw
+    no_start (entry_of_info a.m) (node_at a.doc.source.now a.doc.tape.now a.i) a.base_len m.result m.ensures c.if-not-is_of.false-raw n.result.now n.ensures y.result y.ensures c.if-not-ends_in.true-raw
 
 pub returns : goal.returns
 returns c =
@@ -25,4 +25,4 @@ returns c =
     let n = c.marker_name-name in
     let y = c.ends_in in
     let z = c.milestone_base-base in
-    start-by-base (entry_of_info a.m) (node_at a.source.now a.tape.now a.i) a.base_len m.result m.ensures c.if-not-is_of.false-raw n.result.now n.ensures y.result y.ensures c.if-not-ends_in.false-raw z.result.now z.ensures
+    start-by-base (entry_of_info a.m) (node_at a.doc.source.now a.doc.tape.now a.i) a.base_len m.result m.ensures c.if-not-is_of.false-raw n.result.now n.ensures y.result y.ensures c.if-not-ends_in.false-raw z.result.now z.ensures

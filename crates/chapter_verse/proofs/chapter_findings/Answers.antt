@@ -18,8 +18,8 @@ use Rattle.chapter_verse.proofs.chapter_findings.Goals as goal
 pub error_if-d-requires : goal.error_if-d-requires
 error_if-d-requires c =
     let entry : Option Entry = info_of c.args.info in
-    let node : Node = let a = c.args in node_at a.source.now a.tape.now a.i in
-    let state : WalkState = let a = c.args in state_of a.source.now a.tape.now a.seen.now [] a.rec in
+    let node : Node = let a = c.args in node_at a.doc.source.now a.doc.tape.now a.i in
+    let state : WalkState = let a = c.args in state_of a.doc.source.now a.doc.tape.now a.seen.now [] a.rec in
     let Rest : List Check → List ℕ → Counts → Type 0 = let a = c.args in Due (given (chapter_checks entry state node)) a.list.now (counts_of a.rec) in
     let empty : Bool = is_empty c.args.label.now in
     let bare : empty ≡ (bare_chapter entry node).holds = let s = c in is-bare entry node s.args.label.now s.requires.1.label_is in
@@ -31,8 +31,8 @@ pub warn_if-e-requires : goal.warn_if-e-requires
 warn_if-e-requires c =
     let number : ℕ = c.link_at-number.result in
     let entry : Option Entry = info_of c.args.info in
-    let node : Node = let a = c.args in node_at a.source.now a.tape.now a.i in
-    let state : WalkState = let a = c.args in state_of a.source.now a.tape.now a.seen.now [] a.rec in
+    let node : Node = let a = c.args in node_at a.doc.source.now a.doc.tape.now a.i in
+    let state : WalkState = let a = c.args in state_of a.doc.source.now a.doc.tape.now a.seen.now [] a.rec in
     let Rest : List Check → List ℕ → Counts → Type 0 = let a = c.args in Due (given (chapter_checks entry state node)) a.list.now (counts_of a.rec) in
     let empty : Bool = is_empty c.args.label.now in
     let bare : empty ≡ (bare_chapter entry node).holds = let s = c in is-bare entry node s.args.label.now s.requires.1.label_is in
@@ -48,8 +48,8 @@ pub warn_if-g-requires : goal.warn_if-g-requires
 warn_if-g-requires c =
     let number : ℕ = c.link_at-number.result in
     let entry : Option Entry = info_of c.args.info in
-    let node : Node = let a = c.args in node_at a.source.now a.tape.now a.i in
-    let state : WalkState = let a = c.args in state_of a.source.now a.tape.now a.seen.now [] a.rec in
+    let node : Node = let a = c.args in node_at a.doc.source.now a.doc.tape.now a.i in
+    let state : WalkState = let a = c.args in state_of a.doc.source.now a.doc.tape.now a.seen.now [] a.rec in
     let Rest : List Check → List ℕ → Counts → Type 0 = let a = c.args in Due (given (chapter_checks entry state node)) a.list.now (counts_of a.rec) in
     let empty : Bool = is_empty c.args.label.now in
     let bare : empty ≡ (bare_chapter entry node).holds = let s = c in is-bare entry node s.args.label.now s.requires.1.label_is in
@@ -67,8 +67,8 @@ pub check_number_form-requires : goal.check_number_form-requires
 check_number_form-requires c =
     let number : ℕ = c.link_at-number.result in
     let entry : Option Entry = info_of c.args.info in
-    let node : Node = let a = c.args in node_at a.source.now a.tape.now a.i in
-    let state : WalkState = let a = c.args in state_of a.source.now a.tape.now a.seen.now [] a.rec in
+    let node : Node = let a = c.args in node_at a.doc.source.now a.doc.tape.now a.i in
+    let state : WalkState = let a = c.args in state_of a.doc.source.now a.doc.tape.now a.seen.now [] a.rec in
     let Rest : List Check → List ℕ → Counts → Type 0 = let a = c.args in Due (given (chapter_checks entry state node)) a.list.now (counts_of a.rec) in
     let empty : Bool = is_empty c.args.label.now in
     let bare : empty ≡ (bare_chapter entry node).holds = let s = c in is-bare entry node s.args.label.now s.requires.1.label_is in
@@ -85,8 +85,8 @@ pub returns : goal.returns
 returns c =
     let number : ℕ = c.link_at-number.result in
     let entry : Option Entry = info_of c.args.info in
-    let node : Node = let a = c.args in node_at a.source.now a.tape.now a.i in
-    let state : WalkState = let a = c.args in state_of a.source.now a.tape.now a.seen.now [] a.rec in
+    let node : Node = let a = c.args in node_at a.doc.source.now a.doc.tape.now a.i in
+    let state : WalkState = let a = c.args in state_of a.doc.source.now a.doc.tape.now a.seen.now [] a.rec in
     let Rest : List Check → List ℕ → Counts → Type 0 = let a = c.args in Due (given (chapter_checks entry state node)) a.list.now (counts_of a.rec) in
     let empty : Bool = is_empty c.args.label.now in
     let bare : empty ≡ (bare_chapter entry node).holds = let s = c in is-bare entry node s.args.label.now s.requires.1.label_is in

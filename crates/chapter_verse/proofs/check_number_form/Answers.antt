@@ -14,7 +14,7 @@ use Rattle.chapter_verse.proofs.check_number_form.Goals as goal
 pub warn_if-d-requires : goal.warn_if-d-requires
 warn_if-d-requires c =
     let entry : Option Entry = info_of c.args.info in
-    let node : Node = let a = c.args in node_at a.source.now a.tape.now a.i in
+    let node : Node = let a = c.args in node_at a.doc.source.now a.doc.tape.now a.i in
     let Rest : List Check → List ℕ → Counts → Type 0 = let a = c.args in Due (given (number_form a.form entry node)) a.list.now a.c in
     let due-two : Rest (number_form c.args.form entry node) c.args.list.now c.args.c = let a = c.args in due-start (number_form a.form entry node) a.list.now a.c a.c refl c.requires.2 in
     let s = c in
@@ -23,7 +23,7 @@ warn_if-d-requires c =
 pub error_if-requires : goal.error_if-requires
 error_if-requires c =
     let entry : Option Entry = info_of c.args.info in
-    let node : Node = let a = c.args in node_at a.source.now a.tape.now a.i in
+    let node : Node = let a = c.args in node_at a.doc.source.now a.doc.tape.now a.i in
     let Rest : List Check → List ℕ → Counts → Type 0 = let a = c.args in Due (given (number_form a.form entry node)) a.list.now a.c in
     let leading : c.leading_zeros-zeros.result ≡ (zeros c.args.form entry node).holds = let s = c in is-led entry node s.args.label.now s.requires.1.label_is c.leading_zeros-zeros.result c.leading_zeros-zeros.ensures in
     let due-two : Rest (number_form c.args.form entry node) c.args.list.now c.args.c = let a = c.args in due-start (number_form a.form entry node) a.list.now a.c a.c refl c.requires.2 in
@@ -35,7 +35,7 @@ error_if-requires c =
 pub returns : goal.returns
 returns c =
     let entry : Option Entry = info_of c.args.info in
-    let node : Node = let a = c.args in node_at a.source.now a.tape.now a.i in
+    let node : Node = let a = c.args in node_at a.doc.source.now a.doc.tape.now a.i in
     let Rest : List Check → List ℕ → Counts → Type 0 = let a = c.args in Due (given (number_form a.form entry node)) a.list.now a.c in
     let leading : c.leading_zeros-zeros.result ≡ (zeros c.args.form entry node).holds = let s = c in is-led entry node s.args.label.now s.requires.1.label_is c.leading_zeros-zeros.result c.leading_zeros-zeros.ensures in
     let due-two : Rest (number_form c.args.form entry node) c.args.list.now c.args.c = let a = c.args in due-start (number_form a.form entry node) a.list.now a.c a.c refl c.requires.2 in

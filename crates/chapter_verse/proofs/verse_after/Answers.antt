@@ -4,11 +4,6 @@ use Rattle.numbers.specs.Verse.{position_of, read_of}
 use Rattle.chapter_verse.proofs.Positions.{stays, last-readable, next-of-last}
 use Rattle.chapter_verse.proofs.verse_after.Goals as goal
 
-pub end_read-requires : goal.end_read-requires
-end_read-requires c =
-    let s = c in
-    sym (ap read_of c.in-Ok.is) ∙ s.requires.1
-
 pub next_expected-requires : goal.next_expected-requires
 next_expected-requires c =
     let s = c in

@@ -26,9 +26,9 @@ breaks-amiss-requires c =
 pub warn_if-d-requires : goal.warn_if-d-requires
 warn_if-d-requires c =
     let entry : Option Entry = info_of c.args.info in
-    let node : Node = let a = c.args in node_at a.source.now a.tape.now a.i in
+    let node : Node = let a = c.args in node_at a.doc.source.now a.doc.tape.now a.i in
     let context : WalkContext = context_of c.args.context in
-    let state : WalkState = let a = c.args in state_of a.source.now a.tape.now [] [] a.rec in
+    let state : WalkState = let a = c.args in state_of a.doc.source.now a.doc.tape.now [] [] a.rec in
     let last : List Check = unreadable entry node ∷ number_form 1 entry node in
     let one : List Check = amiss entry state node ∷ last in
     let two : List Check = bare_verse entry node ∷ one in
@@ -42,9 +42,9 @@ warn_if-d-requires c =
 pub error_if-e-requires : goal.error_if-e-requires
 error_if-e-requires c =
     let entry : Option Entry = info_of c.args.info in
-    let node : Node = let a = c.args in node_at a.source.now a.tape.now a.i in
+    let node : Node = let a = c.args in node_at a.doc.source.now a.doc.tape.now a.i in
     let context : WalkContext = context_of c.args.context in
-    let state : WalkState = let a = c.args in state_of a.source.now a.tape.now [] [] a.rec in
+    let state : WalkState = let a = c.args in state_of a.doc.source.now a.doc.tape.now [] [] a.rec in
     let last : List Check = unreadable entry node ∷ number_form 1 entry node in
     let one : List Check = amiss entry state node ∷ last in
     let two : List Check = bare_verse entry node ∷ one in
@@ -59,9 +59,9 @@ error_if-e-requires c =
 pub error_if-g-requires : goal.error_if-g-requires
 error_if-g-requires c =
     let entry : Option Entry = info_of c.args.info in
-    let node : Node = let a = c.args in node_at a.source.now a.tape.now a.i in
+    let node : Node = let a = c.args in node_at a.doc.source.now a.doc.tape.now a.i in
     let context : WalkContext = context_of c.args.context in
-    let state : WalkState = let a = c.args in state_of a.source.now a.tape.now [] [] a.rec in
+    let state : WalkState = let a = c.args in state_of a.doc.source.now a.doc.tape.now [] [] a.rec in
     let last : List Check = unreadable entry node ∷ number_form 1 entry node in
     let one : List Check = amiss entry state node ∷ last in
     let two : List Check = bare_verse entry node ∷ one in
@@ -80,9 +80,9 @@ error_if-g-requires c =
 pub warn_if-h-requires : goal.warn_if-h-requires
 warn_if-h-requires c =
     let entry : Option Entry = info_of c.args.info in
-    let node : Node = let a = c.args in node_at a.source.now a.tape.now a.i in
+    let node : Node = let a = c.args in node_at a.doc.source.now a.doc.tape.now a.i in
     let context : WalkContext = context_of c.args.context in
-    let state : WalkState = let a = c.args in state_of a.source.now a.tape.now [] [] a.rec in
+    let state : WalkState = let a = c.args in state_of a.doc.source.now a.doc.tape.now [] [] a.rec in
     let last : List Check = unreadable entry node ∷ number_form 1 entry node in
     let one : List Check = amiss entry state node ∷ last in
     let two : List Check = bare_verse entry node ∷ one in
@@ -105,9 +105,9 @@ warn_if-h-requires c =
 pub unread_finding-k-requires : goal.unread_finding-k-requires
 unread_finding-k-requires c =
     let entry : Option Entry = info_of c.args.info in
-    let node : Node = let a = c.args in node_at a.source.now a.tape.now a.i in
+    let node : Node = let a = c.args in node_at a.doc.source.now a.doc.tape.now a.i in
     let context : WalkContext = context_of c.args.context in
-    let state : WalkState = let a = c.args in state_of a.source.now a.tape.now [] [] a.rec in
+    let state : WalkState = let a = c.args in state_of a.doc.source.now a.doc.tape.now [] [] a.rec in
     let last : List Check = unreadable entry node ∷ number_form 1 entry node in
     let one : List Check = amiss entry state node ∷ last in
     let two : List Check = bare_verse entry node ∷ one in
@@ -135,9 +135,9 @@ unread_finding-k-requires c =
 pub check_number_form-requires : goal.check_number_form-requires
 check_number_form-requires c =
     let entry : Option Entry = info_of c.args.info in
-    let node : Node = let a = c.args in node_at a.source.now a.tape.now a.i in
+    let node : Node = let a = c.args in node_at a.doc.source.now a.doc.tape.now a.i in
     let context : WalkContext = context_of c.args.context in
-    let state : WalkState = let a = c.args in state_of a.source.now a.tape.now [] [] a.rec in
+    let state : WalkState = let a = c.args in state_of a.doc.source.now a.doc.tape.now [] [] a.rec in
     let last : List Check = unreadable entry node ∷ number_form 1 entry node in
     let one : List Check = amiss entry state node ∷ last in
     let two : List Check = bare_verse entry node ∷ one in
@@ -166,9 +166,9 @@ check_number_form-requires c =
 pub returns : goal.returns
 returns c =
     let entry : Option Entry = info_of c.args.info in
-    let node : Node = let a = c.args in node_at a.source.now a.tape.now a.i in
+    let node : Node = let a = c.args in node_at a.doc.source.now a.doc.tape.now a.i in
     let context : WalkContext = context_of c.args.context in
-    let state : WalkState = let a = c.args in state_of a.source.now a.tape.now [] [] a.rec in
+    let state : WalkState = let a = c.args in state_of a.doc.source.now a.doc.tape.now [] [] a.rec in
     let last : List Check = unreadable entry node ∷ number_form 1 entry node in
     let one : List Check = amiss entry state node ∷ last in
     let two : List Check = bare_verse entry node ∷ one in

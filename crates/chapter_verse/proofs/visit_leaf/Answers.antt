@@ -23,25 +23,20 @@ returns-then-not-is_numbered c =
     let s = n in
     let a = s.args in
     let k = n.kind_at-kind in
-    visited-other a.table.now a.source.now a.tape.now (context_of a.context) a.i k.result k.ensures (sym n.is_numbered.ensures ∙ not-true _ c.if-not-is_numbered.true-raw) a.seen.now a.list.now a.rec s.requires.2
+    visited-other a.table.now a.doc.source.now a.doc.tape.now (context_of a.context) a.i k.result k.ensures (sym n.is_numbered.ensures ∙ c.if-not-is_numbered.true) a.seen.now a.list.now a.rec s.requires.2
 
 pub chapter_findings-c-requires : goal.chapter_findings-c-requires
 chapter_findings-c-requires c =
     let entry : Option Entry = info_of c.marker_info-info.result in
-    let state : WalkState = let a = c.args in state_of a.source.now a.tape.now a.seen.now [] a.rec in
-    let node : Node = let a = c.args in node_at a.source.now a.tape.now a.i in
+    let state : WalkState = let a = c.args in state_of a.doc.source.now a.doc.tape.now a.seen.now [] a.rec in
+    let node : Node = let a = c.args in node_at a.doc.source.now a.doc.tape.now a.i in
     let label : List ℕ = let at = c.label_span-at.result in take (at.end - at.start) (drop at.start c.text-text.result.now) in
     let labelled : LabelRead entry node label c.label_span-at.result.glued = let t = c.text-text in let at = c.label_span-at in label-read entry node t.result.now at.result t.ensures at.ensures in
     let l = c in
     let s = l in
     let a = s.args in
     let k = l.kind_at-kind in
-    (s.requires.1.inside, labelled, omega (arith, s.requires.3), room-chapter a.table.now a.source.now a.tape.now (context_of a.context) a.i k.result k.ensures entry l.marker_info-info.ensures c.if-kind-eq-CHAPTER.true state (counts_of a.rec) s.requires.5)
-
-pub after_chapter-q-requires : goal.after_chapter-q-requires
-after_chapter-q-requires c =
-    let s = c in
-    (s.requires.1.inside, s.requires.3)
+    (s.requires.1.inside, labelled, omega (arith, s.requires.3), room-chapter a.table.now a.doc.source.now a.doc.tape.now (context_of a.context) a.i k.result k.ensures entry l.marker_info-info.ensures c.if-kind-eq-CHAPTER.true state (counts_of a.rec) s.requires.5)
 
 pub returns-then-kind-eq-CHAPTER : goal.returns-then-kind-eq-CHAPTER
 returns-then-kind-eq-CHAPTER c =
@@ -51,13 +46,13 @@ returns-then-kind-eq-CHAPTER c =
     let l = f in
     let a = l.args in
     let k = l.kind_at-kind in
-    rw c.with_counts.ensures (visited-chapter a.table.now a.source.now a.tape.now (context_of a.context) a.i k.result k.ensures entry l.marker_info-info.ensures f.if-kind-eq-CHAPTER.true f.chapter_findings-c.ensures q.after_chapter-q.ensures)
+    rw c.with_counts.ensures (visited-chapter a.table.now a.doc.source.now a.doc.tape.now (context_of a.context) a.i k.result k.ensures entry l.marker_info-info.ensures f.if-kind-eq-CHAPTER.true f.chapter_findings-c.ensures q.after_chapter-q.ensures)
 
 pub verse_findings-c-requires : goal.verse_findings-c-requires
 verse_findings-c-requires c =
     let entry : Option Entry = info_of c.marker_info-info.result in
-    let state : WalkState = let a = c.args in state_of a.source.now a.tape.now a.seen.now [] a.rec in
-    let node : Node = let a = c.args in node_at a.source.now a.tape.now a.i in
+    let state : WalkState = let a = c.args in state_of a.doc.source.now a.doc.tape.now a.seen.now [] a.rec in
+    let node : Node = let a = c.args in node_at a.doc.source.now a.doc.tape.now a.i in
     let label : List ℕ = let at = c.label_span-at.result in take (at.end - at.start) (drop at.start c.text-text.result.now) in
     let labelled : LabelRead entry node label c.label_span-at.result.glued = let t = c.text-text in let at = c.label_span-at in label-read entry node t.result.now at.result t.ensures at.ensures in
     let a-number : numbered c.kind_at-kind.result ≡ true = let e = c in sym e.is_numbered.ensures ∙ not-false _ e.if-not-is_numbered.false-raw in
@@ -66,18 +61,7 @@ verse_findings-c-requires c =
     let s = l in
     let a = s.args in
     let k = l.kind_at-kind in
-    (s.requires.1.inside, labelled, c.parse_verse_part-read.ensures, s.requires.2, room-verse a.table.now a.source.now a.tape.now (context_of a.context) a.i k.result k.ensures entry l.marker_info-info.ensures a-number n.if-kind-eq-CHAPTER.false state (counts_of a.rec) s.requires.5)
-
-pub after_verse-q-requires : goal.after_verse-q-requires
-after_verse-q-requires c =
-    let entry : Option Entry = info_of c.marker_info-info.result in
-    let node : Node = let a = c.args in node_at a.source.now a.tape.now a.i in
-    let label : List ℕ = let at = c.label_span-at.result in take (at.end - at.start) (drop at.start c.text-text.result.now) in
-    let labelled : LabelRead entry node label c.label_span-at.result.glued = let t = c.text-text in let at = c.label_span-at in label-read entry node t.result.now at.result t.ensures at.ensures in
-    let p = c in
-    let l = p in
-    let s = l in
-    (labelled.label_is, p.parse_verse_part-read.ensures, s.requires.2, s.requires.4)
+    (s.requires.1.inside, labelled, c.parse_verse_part-read.ensures, s.requires.2, room-verse a.table.now a.doc.source.now a.doc.tape.now (context_of a.context) a.i k.result k.ensures entry l.marker_info-info.ensures a-number n.if-kind-eq-CHAPTER.false state (counts_of a.rec) s.requires.5)
 
 pub returns : goal.returns
 returns c =
@@ -89,4 +73,4 @@ returns c =
     let l = n in
     let a = l.args in
     let k = l.kind_at-kind in
-    rw c.with_counts-2.ensures (visited-verse a.table.now a.source.now a.tape.now (context_of a.context) a.i k.result k.ensures entry l.marker_info-info.ensures a-number n.if-kind-eq-CHAPTER.false f.verse_findings-c.ensures q.after_verse-q.ensures)
+    rw c.with_counts-2.ensures (visited-verse a.table.now a.doc.source.now a.doc.tape.now (context_of a.context) a.i k.result k.ensures entry l.marker_info-info.ensures a-number n.if-kind-eq-CHAPTER.false f.verse_findings-c.ensures q.after_verse-q.ensures)

@@ -36,7 +36,7 @@ returns-then-out-end c =
     let p = c.requires in
     let l = c.loop-k in
     let h = c.loop-k-test.true in
-    let e = text_at (length a.text.now) a.table.now a.source.now a.tape.now a.held a.list.now p.1 l.k h in
+    let e = text_at (length a.text.now) a.table.now a.doc.source.now a.doc.tape.now a.held a.list.now p.1 l.k h in
     let r = piece-full _ _ _ _ l.out l.k l.at l.invariant.0 _ e _ c.put_whole-end.result (rw l.invariant.1 at c.put_whole-end.ensures) in
     let z = r c.if-out-end.true c.put_whole-end.auto.out in
     record { piece = z.0; next = z.1 }
@@ -47,7 +47,7 @@ loop-k-preserved c =
     let p = c.requires in
     let l = c.loop-k in
     let h = c.loop-k-test.true in
-    let e = text_at (length a.text.now) a.table.now a.source.now a.tape.now a.held a.list.now p.1 l.k h in
+    let e = text_at (length a.text.now) a.table.now a.doc.source.now a.doc.tape.now a.held a.list.now p.1 l.k h in
     let r = piece-on _ _ _ _ l.out l.k l.at l.invariant.0 _ e _ c.put_whole-end.result (rw l.invariant.1 at c.put_whole-end.ensures) in
     (r (omega (arith, c.if-out-end.false)) c.put_whole-end.auto.out h, c.put_whole-end.auto.text ∙ l.invariant.1)
 
@@ -61,6 +61,6 @@ pub returns : goal.returns
 returns c =
     let a = c.args in
     let l = c.loop-k in
-    let z = written_all _ _ _ _ l.out l.k l.at l.invariant.0 (texts-end (length a.text.now) a.table.now a.source.now a.tape.now a.held a.list.now c.requires.1 l.k (omega (arith, c.loop-k-test.false))) in
+    let z = written_all _ _ _ _ l.out l.k l.at l.invariant.0 (texts-end (length a.text.now) a.table.now a.doc.source.now a.doc.tape.now a.held a.list.now c.requires.1 l.k (omega (arith, c.loop-k-test.false))) in
     let e : a.held ≡ l.k = omega (arith, c.loop-k-test.false) in
     record { piece = z.0; next = e ∙ z.1 }

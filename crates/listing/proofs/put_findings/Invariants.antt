@@ -8,4 +8,4 @@ use Rattle.listing.proofs.put_findings.Given as goal
 
 abbrev pub invariant-loop-k : goal.invariant-loop-k
 invariant-loop-k l =
-    WritingPiece (listed_each (length l.initial.text) l.table l.source l.tape (held_findings l.held l.list)) l.held l.from l.initial.out l.out l.k l.at × (length l.text ≡ length l.initial.text)
+    WritingPiece (listed_each (length l.initial.text) l.table l.doc.source.now l.doc.tape.now (held_findings l.held l.list)) l.held l.from l.initial.out l.out l.k l.at × (length l.text ≡ length l.initial.text)

@@ -26,12 +26,12 @@ pub returns-then-end-out : goal.returns-then-end-out
 returns-then-end-out c =
     let a = c.args in
     let w = c.write_shown-n in
-    let law = whole-put a.table.now a.source.now a.tape.now a.list.now (length a.text.now) a.k _ c.request_at-q.ensures _ w.result w.ensures c.listed_at-f.result c.listed_at-f.ensures a.out.now a.at c.end_of-end.result c.end_of-end.ensures in
+    let law = whole-put a.table.now a.doc.source.now a.doc.tape.now a.list.now (length a.text.now) a.k _ c.request_at-q.ensures _ w.result w.ensures c.listed_at-f.result c.listed_at-f.ensures a.out.now a.at c.end_of-end.result c.end_of-end.ensures in
     law (omega (arith, c.if-end-out.true)) _ _ c.put_finding.ensures
 
 pub returns-else-end-out : goal.returns-else-end-out
 returns-else-end-out c =
     let a = c.args in
     let w = c.write_shown-n in
-    let law = whole-left a.table.now a.source.now a.tape.now a.list.now (length a.text.now) a.k _ c.request_at-q.ensures _ w.result w.ensures c.listed_at-f.result c.listed_at-f.ensures a.out.now a.at c.end_of-end.result c.end_of-end.ensures in
+    let law = whole-left a.table.now a.doc.source.now a.doc.tape.now a.list.now (length a.text.now) a.k _ c.request_at-q.ensures _ w.result w.ensures c.listed_at-f.result c.listed_at-f.ensures a.out.now a.at c.end_of-end.result c.end_of-end.ensures in
     law (omega (arith, c.if-end-out.false))

@@ -7,9 +7,9 @@ use Rattle.listing.proofs.write_shown.Goals as goal
 pub returns-in-Ok : goal.returns-in-Ok
 returns-in-Ok c =
     let a = c.args in
-    shown-whole (message_text a.table.now a.source.now a.tape.now (request_by a.q)) a.text.now _ c.message_in.result c.message_in.ensures.0 c.message_in.ensures.1 _ c.in-Ok.is
+    shown-whole (message_text a.table.now a.doc.source.now a.doc.tape.now (request_by a.q)) a.text.now _ c.message_in.result c.message_in.ensures.0 c.message_in.ensures.1 _ c.in-Ok.is
 
 pub returns-in-Err : goal.returns-in-Err
 returns-in-Err c =
     let a = c.args in
-    shown-none (message_text a.table.now a.source.now a.tape.now (request_by a.q)) a.text.now _ c.message_in.result c.message_in.ensures.0 c.message_in.ensures.1 _ c.in-Err.is
+    shown-none (message_text a.table.now a.doc.source.now a.doc.tape.now (request_by a.q)) a.text.now _ c.message_in.result c.message_in.ensures.0 c.message_in.ensures.1 _ c.in-Err.is

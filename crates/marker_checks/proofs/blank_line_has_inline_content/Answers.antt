@@ -4,7 +4,7 @@ use Rattle.std.proofs.lemmas.Iterator.Consumers.{YieldsList-from_first}
 use Rattle.std.proofs.lemmas.Iterator.Search.{find_from_yields_List}
 use Rattle.std.proofs.lemmas.Iterator.Adapters.{option_map_id}
 use Rattle.cursor.proofs.InTurn.{serves_from_siblings, found-spanned}
-use Rattle.cursor.specs.InTurn.{left}
+use Rattle.cursor.specs.InnerTurn.{left}
 use Rattle.marker_checks.proofs.Children.{first_settled, line-settled}
 use Rattle.marker_checks.proofs.blank_line_has_inline_content.Goals as goal
 

@@ -21,7 +21,7 @@ lacks_required_attributes-attribute-requires c = c.requires.1
 
 pub push_for_node-d-requires : goal.push_for_node-d-requires
 push_for_node-d-requires c =
-    let checks : List Check = let a = c.args in content_part a.source.now a.tape.now a.i a.name.now a.link in
+    let checks : List Check = let a = c.args in content_part a.doc.source.now a.doc.tape.now a.i a.name.now a.link in
     let Due : ℕ → List ℕ → Counts → Type 0 = λ k l d. Left (given checks) c.args.list.now c.args.c (given (drop k checks)) l d in
     let all : let a = c.args in Due 0 a.list.now a.c = left-start (given checks) c.args.list.now c.args.c in
     let p = c.requires in
@@ -30,7 +30,7 @@ push_for_node-d-requires c =
 
 pub push_for_node-d-requires-2 : goal.push_for_node-d-requires-2
 push_for_node-d-requires-2 c =
-    let checks : List Check = let a = c.args in content_part a.source.now a.tape.now a.i a.name.now a.link in
+    let checks : List Check = let a = c.args in content_part a.doc.source.now a.doc.tape.now a.i a.name.now a.link in
     let Due : ℕ → List ℕ → Counts → Type 0 = λ k l d. Left (given checks) c.args.list.now c.args.c (given (drop k checks)) l d in
     let all : let a = c.args in Due 0 a.list.now a.c = left-start (given checks) c.args.list.now c.args.c in
     let left-1 : Due 1 c.push_for_node-d.new.list c.push_for_node-d.result = let x = c.is_empty_figure-figure in given-wrote _ _ _ _ all x.result _ x.ensures refl _ _ c.push_for_node-d.ensures in
@@ -40,7 +40,7 @@ push_for_node-d-requires-2 c =
 
 pub push_for_node-requires : goal.push_for_node-requires
 push_for_node-requires c =
-    let checks : List Check = let a = c.args in content_part a.source.now a.tape.now a.i a.name.now a.link in
+    let checks : List Check = let a = c.args in content_part a.doc.source.now a.doc.tape.now a.i a.name.now a.link in
     let Due : ℕ → List ℕ → Counts → Type 0 = λ k l d. Left (given checks) c.args.list.now c.args.c (given (drop k checks)) l d in
     let all : let a = c.args in Due 0 a.list.now a.c = left-start (given checks) c.args.list.now c.args.c in
     let left-1 : Due 1 c.push_for_node-d.new.list c.push_for_node-d.result = let x = c.is_empty_figure-figure in given-wrote _ _ _ _ all x.result _ x.ensures refl _ _ c.push_for_node-d.ensures in
@@ -51,7 +51,7 @@ push_for_node-requires c =
 
 pub returns : goal.returns
 returns c =
-    let checks : List Check = let a = c.args in content_part a.source.now a.tape.now a.i a.name.now a.link in
+    let checks : List Check = let a = c.args in content_part a.doc.source.now a.doc.tape.now a.i a.name.now a.link in
     let Due : ℕ → List ℕ → Counts → Type 0 = λ k l d. Left (given checks) c.args.list.now c.args.c (given (drop k checks)) l d in
     let all : let a = c.args in Due 0 a.list.now a.c = left-start (given checks) c.args.list.now c.args.c in
     let left-1 : Due 1 c.push_for_node-d.new.list c.push_for_node-d.result = let x = c.is_empty_figure-figure in given-wrote _ _ _ _ all x.result _ x.ensures refl _ _ c.push_for_node-d.ensures in

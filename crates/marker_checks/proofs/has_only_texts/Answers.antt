@@ -3,7 +3,7 @@ use Rattle.std.proofs.Common.{sym, ◌∙◌, rules, tests}
 use Rattle.std.proofs.lemmas.Iterator.Consumers.{YieldsList-from_first}
 use Rattle.std.proofs.lemmas.Iterator.Search.{all_from_yields_List}
 use Rattle.cursor.proofs.InTurn.{serves_from_siblings}
-use Rattle.cursor.specs.InTurn.{left}
+use Rattle.cursor.specs.InnerTurn.{left}
 use Rattle.marker_checks.proofs.Children.{texts-all}
 use Rattle.marker_checks.proofs.has_only_texts.Goals as goal
 

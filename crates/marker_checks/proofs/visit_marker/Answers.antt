@@ -22,98 +22,98 @@ pub link_at-link-requires : goal.link_at-link-requires
 link_at-link-requires c =
     let a = c.args in
     let p = c.requires in
-    run-below a.source.now a.tape.now a.i a.to p.1 p.2
+    run-below a.doc.source.now a.doc.tape.now a.i a.to p.1 p.2
 
 pub after_id-next-requires : goal.after_id-next-requires
 after_id-next-requires c =
     let a = c.args in
     let p = c.requires in
     let k = c.link_at-link in
-    children a.source.now a.tape.now a.i a.to p.1 p.2 p.3 k.result k.ensures
+    children a.doc.source.now a.doc.tape.now a.i a.to p.1 p.2 p.3 k.result k.ensures
 
 pub id_findings-c-requires : goal.id_findings-c-requires
 unfolding ascii
 id_findings-c-requires c =
-    let ids : List Check = let a = c.args in id_part a.source.now a.tape.now a.i a.rec c.link_at-link.result c.equal-named.result in
-    let placed : List Check = let a = c.args in place_part a.source.now a.tape.now a.i a.to (context_of a.context) (entry_of_info a.m) c.name-name.result.now c.after_id-next.result in
-    let content : List Check = let a = c.args in content_part a.source.now a.tape.now a.i c.name-name.result.now c.link_at-link.result in
-    let row : List Finding = let a = c.args in row_part a.source.now a.tape.now a.i c.name-name.result.now c.link_at-link.result in
-    let attributes : List Finding = let a = c.args in attribute_part a.source.now a.tape.now a.i c.link_at-link.result in
-    let room : Room c.counts-c.result (given (ids ++ placed ++ content) ++ row ++ attributes) = let a = c.args in let n = c.name-name in let k = c.link_at-link in let d = c.equal-named in let f = c.after_id-next in own_room a.table.now a.source.now a.tape.now a.i a.to (context_of a.context) (entry_of_info a.m) a.rec n.result.now k.result d.result f.result n.ensures k.ensures d.ensures f.ensures c.counts-c.result c.counts-c.ensures c.requires.5 in
+    let ids : List Check = let a = c.args in id_part a.doc.source.now a.doc.tape.now a.i a.rec c.link_at-link.result c.equal-named.result in
+    let placed : List Check = let a = c.args in place_part a.doc.source.now a.doc.tape.now a.i a.to (context_of a.context) (entry_of_info a.m) c.name-name.result.now c.after_id-next.result in
+    let content : List Check = let a = c.args in content_part a.doc.source.now a.doc.tape.now a.i c.name-name.result.now c.link_at-link.result in
+    let row : List Finding = let a = c.args in row_part a.doc.source.now a.doc.tape.now a.i c.name-name.result.now c.link_at-link.result in
+    let attributes : List Finding = let a = c.args in attribute_part a.doc.source.now a.doc.tape.now a.i c.link_at-link.result in
+    let room : Room c.counts-c.result (given (ids ++ placed ++ content) ++ row ++ attributes) = let a = c.args in let n = c.name-name in let k = c.link_at-link in let d = c.equal-named in let f = c.after_id-next in own_room a.table.now a.doc.source.now a.doc.tape.now a.i a.to (context_of a.context) (entry_of_info a.m) a.rec n.result.now k.result d.result f.result n.ensures k.ensures d.ensures f.ensures c.counts-c.result c.counts-c.ensures c.requires.5 in
     let a = c.args in
     let p = c.requires in
     let k = c.link_at-link in
     let s = c in
-    (run-below a.source.now a.tape.now a.i a.to p.1 p.2, children a.source.now a.tape.now a.i a.to p.1 p.2 p.3 k.result k.ensures, room-id ids placed content row attributes a.list.now c.counts-c.result room)
+    (run-below a.doc.source.now a.doc.tape.now a.i a.to p.1 p.2, children a.doc.source.now a.doc.tape.now a.i a.to p.1 p.2 p.3 k.result k.ensures, room-id ids placed content row attributes a.list.now c.counts-c.result room)
 
 pub place_findings-c-requires : goal.place_findings-c-requires
 unfolding ascii
 place_findings-c-requires c =
-    let ids : List Check = let a = c.args in id_part a.source.now a.tape.now a.i a.rec c.link_at-link.result c.equal-named.result in
-    let placed : List Check = let a = c.args in place_part a.source.now a.tape.now a.i a.to (context_of a.context) (entry_of_info a.m) c.name-name.result.now c.after_id-next.result in
-    let content : List Check = let a = c.args in content_part a.source.now a.tape.now a.i c.name-name.result.now c.link_at-link.result in
-    let row : List Finding = let a = c.args in row_part a.source.now a.tape.now a.i c.name-name.result.now c.link_at-link.result in
-    let attributes : List Finding = let a = c.args in attribute_part a.source.now a.tape.now a.i c.link_at-link.result in
-    let room : Room c.counts-c.result (given (ids ++ placed ++ content) ++ row ++ attributes) = let a = c.args in let n = c.name-name in let k = c.link_at-link in let d = c.equal-named in let f = c.after_id-next in own_room a.table.now a.source.now a.tape.now a.i a.to (context_of a.context) (entry_of_info a.m) a.rec n.result.now k.result d.result f.result n.ensures k.ensures d.ensures f.ensures c.counts-c.result c.counts-c.ensures c.requires.5 in
+    let ids : List Check = let a = c.args in id_part a.doc.source.now a.doc.tape.now a.i a.rec c.link_at-link.result c.equal-named.result in
+    let placed : List Check = let a = c.args in place_part a.doc.source.now a.doc.tape.now a.i a.to (context_of a.context) (entry_of_info a.m) c.name-name.result.now c.after_id-next.result in
+    let content : List Check = let a = c.args in content_part a.doc.source.now a.doc.tape.now a.i c.name-name.result.now c.link_at-link.result in
+    let row : List Finding = let a = c.args in row_part a.doc.source.now a.doc.tape.now a.i c.name-name.result.now c.link_at-link.result in
+    let attributes : List Finding = let a = c.args in attribute_part a.doc.source.now a.doc.tape.now a.i c.link_at-link.result in
+    let room : Room c.counts-c.result (given (ids ++ placed ++ content) ++ row ++ attributes) = let a = c.args in let n = c.name-name in let k = c.link_at-link in let d = c.equal-named in let f = c.after_id-next in own_room a.table.now a.doc.source.now a.doc.tape.now a.i a.to (context_of a.context) (entry_of_info a.m) a.rec n.result.now k.result d.result f.result n.ensures k.ensures d.ensures f.ensures c.counts-c.result c.counts-c.ensures c.requires.5 in
     let a = c.args in
     let p = c.requires in
     let s = c in
-    (p.1, p.2, p.3, p.4 ∙ ap (λ (j : ℕ). starts_for (anchor_of a.source.now a.tape.now j a.i) (forest a.source.now a.tape.now a.i a.to)) (sym (ap (λ (q : State). q.anchor) c.after_id-next.ensures)), room-place ids placed content row attributes a.list.now c.counts-c.result room c.id_findings-c.new.list c.id_findings-c.result c.id_findings-c.ensures)
+    (p.1, p.2, p.3, p.4 ∙ ap (λ (j : ℕ). starts_for (anchor_of a.doc.source.now a.doc.tape.now j a.i) (forest a.doc.source.now a.doc.tape.now a.i a.to)) (sym (ap (λ (q : State). q.anchor) c.after_id-next.ensures)), room-place ids placed content row attributes a.list.now c.counts-c.result room c.id_findings-c.new.list c.id_findings-c.result c.id_findings-c.ensures)
 
 pub content_findings-c-requires : goal.content_findings-c-requires
 unfolding ascii
 content_findings-c-requires c =
-    let ids : List Check = let a = c.args in id_part a.source.now a.tape.now a.i a.rec c.link_at-link.result c.equal-named.result in
-    let placed : List Check = let a = c.args in place_part a.source.now a.tape.now a.i a.to (context_of a.context) (entry_of_info a.m) c.name-name.result.now c.after_id-next.result in
-    let content : List Check = let a = c.args in content_part a.source.now a.tape.now a.i c.name-name.result.now c.link_at-link.result in
-    let row : List Finding = let a = c.args in row_part a.source.now a.tape.now a.i c.name-name.result.now c.link_at-link.result in
-    let attributes : List Finding = let a = c.args in attribute_part a.source.now a.tape.now a.i c.link_at-link.result in
-    let room : Room c.counts-c.result (given (ids ++ placed ++ content) ++ row ++ attributes) = let a = c.args in let n = c.name-name in let k = c.link_at-link in let d = c.equal-named in let f = c.after_id-next in own_room a.table.now a.source.now a.tape.now a.i a.to (context_of a.context) (entry_of_info a.m) a.rec n.result.now k.result d.result f.result n.ensures k.ensures d.ensures f.ensures c.counts-c.result c.counts-c.ensures c.requires.5 in
+    let ids : List Check = let a = c.args in id_part a.doc.source.now a.doc.tape.now a.i a.rec c.link_at-link.result c.equal-named.result in
+    let placed : List Check = let a = c.args in place_part a.doc.source.now a.doc.tape.now a.i a.to (context_of a.context) (entry_of_info a.m) c.name-name.result.now c.after_id-next.result in
+    let content : List Check = let a = c.args in content_part a.doc.source.now a.doc.tape.now a.i c.name-name.result.now c.link_at-link.result in
+    let row : List Finding = let a = c.args in row_part a.doc.source.now a.doc.tape.now a.i c.name-name.result.now c.link_at-link.result in
+    let attributes : List Finding = let a = c.args in attribute_part a.doc.source.now a.doc.tape.now a.i c.link_at-link.result in
+    let room : Room c.counts-c.result (given (ids ++ placed ++ content) ++ row ++ attributes) = let a = c.args in let n = c.name-name in let k = c.link_at-link in let d = c.equal-named in let f = c.after_id-next in own_room a.table.now a.doc.source.now a.doc.tape.now a.i a.to (context_of a.context) (entry_of_info a.m) a.rec n.result.now k.result d.result f.result n.ensures k.ensures d.ensures f.ensures c.counts-c.result c.counts-c.ensures c.requires.5 in
     let a = c.args in
     let p = c.requires in
     let k = c.link_at-link in
     let s = c in
-    (run-below a.source.now a.tape.now a.i a.to p.1 p.2, children a.source.now a.tape.now a.i a.to p.1 p.2 p.3 k.result k.ensures, room-content ids placed content row attributes a.list.now c.counts-c.result room c.id_findings-c.new.list c.id_findings-c.result c.id_findings-c.ensures c.place_findings-c.new.list c.place_findings-c.result c.place_findings-c.ensures)
+    (run-below a.doc.source.now a.doc.tape.now a.i a.to p.1 p.2, children a.doc.source.now a.doc.tape.now a.i a.to p.1 p.2 p.3 k.result k.ensures, room-content ids placed content row attributes a.list.now c.counts-c.result room c.id_findings-c.new.list c.id_findings-c.result c.id_findings-c.ensures c.place_findings-c.new.list c.place_findings-c.result c.place_findings-c.ensures)
 
 pub row_findings-c-requires : goal.row_findings-c-requires
 unfolding ascii
 row_findings-c-requires c =
-    let ids : List Check = let a = c.args in id_part a.source.now a.tape.now a.i a.rec c.link_at-link.result c.equal-named.result in
-    let placed : List Check = let a = c.args in place_part a.source.now a.tape.now a.i a.to (context_of a.context) (entry_of_info a.m) c.name-name.result.now c.after_id-next.result in
-    let content : List Check = let a = c.args in content_part a.source.now a.tape.now a.i c.name-name.result.now c.link_at-link.result in
-    let row : List Finding = let a = c.args in row_part a.source.now a.tape.now a.i c.name-name.result.now c.link_at-link.result in
-    let attributes : List Finding = let a = c.args in attribute_part a.source.now a.tape.now a.i c.link_at-link.result in
-    let room : Room c.counts-c.result (given (ids ++ placed ++ content) ++ row ++ attributes) = let a = c.args in let n = c.name-name in let k = c.link_at-link in let d = c.equal-named in let f = c.after_id-next in own_room a.table.now a.source.now a.tape.now a.i a.to (context_of a.context) (entry_of_info a.m) a.rec n.result.now k.result d.result f.result n.ensures k.ensures d.ensures f.ensures c.counts-c.result c.counts-c.ensures c.requires.5 in
+    let ids : List Check = let a = c.args in id_part a.doc.source.now a.doc.tape.now a.i a.rec c.link_at-link.result c.equal-named.result in
+    let placed : List Check = let a = c.args in place_part a.doc.source.now a.doc.tape.now a.i a.to (context_of a.context) (entry_of_info a.m) c.name-name.result.now c.after_id-next.result in
+    let content : List Check = let a = c.args in content_part a.doc.source.now a.doc.tape.now a.i c.name-name.result.now c.link_at-link.result in
+    let row : List Finding = let a = c.args in row_part a.doc.source.now a.doc.tape.now a.i c.name-name.result.now c.link_at-link.result in
+    let attributes : List Finding = let a = c.args in attribute_part a.doc.source.now a.doc.tape.now a.i c.link_at-link.result in
+    let room : Room c.counts-c.result (given (ids ++ placed ++ content) ++ row ++ attributes) = let a = c.args in let n = c.name-name in let k = c.link_at-link in let d = c.equal-named in let f = c.after_id-next in own_room a.table.now a.doc.source.now a.doc.tape.now a.i a.to (context_of a.context) (entry_of_info a.m) a.rec n.result.now k.result d.result f.result n.ensures k.ensures d.ensures f.ensures c.counts-c.result c.counts-c.ensures c.requires.5 in
     let a = c.args in
     let p = c.requires in
     let k = c.link_at-link in
     let s = c in
-    (children a.source.now a.tape.now a.i a.to p.1 p.2 p.3 k.result k.ensures, room_row ids placed content row attributes a.list.now c.counts-c.result room c.id_findings-c.new.list c.id_findings-c.result c.id_findings-c.ensures c.place_findings-c.new.list c.place_findings-c.result c.place_findings-c.ensures c.content_findings-c.new.list c.content_findings-c.result c.content_findings-c.ensures)
+    (children a.doc.source.now a.doc.tape.now a.i a.to p.1 p.2 p.3 k.result k.ensures, room_row ids placed content row attributes a.list.now c.counts-c.result room c.id_findings-c.new.list c.id_findings-c.result c.id_findings-c.ensures c.place_findings-c.new.list c.place_findings-c.result c.place_findings-c.ensures c.content_findings-c.new.list c.content_findings-c.result c.content_findings-c.ensures)
 
 pub validate_attributes-c-requires : goal.validate_attributes-c-requires
 unfolding ascii
 validate_attributes-c-requires c =
-    let ids : List Check = let a = c.args in id_part a.source.now a.tape.now a.i a.rec c.link_at-link.result c.equal-named.result in
-    let placed : List Check = let a = c.args in place_part a.source.now a.tape.now a.i a.to (context_of a.context) (entry_of_info a.m) c.name-name.result.now c.after_id-next.result in
-    let content : List Check = let a = c.args in content_part a.source.now a.tape.now a.i c.name-name.result.now c.link_at-link.result in
-    let row : List Finding = let a = c.args in row_part a.source.now a.tape.now a.i c.name-name.result.now c.link_at-link.result in
-    let attributes : List Finding = let a = c.args in attribute_part a.source.now a.tape.now a.i c.link_at-link.result in
-    let room : Room c.counts-c.result (given (ids ++ placed ++ content) ++ row ++ attributes) = let a = c.args in let n = c.name-name in let k = c.link_at-link in let d = c.equal-named in let f = c.after_id-next in own_room a.table.now a.source.now a.tape.now a.i a.to (context_of a.context) (entry_of_info a.m) a.rec n.result.now k.result d.result f.result n.ensures k.ensures d.ensures f.ensures c.counts-c.result c.counts-c.ensures c.requires.5 in
+    let ids : List Check = let a = c.args in id_part a.doc.source.now a.doc.tape.now a.i a.rec c.link_at-link.result c.equal-named.result in
+    let placed : List Check = let a = c.args in place_part a.doc.source.now a.doc.tape.now a.i a.to (context_of a.context) (entry_of_info a.m) c.name-name.result.now c.after_id-next.result in
+    let content : List Check = let a = c.args in content_part a.doc.source.now a.doc.tape.now a.i c.name-name.result.now c.link_at-link.result in
+    let row : List Finding = let a = c.args in row_part a.doc.source.now a.doc.tape.now a.i c.name-name.result.now c.link_at-link.result in
+    let attributes : List Finding = let a = c.args in attribute_part a.doc.source.now a.doc.tape.now a.i c.link_at-link.result in
+    let room : Room c.counts-c.result (given (ids ++ placed ++ content) ++ row ++ attributes) = let a = c.args in let n = c.name-name in let k = c.link_at-link in let d = c.equal-named in let f = c.after_id-next in own_room a.table.now a.doc.source.now a.doc.tape.now a.i a.to (context_of a.context) (entry_of_info a.m) a.rec n.result.now k.result d.result f.result n.ensures k.ensures d.ensures f.ensures c.counts-c.result c.counts-c.ensures c.requires.5 in
     let a = c.args in
     let p = c.requires in
     let k = c.link_at-link in
     let s = c in
-    (children a.source.now a.tape.now a.i a.to p.1 p.2 p.3 k.result k.ensures, run-spanned a.source.now a.tape.now a.i a.to p.1 p.2, room-attributes ids placed content row attributes a.list.now c.counts-c.result room c.id_findings-c.new.list c.id_findings-c.result c.id_findings-c.ensures c.place_findings-c.new.list c.place_findings-c.result c.place_findings-c.ensures c.content_findings-c.new.list c.content_findings-c.result c.content_findings-c.ensures c.row_findings-c.new.list c.row_findings-c.result c.row_findings-c.ensures)
+    (children a.doc.source.now a.doc.tape.now a.i a.to p.1 p.2 p.3 k.result k.ensures, run-spanned a.doc.source.now a.doc.tape.now a.i a.to p.1 p.2, room-attributes ids placed content row attributes a.list.now c.counts-c.result room c.id_findings-c.new.list c.id_findings-c.result c.id_findings-c.ensures c.place_findings-c.new.list c.place_findings-c.result c.place_findings-c.ensures c.content_findings-c.new.list c.content_findings-c.result c.content_findings-c.ensures c.row_findings-c.new.list c.row_findings-c.result c.row_findings-c.ensures)
 
 pub returns : goal.returns
 unfolding ascii
 returns c =
-    let ids : List Check = let a = c.args in id_part a.source.now a.tape.now a.i a.rec c.link_at-link.result c.equal-named.result in
-    let placed : List Check = let a = c.args in place_part a.source.now a.tape.now a.i a.to (context_of a.context) (entry_of_info a.m) c.name-name.result.now c.after_id-next.result in
-    let content : List Check = let a = c.args in content_part a.source.now a.tape.now a.i c.name-name.result.now c.link_at-link.result in
-    let row : List Finding = let a = c.args in row_part a.source.now a.tape.now a.i c.name-name.result.now c.link_at-link.result in
-    let attributes : List Finding = let a = c.args in attribute_part a.source.now a.tape.now a.i c.link_at-link.result in
-    let room : Room c.counts-c.result (given (ids ++ placed ++ content) ++ row ++ attributes) = let a = c.args in let n = c.name-name in let k = c.link_at-link in let d = c.equal-named in let f = c.after_id-next in own_room a.table.now a.source.now a.tape.now a.i a.to (context_of a.context) (entry_of_info a.m) a.rec n.result.now k.result d.result f.result n.ensures k.ensures d.ensures f.ensures c.counts-c.result c.counts-c.ensures c.requires.5 in
+    let ids : List Check = let a = c.args in id_part a.doc.source.now a.doc.tape.now a.i a.rec c.link_at-link.result c.equal-named.result in
+    let placed : List Check = let a = c.args in place_part a.doc.source.now a.doc.tape.now a.i a.to (context_of a.context) (entry_of_info a.m) c.name-name.result.now c.after_id-next.result in
+    let content : List Check = let a = c.args in content_part a.doc.source.now a.doc.tape.now a.i c.name-name.result.now c.link_at-link.result in
+    let row : List Finding = let a = c.args in row_part a.doc.source.now a.doc.tape.now a.i c.name-name.result.now c.link_at-link.result in
+    let attributes : List Finding = let a = c.args in attribute_part a.doc.source.now a.doc.tape.now a.i c.link_at-link.result in
+    let room : Room c.counts-c.result (given (ids ++ placed ++ content) ++ row ++ attributes) = let a = c.args in let n = c.name-name in let k = c.link_at-link in let d = c.equal-named in let f = c.after_id-next in own_room a.table.now a.doc.source.now a.doc.tape.now a.i a.to (context_of a.context) (entry_of_info a.m) a.rec n.result.now k.result d.result f.result n.ensures k.ensures d.ensures f.ensures c.counts-c.result c.counts-c.ensures c.requires.5 in
     let a = c.args in
     let n = c.name-name in
     let k = c.link_at-link in
@@ -123,4 +123,4 @@ returns c =
     let s = c in
     let v = c.validate_attributes-c in
     let all = wrote-all ids placed content row attributes a.list.now z.result room c.id_findings-c.new.list c.id_findings-c.result c.id_findings-c.ensures c.place_findings-c.new.list c.place_findings-c.result c.place_findings-c.ensures c.content_findings-c.new.list c.content_findings-c.result c.content_findings-c.ensures c.row_findings-c.new.list c.row_findings-c.result c.row_findings-c.ensures _ v.result v.ensures in
-    marked a.table.now a.source.now a.tape.now a.i a.to (context_of a.context) (entry_of_info a.m) a.rec n.result.now k.result d.result f.result n.ensures k.ensures d.ensures f.ensures a.list.now _ z.result v.result c.with_counts.result z.ensures c.with_counts.ensures all
+    marked a.table.now a.doc.source.now a.doc.tape.now a.i a.to (context_of a.context) (entry_of_info a.m) a.rec n.result.now k.result d.result f.result n.ensures k.ensures d.ensures f.ensures a.list.now _ z.result v.result c.with_counts.result z.ensures c.with_counts.ensures all

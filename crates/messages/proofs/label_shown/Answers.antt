@@ -18,7 +18,7 @@ text-requires c =
     let s = c in
     let k = c.kind_at in
     let n = c.is_numbered in
-    numbered-spanned s.args.source.now s.args.tape.now s.args.i s.requires.accepted s.requires.inside (sym (n.ensures ∙ ap numbered k.ensures) ∙ not-false _ c.if-not-is_numbered.false-raw)
+    numbered-spanned s.args.doc.source.now s.args.doc.tape.now s.args.i s.requires.accepted s.requires.inside (sym (n.ensures ∙ ap numbered k.ensures) ∙ not-false _ c.if-not-is_numbered.false-raw)
 
 pub returns : goal.returns
 returns c =

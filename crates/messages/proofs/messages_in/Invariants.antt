@@ -1,12 +1,9 @@
 -- `messages::messages_in` meets its contract.
-use Prim.Native.Nat.{◌-◌, ◌/◌}
+use Prim.Native.Nat.{◌/◌}
 use lib.ListN.{length}
 use Rattle.messages.specs.Messages.{text_at}
 use Rattle.messages.proofs.WritingTexts.{WritingTexts}
 use Rattle.messages.proofs.messages_in.Given as goal
 
 abbrev pub invariant-loop-k : goal.invariant-loop-k
-invariant-loop-k l = WritingTexts (text_at l.table l.source l.tape l.list) (length l.list / 8) l.initial.ends l.initial.out l.ends l.out l.k l.at
-
-abbrev pub decreases-loop-k : goal.decreases-loop-k
-decreases-loop-k l = length l.list / 8 - l.k
+invariant-loop-k l = WritingTexts (text_at l.table l.doc.source.now l.doc.tape.now l.list) (length l.list / 8) l.initial.ends l.initial.out l.ends l.out l.k l.at

@@ -13,7 +13,7 @@ name-requires c =
     let s = c in
     let a = s.args in
     let k = c.marker_info in
-    (entry-sound a.table.now a.index.now a.entries s.requires.0 a.tape.now a.i (entry_of_info c.in-Some.m) (sym k.ensures ∙ ap info_of c.in-Some.is)).inside
+    (entry-sound a.table.now a.index.now a.entries s.requires.0 a.doc.tape.now a.i (entry_of_info c.in-Some.m) (sym k.ensures ∙ ap info_of c.in-Some.is)).inside
 
 pub returns-in-Some : goal.returns-in-Some
 returns-in-Some c =

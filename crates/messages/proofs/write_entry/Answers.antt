@@ -18,8 +18,8 @@ pub returns-then-q-eq0 : goal.returns-then-q-eq0
 returns-then-q-eq0 c =
     let s = c in
     let a = s.args in
-    written-lacks a.table.now a.source.now a.tape.now (request_by a.q) texts.entry_name texts.empty texts.empty (holes-entry a.q.code s.requires.1)
-    (entry-none a.table.now a.source.now a.tape.now (request_by a.q) (root-entry a.table.now a.source.now a.tape.now (request_by a.q) s.requires.0.accepted s.requires.0.inside c.if-q-eq0.true))
+    written-lacks a.table.now a.doc.source.now a.doc.tape.now (request_by a.q) texts.entry_name texts.empty texts.empty (holes-entry a.q.code s.requires.1)
+    (entry-none a.table.now a.doc.source.now a.doc.tape.now (request_by a.q) (root-entry a.table.now a.doc.source.now a.doc.tape.now (request_by a.q) s.requires.0.accepted s.requires.0.inside c.if-q-eq0.true))
     a.out.now
 
 pub name_shown-name-requires : goal.name_shown-name-requires
@@ -27,16 +27,16 @@ name_shown-name-requires c =
     let s = c in
     let a = s.args in
     let h : 1 ≤ a.q.node = omega (arith, c.if-q-eq0.false) in
-    (s.requires.0.indexed, spanned a.source.now a.tape.now a.q.node s.requires.0.accepted h s.requires.0.inside)
+    (s.requires.0.indexed, spanned a.doc.source.now a.doc.tape.now a.q.node s.requires.0.accepted h s.requires.0.inside)
 
 pub returns-then-name-eq0 : goal.returns-then-name-eq0
 returns-then-name-eq0 c =
     let s = c in
     let a = s.args in
     let n = c.name_shown-name in
-    let is = by-table a.q.code (name_or a.table.now (info_at a.table.now a.tape.now a.q.node)) (name_of (node_at a.source.now a.tape.now a.q.node).text) n.result.now n.ensures s.requires.1 in
-    written-lacks a.table.now a.source.now a.tape.now (request_by a.q) texts.entry_name texts.empty texts.empty (holes-entry a.q.code s.requires.1)
-    (entry-none a.table.now a.source.now a.tape.now (request_by a.q) (entry-lacks a.table.now a.index.now a.entries s.requires.0.indexed a.tape.now a.q.node n.result.now is c.if-name-eq0.true))
+    let is = by-table a.q.code (name_or a.table.now (info_at a.table.now a.doc.tape.now a.q.node)) (name_of (node_at a.doc.source.now a.doc.tape.now a.q.node).text) n.result.now n.ensures s.requires.1 in
+    written-lacks a.table.now a.doc.source.now a.doc.tape.now (request_by a.q) texts.entry_name texts.empty texts.empty (holes-entry a.q.code s.requires.1)
+    (entry-none a.table.now a.doc.source.now a.doc.tape.now (request_by a.q) (entry-lacks a.table.now a.index.now a.entries s.requires.0.indexed a.doc.tape.now a.q.node n.result.now is c.if-name-eq0.true))
     a.out.now
 
 pub write_text-requires : goal.write_text-requires
@@ -44,16 +44,16 @@ write_text-requires c =
     let s = c in
     let a = s.args in
     let n = c.name_shown-name in
-    let is = by-table a.q.code (name_or a.table.now (info_at a.table.now a.tape.now a.q.node)) (name_of (node_at a.source.now a.tape.now a.q.node).text) n.result.now n.ensures s.requires.1 in
-    record { a_short = entry-fits a.table.now a.index.now a.entries s.requires.0.indexed a.tape.now a.q.node n.result.now is; b_short = omega arith; c_short = omega arith }
+    let is = by-table a.q.code (name_or a.table.now (info_at a.table.now a.doc.tape.now a.q.node)) (name_of (node_at a.doc.source.now a.doc.tape.now a.q.node).text) n.result.now n.ensures s.requires.1 in
+    record { a_short = entry-fits a.table.now a.index.now a.entries s.requires.0.indexed a.doc.tape.now a.q.node n.result.now is; b_short = omega arith; c_short = omega arith }
 
 pub returns : goal.returns
 returns c =
     let s = c in
     let a = s.args in
     let n = c.name_shown-name in
-    let is = by-table a.q.code (name_or a.table.now (info_at a.table.now a.tape.now a.q.node)) (name_of (node_at a.source.now a.tape.now a.q.node).text) n.result.now n.ensures s.requires.1 in
-    written-with a.table.now a.source.now a.tape.now (request_by a.q) texts.entry_name texts.empty texts.empty (holes-entry a.q.code s.requires.1)
+    let is = by-table a.q.code (name_or a.table.now (info_at a.table.now a.doc.tape.now a.q.node)) (name_of (node_at a.doc.source.now a.doc.tape.now a.q.node).text) n.result.now n.ensures s.requires.1 in
+    written-with a.table.now a.doc.source.now a.doc.tape.now (request_by a.q) texts.entry_name texts.empty texts.empty (holes-entry a.q.code s.requires.1)
     n.result.now [] []
-    (entry-shown a.table.now a.source.now a.tape.now (request_by a.q) n.result.now (entry-there a.table.now a.index.now a.entries s.requires.0.indexed a.tape.now a.q.node n.result.now is c.if-name-eq0.false))
+    (entry-shown a.table.now a.doc.source.now a.doc.tape.now (request_by a.q) n.result.now (entry-there a.table.now a.index.now a.entries s.requires.0.indexed a.doc.tape.now a.q.node n.result.now is c.if-name-eq0.false))
     a.out.now _ _ c.write_text.ensures

@@ -41,24 +41,24 @@ returns-in-9 c =
     let m = c in
     let a = m.args in
     let q = request_by a.q in
-    written-with a.table.now a.source.now a.tape.now q texts.first texts.second texts.empty (holes-9 q.code m.in-9.is) _ _ _ (numbers-shown a.table.now a.source.now a.tape.now q) _ _ _ c.write_numbers.ensures
+    written-with a.table.now a.doc.source.now a.doc.tape.now q texts.first texts.second texts.empty (holes-9 q.code m.in-9.is) _ _ _ (numbers-shown a.table.now a.doc.source.now a.doc.tape.now q) _ _ _ c.write_numbers.ensures
 
 pub returns-in-10 : goal.returns-in-10
 returns-in-10 c =
     let m = c in
     let a = m.args in
     let q = request_by a.q in
-    written-with a.table.now a.source.now a.tape.now q texts.first texts.second texts.empty (holes-10 q.code m.in-10.is) _ _ _ (numbers-shown a.table.now a.source.now a.tape.now q) _ _ _ c.write_numbers-in-10.ensures
+    written-with a.table.now a.doc.source.now a.doc.tape.now q texts.first texts.second texts.empty (holes-10 q.code m.in-10.is) _ _ _ (numbers-shown a.table.now a.doc.source.now a.doc.tape.now q) _ _ _ c.write_numbers-in-10.ensures
 
 pub returns-in-27 : goal.returns-in-27
 returns-in-27 c =
     let m = c in
     let a = m.args in
     let q = request_by a.q in
-    written-with a.table.now a.source.now a.tape.now q texts.first texts.second texts.empty (holes-27 q.code m.in-27.is) _ _ _ (numbers-shown a.table.now a.source.now a.tape.now q) _ _ _ c.write_numbers-in-27.ensures
+    written-with a.table.now a.doc.source.now a.doc.tape.now q texts.first texts.second texts.empty (holes-27 q.code m.in-27.is) _ _ _ (numbers-shown a.table.now a.doc.source.now a.doc.tape.now q) _ _ _ c.write_numbers-in-27.ensures
 
 pub returns-in_default : goal.returns-in_default
 returns-in_default c =
     let m = c in
     let a = m.args in
-    written-plain a.table.now a.source.now a.tape.now (request_by a.q) m.in_default.in_default-own.rest _ _ _ c.write_text.ensures
+    written-plain a.table.now a.doc.source.now a.doc.tape.now (request_by a.q) m.in_default.in_default-own.rest _ _ _ c.write_text.ensures

@@ -22,8 +22,8 @@ pub returns-then-q-eq0 : goal.returns-then-q-eq0
 returns-then-q-eq0 c =
     let s = c in
     let a = s.args in
-    written-lacks a.table.now a.source.now a.tape.now (request_by a.q) texts.number_name texts.owner texts.unit (holes-33 a.q.code s.requires.1)
-    (root-number a.table.now a.source.now a.tape.now (request_by a.q) c.if-q-eq0.true)
+    written-lacks a.table.now a.doc.source.now a.doc.tape.now (request_by a.q) texts.number_name texts.owner texts.unit (holes-33 a.q.code s.requires.1)
+    (root-number a.table.now a.doc.source.now a.doc.tape.now (request_by a.q) c.if-q-eq0.true)
     a.out.now
 
 pub name_shown-name-requires : goal.name_shown-name-requires
@@ -31,16 +31,16 @@ name_shown-name-requires c =
     let s = c in
     let a = s.args in
     let h : 1 ≤ a.q.node = omega (arith, c.if-q-eq0.false) in
-    (s.requires.0.indexed, spanned a.source.now a.tape.now a.q.node s.requires.0.accepted h s.requires.0.inside)
+    (s.requires.0.indexed, spanned a.doc.source.now a.doc.tape.now a.q.node s.requires.0.accepted h s.requires.0.inside)
 
 pub returns-then-not-is_number_marker : goal.returns-then-not-is_number_marker
 returns-then-not-is_number_marker c =
     let s = c in
     let a = s.args in
     let n = c.name_shown-name in
-    let is = by-source a.q.code (name_or a.table.now (info_at a.table.now a.tape.now a.q.node)) (name_of (node_at a.source.now a.tape.now a.q.node).text) n.result.now n.ensures 33 refl s.requires.1 in
-    written-lacks a.table.now a.source.now a.tape.now (request_by a.q) texts.number_name texts.owner texts.unit (holes-33 a.q.code s.requires.1)
-    (no_number a.table.now a.source.now a.tape.now (request_by a.q) n.result.now is c.if-q-eq0.false (sym c.is_number_marker.ensures ∙ not-true _ c.if-not-is_number_marker.true-raw))
+    let is = by-source a.q.code (name_or a.table.now (info_at a.table.now a.doc.tape.now a.q.node)) (name_of (node_at a.doc.source.now a.doc.tape.now a.q.node).text) n.result.now n.ensures 33 refl s.requires.1 in
+    written-lacks a.table.now a.doc.source.now a.doc.tape.now (request_by a.q) texts.number_name texts.owner texts.unit (holes-33 a.q.code s.requires.1)
+    (no_number a.table.now a.doc.source.now a.doc.tape.now (request_by a.q) n.result.now is c.if-q-eq0.false (sym c.is_number_marker.ensures ∙ not-true _ c.if-not-is_number_marker.true-raw))
     a.out.now
 
 pub write_unit-requires : goal.write_unit-requires
@@ -48,16 +48,16 @@ write_unit-requires c =
     let s = c in
     let a = s.args in
     let n = c.name_shown-name in
-    let is = by-source a.q.code (name_or a.table.now (info_at a.table.now a.tape.now a.q.node)) (name_of (node_at a.source.now a.tape.now a.q.node).text) n.result.now n.ensures 33 refl s.requires.1 in
-    (four-named n.result.now (sym c.is_number_marker.ensures ∙ not-false _ c.if-not-is_number_marker.false-raw), name-fits a.source.now a.tape.now a.q.node s.requires.0.short n.result.now is)
+    let is = by-source a.q.code (name_or a.table.now (info_at a.table.now a.doc.tape.now a.q.node)) (name_of (node_at a.doc.source.now a.doc.tape.now a.q.node).text) n.result.now n.ensures 33 refl s.requires.1 in
+    (four-named n.result.now (sym c.is_number_marker.ensures ∙ not-false _ c.if-not-is_number_marker.false-raw), name-fits a.doc.source.now a.doc.tape.now a.q.node s.requires.0.short n.result.now is)
 
 pub returns : goal.returns
 returns c =
     let s = c in
     let a = s.args in
     let n = c.name_shown-name in
-    let is = by-source a.q.code (name_or a.table.now (info_at a.table.now a.tape.now a.q.node)) (name_of (node_at a.source.now a.tape.now a.q.node).text) n.result.now n.ensures 33 refl s.requires.1 in
-    written-with a.table.now a.source.now a.tape.now (request_by a.q) texts.number_name texts.owner texts.unit (holes-33 a.q.code s.requires.1)
+    let is = by-source a.q.code (name_or a.table.now (info_at a.table.now a.doc.tape.now a.q.node)) (name_of (node_at a.doc.source.now a.doc.tape.now a.q.node).text) n.result.now n.ensures 33 refl s.requires.1 in
+    written-with a.table.now a.doc.source.now a.doc.tape.now (request_by a.q) texts.number_name texts.owner texts.unit (holes-33 a.q.code s.requires.1)
     n.result.now (take 1 n.result.now) (unit_of (eqb (get_or n.result.now 0 0) 0x63))
-    (number-shown a.table.now a.source.now a.tape.now (request_by a.q) n.result.now is c.if-q-eq0.false (sym c.is_number_marker.ensures ∙ not-false _ c.if-not-is_number_marker.false-raw))
+    (number-shown a.table.now a.doc.source.now a.doc.tape.now (request_by a.q) n.result.now is c.if-q-eq0.false (sym c.is_number_marker.ensures ∙ not-false _ c.if-not-is_number_marker.false-raw))
     a.out.now _ _ c.write_unit.ensures

@@ -18,7 +18,7 @@ returns-then-q-gt127 c =
     let s = c in
     let a = s.args in
     let q = request_by a.q in
-    written-lacks a.table.now a.source.now a.tape.now q texts.position texts.label texts.empty (holes-11 q.code s.requires.1) (far-letter a.table.now a.source.now a.tape.now q (omega arith)) a.out.now
+    written-lacks a.table.now a.doc.source.now a.doc.tape.now q texts.position texts.label texts.empty (holes-11 q.code s.requires.1) (far-letter a.table.now a.doc.source.now a.doc.tape.now q (omega arith)) a.out.now
 
 pub returns-then-label-eq0 : goal.returns-then-label-eq0
 returns-then-label-eq0 c =
@@ -26,7 +26,7 @@ returns-then-label-eq0 c =
     let s = n in
     let a = s.args in
     let q = request_by a.q in
-    written-lacks a.table.now a.source.now a.tape.now q texts.position texts.label texts.empty (holes-11 q.code s.requires.1) (verse-lacks a.table.now a.source.now a.tape.now q n.label_shown-label.result.now n.label_shown-label.ensures (omega arith) c.if-label-eq0.true) a.out.now
+    written-lacks a.table.now a.doc.source.now a.doc.tape.now q texts.position texts.label texts.empty (holes-11 q.code s.requires.1) (verse-lacks a.table.now a.doc.source.now a.doc.tape.now q n.label_shown-label.result.now n.label_shown-label.ensures (omega arith) c.if-label-eq0.true) a.out.now
 
 pub write_position-requires : goal.write_position-requires
 write_position-requires c =
@@ -34,7 +34,7 @@ write_position-requires c =
     let s = n in
     let a = s.args in
     let q = request_by a.q in
-    (omega arith, label-fits a.source.now a.tape.now q.node s.requires.0.short (numbered (kind_at a.tape.now q.node)) (info_at a.table.now a.tape.now q.node) n.label_shown-label.result.now n.label_shown-label.ensures)
+    (omega arith, label-fits a.doc.source.now a.doc.tape.now q.node s.requires.0.short (numbered (kind_at a.doc.tape.now q.node)) (info_at a.table.now a.doc.tape.now q.node) n.label_shown-label.result.now n.label_shown-label.ensures)
 
 pub returns : goal.returns
 returns c =
@@ -44,4 +44,4 @@ returns c =
     let s = n in
     let a = s.args in
     let q = request_by a.q in
-    written-with a.table.now a.source.now a.tape.now q texts.position texts.label texts.empty (holes-11 q.code s.requires.1) (decimal q.first ++ letter_bytes q.second) n.label_shown-label.result.now [] (verse-shown a.table.now a.source.now a.tape.now q n.label_shown-label.result.now n.label_shown-label.ensures (omega arith) e.if-label-eq0.false) a.out.now p.write_position.new.out p.write_position.result p.write_position.ensures
+    written-with a.table.now a.doc.source.now a.doc.tape.now q texts.position texts.label texts.empty (holes-11 q.code s.requires.1) (decimal q.first ++ letter_bytes q.second) n.label_shown-label.result.now [] (verse-shown a.table.now a.doc.source.now a.doc.tape.now q n.label_shown-label.result.now n.label_shown-label.ensures (omega arith) e.if-label-eq0.false) a.out.now p.write_position.new.out p.write_position.result p.write_position.ensures

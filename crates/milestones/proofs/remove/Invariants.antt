@@ -4,7 +4,4 @@ use Rattle.milestones.proofs.Moves.{Moving}
 use Rattle.milestones.proofs.remove.Given as goal
 
 abbrev pub invariant-loop-i : goal.invariant-loop-i
-invariant-loop-i l = Moving l.initial.opens l.at l.last l.opens l.i
-
-abbrev pub decreases-loop-i : goal.decreases-loop-i
-decreases-loop-i l = l.last - l.i
+invariant-loop-i l = Moving l.initial.opens l.at (l.k - 1) l.opens l.i

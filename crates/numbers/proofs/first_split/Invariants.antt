@@ -1,13 +1,9 @@
 -- `numbers::first_split` meets its contract.
-use Prim.Native.Nat.{◌-◌}
-use lib.ListN.{length, drop}
+use lib.ListN.{drop}
 use mathlib.Core.Path.{◌≡◌}
 use Rattle.numbers.specs.Label.{bad_label}
 use Rattle.numbers.specs.Inner.{first_among}
 use Rattle.numbers.proofs.first_split.Given as goal
 
-abbrev pub invariant-loop-j : goal.invariant-loop-j
-invariant-loop-j l = first_among (bad_label l.table l.source l.tape) (drop l.j l.found) ≡ first_among (bad_label l.table l.source l.tape) l.found
-
-abbrev pub decreases-loop-j : goal.decreases-loop-j
-decreases-loop-j l = length l.found - l.j
+abbrev pub invariant-loop-i : goal.invariant-loop-i
+invariant-loop-i l = first_among (bad_label l.table l.doc.source.now l.doc.tape.now) (drop l.i-index l.found) ≡ first_among (bad_label l.table l.doc.source.now l.doc.tape.now) l.found

@@ -23,7 +23,7 @@ loop-i-preserved c =
     let x = c.is_numbered in
     let h : l.k < length l.found = omega (arith, v.2, v.3) in
     let n = x.ensures ∙ ap numbered c.kind_at.ensures in
-    (omega arith, omega arith, omega (arith, o.1, v.2), simp length-set v.3, rw o.0 (gathered t l.found l.k l.i a.to x.result h c.loop-i-test.true n) ∙ v.4)
+    (omega arith, omega arith, omega (arith, o.1, v.2), simp length-set v.3, rw o.0 (gathered t l.found l.k l.i a.to x.result h (omega arith) n) ∙ v.4)
 
 pub shape_of-found : goal.shape_of-found
 shape_of-found c = c.loop-i.invariant.3
@@ -32,4 +32,4 @@ pub returns : goal.returns
 returns c =
     let l = c.loop-i in
     let v = l.invariant in
-    (omega (arith, v.2, v.3), sym (gathered-all c.args.tape.now l.found l.k l.i c.args.to c.loop-i-test.false) ∙ v.4)
+    (omega (arith, v.2, v.3), sym (gathered-all c.args.tape.now l.found l.k l.i c.args.to (omega arith)) ∙ v.4)

@@ -8,6 +8,3 @@ use Rattle.numbers.proofs.gather.Given as goal
 
 abbrev pub invariant-loop-i : goal.invariant-loop-i
 invariant-loop-i l = (l.from ≤ l.i) × (l.i ≤ l.to) × (l.k + l.from ≤ l.i) × (length l.found ≡ length l.initial.found) × (take l.k l.found ++ numbers_in l.tape l.i (l.to - l.i) ≡ numbers_in l.tape l.from (l.to - l.from))
-
-abbrev pub decreases-loop-i : goal.decreases-loop-i
-decreases-loop-i l = l.to - l.i

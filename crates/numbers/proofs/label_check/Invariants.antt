@@ -9,7 +9,7 @@ use Rattle.table.specs.Inner.{Indexed}
 use Rattle.numbers.proofs.label_check.Given as goal
 
 abbrev pub invariant-loop-i : goal.invariant-loop-i
-invariant-loop-i l = (Indexed l.table l.index l.entries) × (Accepted l.source l.tape) × (l.n ≡ count l.tape) × (1 ≤ l.i) × (first_bad split_label (bad_label l.table l.source l.tape) l.i (l.n - l.i) ≡ label_refusal l.table l.source l.tape)
+invariant-loop-i l = (Indexed l.table l.index l.entries) × (Accepted l.doc.source.now l.doc.tape.now) × (l.n ≡ count l.doc.tape.now) × (1 ≤ l.i) × (first_bad split_label (bad_label l.table l.doc.source.now l.doc.tape.now) l.i (l.n - l.i) ≡ label_refusal l.table l.doc.source.now l.doc.tape.now)
 
 abbrev pub decreases-loop-i : goal.decreases-loop-i
 decreases-loop-i l = l.n - l.i

@@ -5,7 +5,7 @@ use Rattle.rows.proofs.is_cell.Goals as goal
 
 pub returns-then-starts_with : goal.returns-then-starts_with
 unfolding ascii
-returns-then-starts_with c = rw (sym c.starts_with.ensures ∙ c.if-starts_with.true)
+returns-then-starts_with c = rw (sym c.starts_with.ensures ∙ c.if-starts_with.true) c.if-starts_with.true
 
 pub returns-else-starts_with : goal.returns-else-starts_with
 unfolding ascii

@@ -2,7 +2,7 @@
 use Rattle.findings.specs.Finding.{finding_of}
 use Rattle.rows.specs.Cells.{range_of, cell_of}
 use mathlib.Core.Path.{refl, sym, ap, ◌∙◌}
-use Rattle.cursor.specs.InTurn.{left}
+use Rattle.cursor.specs.InnerTurn.{left}
 use Rattle.cursor.proofs.InTurn.{turn, last-turn}
 use Rattle.findings.proofs.Overlay.{left-start}
 use Rattle.rows.proofs.Cells.{skipped, fits, passed, done}

@@ -11,5 +11,5 @@ abbrev pub invariant-loop-i : goal.invariant-loop-i
 invariant-loop-i l =
     (goal.iterator-loop-i).can_next l.i-iterator
     × (goal.iterator-loop-i).is_finite l.i-iterator
-    × At l.tape l.to (Going l.source l.tape l.to (row_findings (forest l.source l.tape l.from l.to)) l.initial.list l.initial.c l.list l.c l.expected) l.i-iterator
+    × At l.doc.tape.now l.to (Going l.doc.source.now l.doc.tape.now l.to (row_findings (forest l.doc.source.now l.doc.tape.now l.from l.to)) l.initial.list l.initial.c l.list l.c l.expected) l.i-iterator
     × (length l.list ≡ length l.initial.list)

@@ -4,7 +4,6 @@ use Prim.Native.Nat.{◌≤◌}
 use lib.ListN.{length}
 use mathlib.Core.Path.{sym, ◌∙◌}
 use native.Mathlib.Omega.{arith}
-use Rattle.text.proofs.Cuts.{rest_all}
 use Rattle.text.proofs.Blocks.{starts-long}
 use Rattle.table.proofs.behind.Goals as goal
 
@@ -17,12 +16,3 @@ pub slice_bounds-result-start : goal.slice_bounds-result-start
 slice_bounds-result-start c =
     let fits : length c.args.key.now ≤ length c.args.s.now = let a = c.args in omega (arith, starts-long a.key.now a.s.now (sym c.starts_with.ensures ∙ c.if-starts_with.true)) in
     let h = fits in search rules
-
-pub returns-then-starts_with : goal.returns-then-starts_with
-returns-then-starts_with c =
-    let a = c.args in
-    let e = sym c.starts_with.ensures ∙ c.if-starts_with.true in
-    rw e (rest_all a.s.now (length a.key.now))
-
-pub returns : goal.returns
-returns c = let e = sym c.starts_with.ensures ∙ c.if-starts_with.false in sym (rw e)

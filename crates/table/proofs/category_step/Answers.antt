@@ -3,7 +3,6 @@ use lib.ListN.{get_or}
 use mathlib.Core.Bool.{false≢true}
 use mathlib.Core.List.{[]}
 use mathlib.Core.Path.{refl, sym, ◌∙◌}
-use native.Mathlib.Omega.{arith}
 use Rattle.table.specs.Lines.{categories}
 use Rattle.table.specs.Books.{code_from}
 use Rattle.table.proofs.Words.{every}
@@ -13,22 +12,12 @@ use Rattle.text.specs.Literal.{ascii}
 use Rattle.text.specs.Bytes.{equal, all}
 use Rattle.table.proofs.category_step.Goals as goal
 
-pub tail_step-requires : goal.tail_step-requires
-tail_step-requires c =
-    let head_of : HeadIs c.args.s.now c.head-w.result = head-is _ _ c.type_inv.s c.head-w.ensures in
-    head_of.long (omega arith)
-
 pub returns-then-w-eq-CHARACTE_WORD : goal.returns-then-w-eq-CHARACTE_WORD
 unfolding ascii categories code_from equal all every
 returns-then-w-eq-CHARACTE_WORD c =
     let head_of : HeadIs c.args.s.now c.head-w.result = head-is _ _ c.type_inv.s c.head-w.ensures in
     let d = c in
     c.tail_step.ensures ∙ front-there 9 categories _ _ 4 refl refl refl refl (λ m e. rw e) head_of d.if-w-eq-CHARACTE_WORD.true
-
-pub tail_step-requires-then-w-eq-PARAGRAP_WORD : goal.tail_step-requires-then-w-eq-PARAGRAP_WORD
-tail_step-requires-then-w-eq-PARAGRAP_WORD c =
-    let head_of : HeadIs c.args.s.now c.head-w.result = head-is _ _ c.type_inv.s c.head-w.ensures in
-    head_of.long (omega arith)
 
 pub returns-then-w-eq-PARAGRAP_WORD : goal.returns-then-w-eq-PARAGRAP_WORD
 unfolding ascii categories code_from equal all every
@@ -37,22 +26,12 @@ returns-then-w-eq-PARAGRAP_WORD c =
     let d = c in
     c.tail_step-then-w-eq-PARAGRAP_WORD.ensures ∙ front-there 9 categories _ _ 3 refl refl refl refl (λ m e. rw e) head_of d.if-w-eq-PARAGRAP_WORD.true
 
-pub tail_step-requires-then-w-eq-MILESTON_WORD : goal.tail_step-requires-then-w-eq-MILESTON_WORD
-tail_step-requires-then-w-eq-MILESTON_WORD c =
-    let head_of : HeadIs c.args.s.now c.head-w.result = head-is _ _ c.type_inv.s c.head-w.ensures in
-    head_of.long (omega arith)
-
 pub returns-then-w-eq-MILESTON_WORD : goal.returns-then-w-eq-MILESTON_WORD
 unfolding ascii categories code_from equal all every
 returns-then-w-eq-MILESTON_WORD c =
     let head_of : HeadIs c.args.s.now c.head-w.result = head-is _ _ c.type_inv.s c.head-w.ensures in
     let d = c in
     c.tail_step-then-w-eq-MILESTON_WORD.ensures ∙ front-there 9 categories _ _ 6 refl refl refl refl (λ m e. rw e) head_of d.if-w-eq-MILESTON_WORD.true
-
-pub tail_step-requires-then-w-eq-IDENTIFI_WORD : goal.tail_step-requires-then-w-eq-IDENTIFI_WORD
-tail_step-requires-then-w-eq-IDENTIFI_WORD c =
-    let head_of : HeadIs c.args.s.now c.head-w.result = head-is _ _ c.type_inv.s c.head-w.ensures in
-    head_of.long (omega arith)
 
 pub returns-then-w-eq-IDENTIFI_WORD : goal.returns-then-w-eq-IDENTIFI_WORD
 unfolding ascii categories code_from equal all every

@@ -1,6 +1,5 @@
 -- `table::role_line` meets its contract: the key of the constant is that of the definition, and no byte 10 is in it.
 use mathlib.Core.Path.{refl, ◌∙◌}
-use native.Mathlib.Omega.{arith}
 use Rattle.table.specs.Lines.{role_key, roles}
 use Rattle.table.specs.Books.{code_from}
 use Rattle.table.specs.Inner.{step_of}
@@ -9,12 +8,6 @@ use Rattle.table.proofs.Steps.{Read, line_read}
 use Rattle.text.specs.Literal.{ascii}
 use Rattle.text.specs.Bytes.{all}
 use Rattle.table.proofs.role_line.Goals as goal
-
-pub moved-requires : goal.moved-requires
-unfolding ascii all step_of
-moved-requires c =
-    let read : let a = c.args in Read a.table.now a.at 2 c.role_step.result = line_read _ _ 2 _ c.requires (c.role_step.ensures ∙ key_step role_key (code_from 0 roles) _ _ refl c.behind.ensures) in
-    omega (arith, read.fits)
 
 pub returns : goal.returns
 unfolding ascii all step_of

@@ -3,7 +3,6 @@ use lib.ListN.{get_or}
 use mathlib.Core.Bool.{false≢true}
 use mathlib.Core.List.{[]}
 use mathlib.Core.Path.{refl, sym, ◌∙◌}
-use native.Mathlib.Omega.{arith}
 use Rattle.table.specs.Lines.{roles}
 use Rattle.table.specs.Books.{code_from}
 use Rattle.table.proofs.Words.{every}
@@ -19,22 +18,12 @@ returns-then-w-eq-CONTENT_WORD c =
     let head_of : HeadIs c.args.s.now c.head-w.result = head-is _ _ c.type_inv.s c.head-w.ensures in
     front-there 5 roles _ _ 0 refl refl refl refl (λ m e. absurd (false≢true (sym e))) head_of c.if-w-eq-CONTENT_WORD.true
 
-pub tail_step-requires : goal.tail_step-requires
-tail_step-requires c =
-    let head_of : HeadIs c.args.s.now c.head-w.result = head-is _ _ c.type_inv.s c.head-w.ensures in
-    head_of.long (omega arith)
-
 pub returns-then-w-eq-EXCLUDED_WORD : goal.returns-then-w-eq-EXCLUDED_WORD
 unfolding ascii roles code_from equal all every
 returns-then-w-eq-EXCLUDED_WORD c =
     let head_of : HeadIs c.args.s.now c.head-w.result = head-is _ _ c.type_inv.s c.head-w.ensures in
     let d = c in
     c.tail_step.ensures ∙ front-there 5 roles _ _ 1 refl refl refl refl (λ m e. rw e) head_of d.if-w-eq-EXCLUDED_WORD.true
-
-pub tail_step-requires-then-w-eq-BOUNDARY_WORD : goal.tail_step-requires-then-w-eq-BOUNDARY_WORD
-tail_step-requires-then-w-eq-BOUNDARY_WORD c =
-    let head_of : HeadIs c.args.s.now c.head-w.result = head-is _ _ c.type_inv.s c.head-w.ensures in
-    head_of.long (omega arith)
 
 pub returns-then-w-eq-BOUNDARY_WORD : goal.returns-then-w-eq-BOUNDARY_WORD
 unfolding ascii roles code_from equal all every

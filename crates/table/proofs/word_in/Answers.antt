@@ -30,11 +30,6 @@ overflow_add-at-in-loop-at c =
     let reached : c.loop-at.at + c.find_byte-n.result ≤ length c.args.words.now = break-inside c.args.words.now c.loop-at.at _ c.find_byte-n.ensures (omega arith) in
     omega (arith, reached)
 
-pub loop-at-smaller : goal.loop-at-smaller
-loop-at-smaller c =
-    let reached : c.loop-at.at + c.find_byte-n.result ≤ length c.args.words.now = break-inside c.args.words.now c.loop-at.at _ c.find_byte-n.ensures (omega arith) in
-    omega (arith, reached)
-
 pub loop-at-preserved : goal.loop-at-preserved
 loop-at-preserved c =
     let reached : c.loop-at.at + c.find_byte-n.result ≤ length c.args.words.now = break-inside c.args.words.now c.loop-at.at _ c.find_byte-n.ensures (omega arith) in

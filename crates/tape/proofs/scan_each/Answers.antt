@@ -15,7 +15,7 @@ loop-i-preserved c =
     let l = c.loop-i in
     let g = l.invariant in
     let k = kind-step _ _ _ _ _ g.after c.kind_at-kind.ensures c.bad_kind.ensures c.if-bad_kind.false in
-    rw (c.span_step-span.ensures, c.taken_step-taken.ensures) (going_on _ _ _ _ _ _ _ _ _ g (omega (arith, c.loop-i-test.true)) _ _ k c.step-reading.ensures)
+    rw (c.span_step-span.ensures, c.taken_step-taken.ensures) (going_on _ _ _ _ _ _ _ _ _ g (omega arith) _ _ k c.step-reading.ensures)
 
 pub returns : goal.returns
 returns c = rw c.answer.ensures (going-last _ _ _ _ _ _ _ _ _ c.loop-i.invariant (omega arith))

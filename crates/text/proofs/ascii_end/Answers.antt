@@ -1,6 +1,5 @@
 -- `text::ascii_end` meets its contract. The invariant: what is passed is ASCII.
 use mathlib.Core.Path.{refl}
-use Prim.Native.Nat.{◌+◌}
 use native.Mathlib.Omega.{arith}
 use Rattle.text.proofs.Ascii.{none, joined}
 use Rattle.text.proofs.ascii_end.Goals as goal

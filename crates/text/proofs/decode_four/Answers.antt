@@ -1,6 +1,5 @@
 -- `text::decode_four` meets its contract.
 use lib.ListN.{drop}
-use mathlib.Core.Path.{◌∙◌}
 use native.Mathlib.Omega.{arith}
 use Rattle.text.proofs.Decode.{decode-0, decode-4}
 use Rattle.text.proofs.Rows.{picked, unpicked}

@@ -1,9 +1,9 @@
 -- `text::kept_len` meets its contract.
-use Prim.Native.Nat.{◌-◌, ◌+◌, ◌<◌}
+use Prim.Native.Nat.{◌-◌, ◌<◌}
 use borrow.Author.Tests.{ltb-true}
 use lib.ListN.{length, get_or}
 use lib.Seq.{length-take-le}
-use mathlib.Core.Path.{◌≡◌, refl, sym, ap, ◌∙◌}
+use mathlib.Core.Path.{refl, sym, ap, ◌∙◌}
 use native.Mathlib.Nat.{zero-add}
 use native.Mathlib.Omega.{arith}
 use Rattle.text.proofs.Kept.{ends-blank, ends-not-blank, kept-all, kept-none}

@@ -1,9 +1,7 @@
 -- `text::width_at` meets its contract: the first byte says how long a sequence may be.
-use lib.ListN.{get_or}
 use mathlib.Core.Bool.{Bool}
 use mathlib.Core.Path.{sym, ap, ◌∙◌}
 use native.Mathlib.Omega.{arith}
-use Rattle.text.proofs.Rows.{within-hi, within-above}
 use Rattle.text.proofs.Scan.{ascii-one}
 use Rattle.text.specs.Pick.{pick}
 use Rattle.text.proofs.width_at.Goals as goal

@@ -13,7 +13,7 @@ decreases-walk l = 2 * l.depth + 1
 
 abbrev pub invariant-walk-loop-i : goal.invariant-walk-loop-i
 invariant-walk-loop-i l =
-    Going l.table l.index l.entries l.source l.tape l.depth (context_of l.context) l.from l.to (walk_at l.table l.source l.tape (context_of l.context) l.from l.to l.fn.seen l.fn.opens l.fn.rec) l.fn.list l.fn.rec l.seen l.opens l.list l.rec l.numbers l.i
+    Going l.table l.index l.entries l.doc.source.now l.doc.tape.now l.depth (context_of l.context) l.from l.to (walk_at l.table l.doc.source.now l.doc.tape.now (context_of l.context) l.from l.to l.fn.seen l.fn.opens l.fn.rec) l.fn.list l.fn.rec l.seen l.opens l.list l.rec l.numbers l.i
 
 abbrev pub decreases-walk-loop-i : goal.decreases-walk-loop-i
 decreases-walk-loop-i l = l.to - l.i

@@ -3,7 +3,7 @@ use Rattle.std.proofs.Common.{sym, ◌∙◌, rules, tests}
 use Rattle.std.proofs.lemmas.Iterator.Consumers.{YieldsList-from_first}
 use Rattle.std.proofs.lemmas.Iterator.Search.{all_from_yields_List}
 use Rattle.cursor.proofs.InTurn.{serves_from_siblings}
-use Rattle.cursor.specs.InTurn.{left}
+use Rattle.cursor.specs.InnerTurn.{left}
 use Rattle.walk.proofs.Skipped.{passable, skipped-all}
 use Rattle.walk.proofs.can_skip_children.Goals as goal
 
@@ -12,5 +12,5 @@ all-requires-clause-callable c = serves_from_siblings c.requires c.new.ensures.i
 
 pub returns : goal.returns
 returns c =
-    all_from_yields_List (passable c.args.tape.now) c.all.new.self _ c.all.result c.all.ensures.ran (YieldsList-from_first (λ i. i) left _ c.new.ensures.items) (λ i v q r. search (rules, tests))
+    all_from_yields_List (passable c.args.doc.tape.now) c.all.new.self _ c.all.result c.all.ensures.ran (YieldsList-from_first (λ i. i) left _ c.new.ensures.items) (λ i v q r. search (rules, tests))
     ∙ sym (skipped-all _ _ _ _ c.requires)

@@ -7,16 +7,16 @@ pub returns-then-kind-eq-CHAPTER : goal.returns-then-kind-eq-CHAPTER
 returns-then-kind-eq-CHAPTER c =
     let a = c.args in
     let k = c.kind_at-kind in
-    new-numbers a.source.now a.tape.now a.i a.next a.to (starts_of a.numbers) k.result (starts_of c.attached_numbers.result) k.ensures (is-chapter a.tape.now a.i k.result k.ensures c.if-kind-eq-CHAPTER.true) c.attached_numbers.ensures
+    new-numbers a.doc.source.now a.doc.tape.now a.i a.next a.to (starts_of a.numbers) k.result (starts_of c.attached_numbers.result) k.ensures (is-chapter a.doc.tape.now a.i k.result k.ensures c.if-kind-eq-CHAPTER.true) c.attached_numbers.ensures
 
 pub returns-then-kind-eq-VERSE : goal.returns-then-kind-eq-VERSE
 returns-then-kind-eq-VERSE c =
     let a = c.args in
     let k = c.kind_at-kind in
-    new-numbers a.source.now a.tape.now a.i a.next a.to (starts_of a.numbers) k.result (starts_of c.attached_numbers-then-kind-eq-VERSE.result) k.ensures (is-verse a.tape.now a.i k.result k.ensures c.if-kind-eq-CHAPTER.false c.if-kind-eq-VERSE.true) c.attached_numbers-then-kind-eq-VERSE.ensures
+    new-numbers a.doc.source.now a.doc.tape.now a.i a.next a.to (starts_of a.numbers) k.result (starts_of c.attached_numbers-then-kind-eq-VERSE.result) k.ensures (is-verse a.doc.tape.now a.i k.result k.ensures c.if-kind-eq-CHAPTER.false c.if-kind-eq-VERSE.true) c.attached_numbers-then-kind-eq-VERSE.ensures
 
 pub returns : goal.returns
 returns c =
     let a = c.args in
     let k = c.kind_at-kind in
-    same_numbers a.source.now a.tape.now a.i a.next a.to (starts_of a.numbers) (is-neither a.tape.now a.i k.result k.ensures c.if-kind-eq-CHAPTER.false c.if-kind-eq-VERSE.false)
+    same_numbers a.doc.source.now a.doc.tape.now a.i a.next a.to (starts_of a.numbers) (is-neither a.doc.tape.now a.i k.result k.ensures c.if-kind-eq-CHAPTER.false c.if-kind-eq-VERSE.false)

@@ -1,7 +1,7 @@
 -- `table::BookId::from_code` meets its contract: the codes of the constant are the codes of the definition.
-use mathlib.Core.Path.{sym, ap, ◌∙◌}
+use mathlib.Core.Path.{sym, ◌∙◌}
 use native.Mathlib.Omega.{arith}
-use Rattle.table.specs.Books.{book_codes, book_of, id_of}
+use Rattle.table.specs.Books.{book_codes, book_of}
 use Rattle.table.specs.Inner.{triples}
 use Rattle.table.proofs.Words.{found}
 use Rattle.text.specs.Literal.{ascii}

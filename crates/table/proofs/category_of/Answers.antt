@@ -1,8 +1,0 @@
--- `table::category_of` meets its contract.
-use Rattle.table.proofs.Positions.{category-rest}
-use Rattle.table.proofs.category_of.Goals as goal
-
-pub returns-in_default : goal.returns-in_default
-returns-in_default c =
-    let r = c.in_default.in_default-own.rest in
-    category-rest c.args.n r.0.0.0.0.0.0.1 r.0.0.0.0.0.1 r.0.0.0.0.1 r.0.0.0.1 r.0.0.1 r.0.1 r.1
