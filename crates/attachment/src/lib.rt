@@ -40,7 +40,7 @@ fn is_published(kind: u8, name: &[u8]) -> bool
 }
 
 // Whether a node is blank or empty text.
-pub fn is_blank(doc: Document<'_>, i: usize) -> bool
+pub fn is_blank(doc: Document<'_, '_>, i: usize) -> bool
     requires { Spanned doc.source.now doc.tape.now i }
     ensures { result ≡ is_blank (node_at doc.entry.source.now doc.entry.tape.now i) }
 {
@@ -48,7 +48,7 @@ pub fn is_blank(doc: Document<'_>, i: usize) -> bool
 }
 
 // Whether a run of siblings has no marker in it.
-pub fn is_plain_text(doc: Document<'_>, from: usize, to: usize) -> bool
+pub fn is_plain_text(doc: Document<'_, '_>, from: usize, to: usize) -> bool
     requires { Run doc.source.now doc.tape.now from to }
     ensures { result ≡ plain (forest doc.entry.source.now doc.entry.tape.now from to) }
 {
@@ -63,7 +63,7 @@ fn claims(kind: u8, alt: bool, pubn: bool, name: &[u8]) -> bool
 }
 
 // Whether a node is an open marker whose name claims a free place.
-fn claims_at(doc: Document<'_>, i: usize, kind: u8, alt: bool, pubn: bool) -> bool
+fn claims_at(doc: Document<'_, '_>, i: usize, kind: u8, alt: bool, pubn: bool) -> bool
     requires { Spanned doc.source.now doc.tape.now i }
     ensures { result ≡ claims_at kind alt pubn (node_at doc.entry.source.now doc.entry.tape.now i) }
 {
@@ -90,7 +90,7 @@ fn added(a: Attached, start: u32) -> Attached
 }
 
 // The numbers attached to an anchor of the kind (3 a chapter, 4 a verse), among the siblings that follow it.
-pub fn attached_numbers(doc: Document<'_>, kind: u8, from: usize, to: usize) -> Attached
+pub fn attached_numbers(doc: Document<'_, '_>, kind: u8, from: usize, to: usize) -> Attached
     requires { Run doc.source.now doc.tape.now from to }
     ensures { starts_of result ≡ start_offsets (attached_numbers kind (forest doc.entry.source.now doc.entry.tape.now from to)) }
 {

@@ -192,7 +192,13 @@ pub fn validate_attribute(
 }
 
 // The findings of a node that is an Attribute; none of another.
-fn attribute_at(doc: Document<'_>, i: usize, owner: usize, list: &mut [u64], c: Counts) -> Counts
+fn attribute_at(
+    doc: Document<'_, '_>,
+    i: usize,
+    owner: usize,
+    list: &mut [u64],
+    c: Counts,
+) -> Counts
     requires { (Spanned doc.source.now doc.tape.now i) × (Spanned doc.source.now doc.tape.now owner) × Room c (of_node owner (name_of (node_at doc.source.now doc.tape.now owner).text) (node_at doc.source.now doc.tape.now i)) }
     ensures { Wrote (of_node owner (name_of (node_at doc.entry.source.now doc.entry.tape.now owner).text) (node_at doc.entry.source.now doc.entry.tape.now i)) list.old c list.new result }
 {
@@ -212,7 +218,7 @@ fn attribute_at(doc: Document<'_>, i: usize, owner: usize, list: &mut [u64], c: 
 
 // The findings of all Attributes among the children of a marker, its owner: the nodes from one up to another.
 pub fn validate_attributes(
-    doc: Document<'_>,
+    doc: Document<'_, '_>,
     from: usize,
     to: usize,
     owner: usize,

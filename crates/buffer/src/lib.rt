@@ -12,14 +12,15 @@ pub fn fitting(bytes: usize, list: usize, at: usize) -> usize
     bytes.min(list.saturating_sub(at))
 }
 
-// Writes the bytes, and gives the place behind them, whether or not they had room.
+// Writes the bytes, and gives the place behind them, whether or not they had room. A loop, since with `copy_from_slice` the archive for
+// C needs memmove from outside.
 pub fn put(out: &mut [u8], at: usize, s: &[u8]) -> usize
     requires { (at ≤ place_limit) × (length s.now ≤ place_limit) }
     ensures { Put s.now out.old at out.new result }
 {
     let n = fitting(s.len(), out.len(), at);
-    if 0 < n {
-        out[at..at + n].copy_from_slice(&s[..n]);
+    for i in 0..n {
+        out[at + i] = s[i];
     }
     at + s.len()
 }

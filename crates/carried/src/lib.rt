@@ -39,7 +39,7 @@ const LARGEST_EXPECTED: u64 = 4294967296;
 
 // Whether a place is between top-level nodes: the number of one, or the root's link. The nodes are in order, so that none past the
 // place is looked at.
-pub fn is_border(doc: Document<'_>, p: u64) -> bool
+pub fn is_border(doc: Document<'_, '_>, p: u64) -> bool
     requires { Accepted doc.source.now doc.tape.now }
     ensures { result ≡ is_border doc.entry.source.now doc.entry.tape.now p }
 {
@@ -77,7 +77,7 @@ pub fn has_bad_anchor(tape: &[u8], rec: CarriedRecord) -> bool
 }
 
 // Whether a marker is a milestone start whose base has the length.
-fn is_start_of(m: MarkerInfo, doc: Document<'_>, i: usize, base_len: u32) -> bool
+fn is_start_of(m: MarkerInfo, doc: Document<'_, '_>, i: usize, base_len: u32) -> bool
     requires { Spanned doc.source.now doc.tape.now i }
     ensures { result ≡ is_start_of (entry_of_info m) (node_at doc.entry.source.now doc.entry.tape.now i) base_len }
 {
@@ -98,7 +98,7 @@ pub fn is_bad_start(
     table: &[u8],
     index: &[u64],
     entries: usize,
-    doc: Document<'_>,
+    doc: Document<'_, '_>,
     node: u32,
     base_len: u32,
 ) -> bool
@@ -119,7 +119,7 @@ pub fn is_bad_start(
 }
 
 // Whether a record can't be this tape's by what it says itself, without a look at the open starts.
-pub fn is_bad_record(doc: Document<'_>, rec: CarriedRecord) -> bool
+pub fn is_bad_record(doc: Document<'_, '_>, rec: CarriedRecord) -> bool
     requires { Accepted doc.source.now doc.tape.now }
     ensures { result ≡ bad_record doc.entry.source.now doc.entry.tape.now (record_of rec) }
 {
@@ -130,7 +130,7 @@ pub fn is_bad_record(doc: Document<'_>, rec: CarriedRecord) -> bool
 }
 
 // The node that a record's anchor stands for: itself if it is a top-level node before the place, else 0, which is no anchor.
-pub fn anchor_node(doc: Document<'_>, rec: CarriedRecord) -> usize
+pub fn anchor_node(doc: Document<'_, '_>, rec: CarriedRecord) -> usize
     requires { Accepted doc.source.now doc.tape.now }
     ensures { result ≡ anchor_node doc.entry.source.now doc.entry.tape.now (record_of rec) }
 {

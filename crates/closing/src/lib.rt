@@ -38,7 +38,7 @@ fn of_document(code: u64) -> Finding
 }
 
 // Text before the `\id` marker: the first child of the root.
-pub fn text_before(doc: Document<'_>, to: usize, rec: State, list: &mut [u64]) -> Counts
+pub fn text_before(doc: Document<'_, '_>, to: usize, rec: State, list: &mut [u64]) -> Counts
     requires { (Run doc.source.now doc.tape.now 1 to) × Room (counts_of rec) (text_before (forest doc.source.now doc.tape.now 1 to)) }
     ensures { Wrote (text_before (forest doc.entry.source.now doc.entry.tape.now 1 to)) list.old (counts_of rec) list.new result }
 {
@@ -73,7 +73,12 @@ fn push_unclosed(tape: &[u8], o: OpenStart, list: &mut [u64], c: Counts) -> Coun
 }
 
 // The open starts that are left, in opening order.
-pub fn unclosed(doc: Document<'_>, opens: &mut [OpenStart], rec: State, list: &mut [u64]) -> Counts
+pub fn unclosed(
+    doc: Document<'_, '_>,
+    opens: &mut [OpenStart],
+    rec: State,
+    list: &mut [u64],
+) -> Counts
     requires { Left doc.source.now doc.tape.now opens.old rec }
     ensures { (opens.new ≡ opens.old) × Wrote (document.unclosed (open_nodes doc.entry.source.now doc.entry.tape.now opens.old rec.open_len)) list.old (counts_of rec) list.new result }
 {

@@ -20,9 +20,9 @@ use table::{MarkerId, MarkerInfo};
 
 // A source with the tape of its nodes.
 #[derive(Clone, Copy)]
-pub struct Document<'a> {
+pub struct Document<'a, 'b> {
     pub source: &'a [u8],
-    pub tape: &'a [u8],
+    pub tape: &'b [u8],
 }
 
 // Where a node's text stands in the source.
@@ -125,7 +125,7 @@ pub fn name_of(s: &[u8]) -> &[u8]
     &s[b..e]
 }
 
-impl<'a> Document<'a> {
+impl<'a, 'b> Document<'a, 'b> {
     // The text of a node: a part of the source.
     pub fn text(self, i: usize) -> &'a [u8]
         requires { Spanned self.source.now self.tape.now i }

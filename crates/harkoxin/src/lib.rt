@@ -181,7 +181,7 @@ fn write_held<'a>(
     table: &'a [u8],
     index: &[u64],
     entries: usize,
-    doc: Document<'a>,
+    doc: Document<'a, '_>,
     a: Result<Report, Refusal>,
     list: &mut [u64],
     ends: &mut [u64],

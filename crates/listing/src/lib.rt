@@ -17,13 +17,13 @@ ghost use Rattle.table.specs.Inner.{Indexed};
 ghost use Rattle.tape.specs.Forest.{Accepted};
 ghost use Rattle.findings.specs.Written.{whole_records};
 ghost use Rattle.definition.specs.Outcome.{smaller};
-ghost use Rattle.validate.specs.Entry.{answer_of};
+ghost use Rattle.validate.specs.Entry.{answer_in};
 ghost use Rattle.messages.specs.Message.{message_text};
 ghost use Rattle.messages.specs.Answer.{request_by};
 
 use cursor::Document;
 use messages::MessageRequest;
-use refusals::Refusal;
+use refusals::Numbered;
 use validate::Report;
 
 // The names by number.
@@ -238,19 +238,19 @@ pub fn lines_and_columns(source: &[u8], lines: &mut [u32], columns: &mut [u32])
 }
 
 // The lines before the findings, by what the check answers.
-pub fn put_head(out: &mut [u8], answer: Result<Report, Refusal>) -> usize
-    ensures lines { Put (head_lines (answer_of answer)) out.old 0 out.new result }
+pub fn put_head<E: Numbered>(out: &mut [u8], answer: Result<Report, E>) -> usize
+    ensures lines { Put (head_lines (answer_in E.says answer)) out.old 0 out.new result }
     ensures short { result ≤ 256 }
 {
     match answer {
-        Err(r) => put_refused(out, 0, r.reason.number(), r.place as u64),
+        Err(r) => put_refused(out, 0, r.number(), r.place()),
         Ok(r) => put_checked(out, 0, r.errors, r.warnings, r.infos, r.total),
     }
 }
 
 // How many findings the check has written.
-pub fn held(answer: Result<Report, Refusal>) -> u64
-    ensures { result ≡ held_count (answer_of answer) }
+pub fn held<E: Numbered>(answer: Result<Report, E>) -> u64
+    ensures { result ≡ held_count (answer_in E.says answer) }
 {
     match answer {
         Err(_) => 0,
@@ -263,7 +263,7 @@ fn write_shown<'a>(
     table: &'a [u8],
     index: &[u64],
     entries: usize,
-    doc: Document<'a>,
+    doc: Document<'a, '_>,
     q: MessageRequest,
     text: &mut [u8],
 ) -> usize
@@ -328,7 +328,7 @@ fn put_whole<'a>(
     table: &'a [u8],
     index: &[u64],
     entries: usize,
-    doc: Document<'a>,
+    doc: Document<'a, '_>,
     list: &[u64],
     k: usize,
     lines: &[u32],
@@ -363,7 +363,7 @@ pub fn put_findings<'a>(
     table: &'a [u8],
     index: &[u64],
     entries: usize,
-    doc: Document<'a>,
+    doc: Document<'a, '_>,
     list: &[u64],
     held: usize,
     from: usize,

@@ -50,7 +50,10 @@ mark_by None m = marked m
 abbrev pub mark_answer : ℕ → ℕ → ℕ → MarkAnswer
 mark_answer errors warnings verses = mark_by (mark_refusal errors warnings verses) (record { loss = loss_of errors warnings verses; mark = mark_of errors warnings verses })
 
--- what the code's answer says
+-- what the code's answer says, by what its refusal says
+abbrev pub mark_answer_in : {E : Type 0} → (E → Refusal) → Result PaperMark E → MarkAnswer
+mark_answer_in says (Ok m) = marked (record { loss = m.loss; mark = m.mark })
+mark_answer_in says (Err r) = refused (says r)
+
 abbrev pub mark_answer_of : Result PaperMark code.Refusal → MarkAnswer
-mark_answer_of (Ok m) = marked (record { loss = m.loss; mark = m.mark })
-mark_answer_of (Err r) = refused (refusal_of r)
+mark_answer_of answer = mark_answer_in refusal_of answer

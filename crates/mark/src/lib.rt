@@ -3,11 +3,11 @@
 
 ghost use Rattle.std.specs.Prelude.{◌≡◌, ◌≤◌};
 ghost use Rattle.buffer.specs.Over.{Put};
-ghost use Rattle.validate.specs.Entry.{answer_of};
-ghost use Rattle.mark.specs.Mark.{is_over, mark_answer, mark_answer_of};
+ghost use Rattle.validate.specs.Entry.{answer_in};
+ghost use Rattle.mark.specs.Mark.{is_over, mark_answer, mark_answer_in, mark_answer_of};
 ghost use Rattle.mark.specs.MarkLines.{mark_lines, mark_of_answer};
 
-use refusals::{Reason, Refusal};
+use refusals::{Numbered, Reason, Refusal};
 use validate::Report;
 
 // "over 1,000,000"
@@ -46,20 +46,23 @@ pub fn mark(errors: u64, warnings: u64, verses: u64) -> Result<PaperMark, Refusa
 }
 
 // The mark by what the check answers.
-pub fn mark_of(answer: Result<Report, Refusal>) -> Result<PaperMark, Refusal>
-    ensures { mark_answer_of result ≡ mark_of_answer (answer_of answer) }
+pub fn mark_of<E: Numbered>(answer: Result<Report, E>) -> Result<PaperMark, E>
+    ensures { mark_answer_in E.says result ≡ mark_of_answer (answer_in E.says answer) }
 {
     let r = answer?;
-    mark(r.errors, r.warnings, r.verses)
+    match mark(r.errors, r.warnings, r.verses) {
+        Ok(m) => Ok(m),
+        Err(refusal) => Err(E::of(refusal)),
+    }
 }
 
 // Writes the lines of mark-exercise over a lent list, by the mark.
-pub fn put_mark(out: &mut [u8], answer: Result<PaperMark, Refusal>) -> usize
-    ensures lines { Put (mark_lines (mark_answer_of answer)) out.old 0 out.new result }
+pub fn put_mark<E: Numbered>(out: &mut [u8], answer: Result<PaperMark, E>) -> usize
+    ensures lines { Put (mark_lines (mark_answer_in E.says answer)) out.old 0 out.new result }
     ensures short { result ≤ 256 }
 {
     match answer {
-        Err(r) => listing::put_refused(out, 0, r.reason.number(), r.place as u64),
+        Err(r) => listing::put_refused(out, 0, r.number(), r.place()),
         Ok(m) => {
             let second = listing::put_count(out, 0, b"loss", m.loss);
             listing::put_count(out, second, b"mark", m.mark)

@@ -54,7 +54,7 @@ fn push_for_node(
 }
 
 // The first word of the first Text of a run; empty where there is none.
-pub fn book_code<'a>(doc: Document<'a>, from: usize, to: usize) -> &'a [u8]
+pub fn book_code<'a>(doc: Document<'a, '_>, from: usize, to: usize) -> &'a [u8]
     requires { Run doc.source.now doc.tape.now from to }
     ensures { result.now ≡ book_code (forest doc.entry.source.now doc.entry.tape.now from to) }
 {
@@ -65,7 +65,7 @@ pub fn book_code<'a>(doc: Document<'a>, from: usize, to: usize) -> &'a [u8]
 }
 
 // Whether a node settles if a line has content: a marker, a chapter, a verse, or a text that isn't blank.
-fn settles(doc: Document<'_>, i: usize) -> bool
+fn settles(doc: Document<'_, '_>, i: usize) -> bool
     requires { Spanned doc.source.now doc.tape.now i }
     ensures { result ≡ settles (node_at doc.entry.source.now doc.entry.tape.now i) }
 {
@@ -74,7 +74,7 @@ fn settles(doc: Document<'_>, i: usize) -> bool
 }
 
 // Whether a line has a text that isn't blank or a marker, before any verse or chapter.
-fn blank_line_has_inline_content(doc: Document<'_>, from: usize, to: usize) -> bool
+fn blank_line_has_inline_content(doc: Document<'_, '_>, from: usize, to: usize) -> bool
     requires { Run doc.source.now doc.tape.now from to }
     ensures { result ≡ inline_content (forest doc.entry.source.now doc.entry.tape.now from to) }
 {
@@ -85,7 +85,7 @@ fn blank_line_has_inline_content(doc: Document<'_>, from: usize, to: usize) -> b
 }
 
 // Whether a run has a leaf of a kind; one whose text is blank counts if `blank` says so.
-fn has_leaf(doc: Document<'_>, from: usize, to: usize, kind: u8, blank: bool) -> bool
+fn has_leaf(doc: Document<'_, '_>, from: usize, to: usize, kind: u8, blank: bool) -> bool
     requires { (Run doc.source.now doc.tape.now from to) × (is_open kind ≡ false) }
     ensures { result ≡ has_leaf kind blank (forest doc.entry.source.now doc.entry.tape.now from to) }
 {
@@ -131,7 +131,7 @@ fn code_form(code: &[u8]) -> u64
 // The findings of node i if it is an `id`: `link` is the end of its children.
 fn id_findings(
     named: bool,
-    doc: Document<'_>,
+    doc: Document<'_, '_>,
     i: usize,
     link: usize,
     rec: State,
@@ -165,7 +165,7 @@ fn front_after(code: &[u8], before: bool) -> bool
 }
 
 // The record after a marker with the children from one node up to another.
-fn after_id(named: bool, doc: Document<'_>, from: usize, to: usize, rec: State) -> State
+fn after_id(named: bool, doc: Document<'_, '_>, from: usize, to: usize, rec: State) -> State
     requires { Run doc.source.now doc.tape.now from to }
     ensures { result ≡ with_id named (book_code (forest doc.entry.source.now doc.entry.tape.now from to)) rec }
 {
@@ -198,7 +198,7 @@ fn outside_note(m: MarkerInfo, note: bool, name: &[u8]) -> bool
 }
 
 #[tactic(auto, unfolding(text::specs::Literal::ascii))]
-fn filled_blank_line(name: &[u8], doc: Document<'_>, from: usize, to: usize) -> bool
+fn filled_blank_line(name: &[u8], doc: Document<'_, '_>, from: usize, to: usize) -> bool
     requires { Run doc.source.now doc.tape.now from to }
     ensures { result ≡ (equal name.now b_name && inline_content (forest doc.entry.source.now doc.entry.tape.now from to)) }
 {
@@ -212,7 +212,7 @@ fn before_chapter(m: MarkerInfo, rec: State) -> bool
 }
 
 // A number that isn't attached, by the table's name and the name as written.
-fn is_misplaced(name: &[u8], doc: Document<'_>, i: usize, numbers: Attached) -> bool
+fn is_misplaced(name: &[u8], doc: Document<'_, '_>, i: usize, numbers: Attached) -> bool
     requires { Spanned doc.source.now doc.tape.now i }
     ensures { result ≡ (one_of number_markers name.now && (one_of number_markers (name_of (node_at doc.entry.source.now doc.entry.tape.now i).text) && not (among (start_at doc.entry.tape.now i) (starts_of numbers)))) }
 {
@@ -225,7 +225,7 @@ fn is_misplaced(name: &[u8], doc: Document<'_>, i: usize, numbers: Attached) -> 
 fn place_findings(
     name: &[u8],
     m: MarkerInfo,
-    doc: Document<'_>,
+    doc: Document<'_, '_>,
     i: usize,
     to: usize,
     context: Context,
@@ -279,7 +279,7 @@ fn place_findings(
 
 // A figure without text, or with blank text alone; attributes don't count.
 #[tactic(auto, unfolding(text::specs::Literal::ascii))]
-fn is_empty_figure(name: &[u8], doc: Document<'_>, from: usize, to: usize) -> bool
+fn is_empty_figure(name: &[u8], doc: Document<'_, '_>, from: usize, to: usize) -> bool
     requires { Run doc.source.now doc.tape.now from to }
     ensures { result ≡ (equal name.now fig_name && not (has_text (forest doc.entry.source.now doc.entry.tape.now from to))) }
 {
@@ -288,7 +288,7 @@ fn is_empty_figure(name: &[u8], doc: Document<'_>, from: usize, to: usize) -> bo
 
 // A `\\w` without text, but for blank text, without an attribute and without a marker.
 #[tactic(auto, using(crate::proofs::Children::markers_plain), unfolding(text::specs::Literal::ascii))]
-fn is_empty_word(name: &[u8], doc: Document<'_>, from: usize, to: usize) -> bool
+fn is_empty_word(name: &[u8], doc: Document<'_, '_>, from: usize, to: usize) -> bool
     requires { Run doc.source.now doc.tape.now from to }
     ensures { result ≡ (equal name.now w_name && not (has_content (forest doc.entry.source.now doc.entry.tape.now from to))) }
 {
@@ -299,7 +299,7 @@ fn is_empty_word(name: &[u8], doc: Document<'_>, from: usize, to: usize) -> bool
 }
 
 #[tactic(auto, unfolding(text::specs::Literal::ascii))]
-fn lacks_required_attributes(name: &[u8], doc: Document<'_>, from: usize, to: usize) -> bool
+fn lacks_required_attributes(name: &[u8], doc: Document<'_, '_>, from: usize, to: usize) -> bool
     requires { Run doc.source.now doc.tape.now from to }
     ensures { result ≡ (equal name.now rb_name && not (has_attribute (forest doc.entry.source.now doc.entry.tape.now from to))) }
 {
@@ -309,7 +309,7 @@ fn lacks_required_attributes(name: &[u8], doc: Document<'_>, from: usize, to: us
 // The findings about the children of node i, which end at `link`.
 fn content_findings(
     name: &[u8],
-    doc: Document<'_>,
+    doc: Document<'_, '_>,
     i: usize,
     link: usize,
     list: &mut [u64],
@@ -340,7 +340,7 @@ fn content_findings(
 #[tactic(auto, unfolding(text::specs::Literal::ascii))]
 fn row_findings(
     name: &[u8],
-    doc: Document<'_>,
+    doc: Document<'_, '_>,
     from: usize,
     to: usize,
     list: &mut [u64],
@@ -359,7 +359,7 @@ fn row_findings(
 pub fn visit_marker(
     table: &[u8],
     m: MarkerInfo,
-    doc: Document<'_>,
+    doc: Document<'_, '_>,
     i: usize,
     to: usize,
     context: Context,
@@ -385,7 +385,7 @@ pub fn visit_marker(
 }
 
 // Whether a run has Texts alone.
-fn has_only_texts(doc: Document<'_>, from: usize, to: usize) -> bool
+fn has_only_texts(doc: Document<'_, '_>, from: usize, to: usize) -> bool
     requires { Run doc.source.now doc.tape.now from to }
     ensures { result ≡ only_texts (forest doc.entry.source.now doc.entry.tape.now from to) }
 {
@@ -421,7 +421,7 @@ fn is_placed(m: MarkerInfo, context: Context, chapter: bool) -> bool
 pub fn can_skip_marker(
     table: &[u8],
     m: MarkerInfo,
-    doc: Document<'_>,
+    doc: Document<'_, '_>,
     i: usize,
     context: Context,
     chapter: bool,

@@ -91,7 +91,96 @@ fn write_form(
     Some(fill_within(text, a, b, c, out))
 }
 
-// Each arm makes its text by a `*`: a borrowed byte string would be stored at the start of the function, whatever the code is.
+// The texts of each code, in the order of its forms. They are statics, since a text made in an arm is copied to the stack at the start of its function, whatever the code is.
+
+static MISSING_ID_MARKER_TEXTS: [&[u8]; 1] = [
+    b"document has chapters/verses but no \\id (book) marker",
+];
+
+static INVALID_BOOK_CODE_TEXTS: [&[u8]; 2] = [
+    b"book code \"\x01\" should be uppercase: \"\x04\"",
+    b"\"\x01\" is not a valid USFM book code",
+];
+
+static DUPLICATE_ID_TEXTS: [&[u8]; 1] = [b"more than one \\id marker"];
+
+static TEXT_BEFORE_ID_TEXTS: [&[u8]; 1] = [b"text appears before the \\id marker"];
+
+static MISSING_CHAPTER_MARKER_TEXTS: [&[u8]; 1] = [b"the document has no \\c (chapter) marker"];
+
+static INVALID_CHAPTER_SEQUENCE_TEXTS: [&[u8]; 1] = [b"expected chapter \x01 but found \x02"];
+
+static DUPLICATE_CHAPTER_TEXTS: [&[u8]; 1] = [b"chapter \x01 appears more than once"];
+
+static INVALID_VERSE_SEQUENCE_TEXTS: [&[u8]; 1] = [b"expected verse \x01 but found \x02"];
+
+static VERSE_OUTSIDE_PARAGRAPH_TEXTS: [&[u8]; 1] = [
+    b"\\v is not inside a body paragraph (e.g. \\c or \\s directly followed by \\v with no \\p)",
+];
+
+static LEADING_ZEROS_TEXTS: [&[u8]; 2] = [
+    b"chapter number `\x01` has leading zeros",
+    b"verse number `\x01` has leading zeros",
+];
+
+static MISSING_CHAPTER_NUMBER_TEXTS: [&[u8]; 1] = [b"\\c is missing its chapter number"];
+
+static MISSING_VERSE_NUMBER_TEXTS: [&[u8]; 1] = [b"\\v is missing its verse number"];
+
+static CHAR_CROSSES_VERSE_BOUNDARY_TEXTS: [&[u8]; 1] = [
+    b"a character marker spans a verse boundary (\\v inside a \\char span)",
+];
+
+static MISSING_SPACE_BEFORE_NUMBER_TEXTS: [&[u8]; 1] = [
+    b"\\\x01 needs a space before its number; read as \\\x02 \x03",
+];
+
+static UNREADABLE_VERSE_NUMBER_TEXTS: [&[u8]; 2] = [
+    b"verse label \x01 has no number",
+    b"verse label \x01 is too large",
+];
+
+static NOTE_SUBMARKER_OUTSIDE_NOTE_TEXTS: [&[u8]; 1] = [b"\\\x01 is only valid inside a note"];
+
+static NON_EMPTY_BLANK_LINE_TEXTS: [&[u8]; 1] = [b"\\b (blank line) must not contain content"];
+
+static MILESTONE_MISMATCH_TEXTS: [&[u8]; 2] = [
+    b"milestone \\\x01-s has no matching \\\x01-e",
+    b"milestone \\\x01-e has no matching \\\x01-s",
+];
+
+static EMPTY_FIGURE_TEXTS: [&[u8]; 1] = [b"\\fig has no caption content"];
+
+static MISSING_REQUIRED_ATTRIBUTE_TEXTS: [&[u8]; 1] = [
+    b"\\\x01 is missing its required \"gloss\" attribute",
+];
+
+static BODY_PARAGRAPH_BEFORE_CHAPTER_TEXTS: [&[u8]; 1] = [
+    b"body paragraph \\\x01 appears before any \\c (chapter)",
+];
+
+static EMPTY_WORD_MARKER_TEXTS: [&[u8]; 1] = [b"\\w has no text content or attributes"];
+
+static INVALID_TABLE_COLUMN_SEQUENCE_TEXTS: [&[u8]; 1] = [
+    b"expected table column \x01 but found column \x02",
+];
+
+static MISPLACED_NUMBER_MARKER_TEXTS: [&[u8]; 1] = [
+    b"\\\x01 must directly follow its \\\x02 (at most once per \x03); it is kept as character text",
+];
+
+static INVALID_ATTRIBUTES_TEXTS: [&[u8]; 4] = [
+    b"empty attribute list after `|`",
+    b"attribute key without a `=\"value\"`",
+    b"attribute has an empty value (e.g. `lemma=\"\"`)",
+    b"unterminated quoted attribute value",
+];
+
+static UNQUOTED_ATTRIBUTE_VALUE_TEXTS: [&[u8]; 1] = [b"attribute value must be quoted"];
+
+static DEFAULT_ATTRIBUTE_NOT_DEFINED_TEXTS: [&[u8]; 1] = [
+    b"\\\x01 has no default attribute; the value after `|` is invalid",
+];
 
 // The codes of the document and its book, else those below.
 fn document_text(
@@ -106,27 +195,18 @@ fn document_text(
     ensures { WrittenFrom all_texts code form a.now b.now c.now out.old out.new result }
 {
     match code {
-        findings::MISSING_ID_MARKER => {
-            let text = *b"document has chapters/verses but no \\id (book) marker";
-            write_form(&[&text], form, a, b, c, out)
-        }
-        findings::INVALID_BOOK_CODE => {
-            let text0 = *b"book code \"\x01\" should be uppercase: \"\x04\"";
-            let text1 = *b"\"\x01\" is not a valid USFM book code";
-            write_form(&[&text0, &text1], form, a, b, c, out)
-        }
-        findings::DUPLICATE_ID => {
-            let text = *b"more than one \\id marker";
-            write_form(&[&text], form, a, b, c, out)
-        }
-        findings::TEXT_BEFORE_ID => {
-            let text = *b"text appears before the \\id marker";
-            write_form(&[&text], form, a, b, c, out)
-        }
-        findings::MISSING_CHAPTER_MARKER => {
-            let text = *b"the document has no \\c (chapter) marker";
-            write_form(&[&text], form, a, b, c, out)
-        }
+        findings::MISSING_ID_MARKER => write_form(&MISSING_ID_MARKER_TEXTS, form, a, b, c, out),
+        findings::INVALID_BOOK_CODE => write_form(&INVALID_BOOK_CODE_TEXTS, form, a, b, c, out),
+        findings::DUPLICATE_ID => write_form(&DUPLICATE_ID_TEXTS, form, a, b, c, out),
+        findings::TEXT_BEFORE_ID => write_form(&TEXT_BEFORE_ID_TEXTS, form, a, b, c, out),
+        findings::MISSING_CHAPTER_MARKER => write_form(
+            &MISSING_CHAPTER_MARKER_TEXTS,
+            form,
+            a,
+            b,
+            c,
+            out,
+        ),
         _ => number_text(code, form, a, b, c, out),
     }
 }
@@ -137,28 +217,32 @@ fn number_text(code: u64, form: u64, a: &[u8], b: &[u8], c: &[u8], out: &mut [u8
     ensures { WrittenFrom (number_texts ++ marker_texts ++ attribute_texts) code form a.now b.now c.now out.old out.new result }
 {
     match code {
-        findings::INVALID_CHAPTER_SEQUENCE => {
-            let text = *b"expected chapter \x01 but found \x02";
-            write_form(&[&text], form, a, b, c, out)
-        }
-        findings::DUPLICATE_CHAPTER => {
-            let text = *b"chapter \x01 appears more than once";
-            write_form(&[&text], form, a, b, c, out)
-        }
-        findings::INVALID_VERSE_SEQUENCE => {
-            let text = *b"expected verse \x01 but found \x02";
-            write_form(&[&text], form, a, b, c, out)
-        }
-        findings::VERSE_OUTSIDE_PARAGRAPH => {
-            let text =
-                *b"\\v is not inside a body paragraph (e.g. \\c or \\s directly followed by \\v with no \\p)";
-            write_form(&[&text], form, a, b, c, out)
-        }
-        findings::LEADING_ZEROS => {
-            let text0 = *b"chapter number `\x01` has leading zeros";
-            let text1 = *b"verse number `\x01` has leading zeros";
-            write_form(&[&text0, &text1], form, a, b, c, out)
-        }
+        findings::INVALID_CHAPTER_SEQUENCE => write_form(
+            &INVALID_CHAPTER_SEQUENCE_TEXTS,
+            form,
+            a,
+            b,
+            c,
+            out,
+        ),
+        findings::DUPLICATE_CHAPTER => write_form(&DUPLICATE_CHAPTER_TEXTS, form, a, b, c, out),
+        findings::INVALID_VERSE_SEQUENCE => write_form(
+            &INVALID_VERSE_SEQUENCE_TEXTS,
+            form,
+            a,
+            b,
+            c,
+            out,
+        ),
+        findings::VERSE_OUTSIDE_PARAGRAPH => write_form(
+            &VERSE_OUTSIDE_PARAGRAPH_TEXTS,
+            form,
+            a,
+            b,
+            c,
+            out,
+        ),
+        findings::LEADING_ZEROS => write_form(&LEADING_ZEROS_TEXTS, form, a, b, c, out),
         _ => more_number_text(code, form, a, b, c, out),
     }
 }
@@ -176,27 +260,46 @@ fn more_number_text(
     ensures { WrittenFrom (drop 5 number_texts ++ marker_texts ++ attribute_texts) code form a.now b.now c.now out.old out.new result }
 {
     match code {
-        findings::MISSING_CHAPTER_NUMBER => {
-            let text = *b"\\c is missing its chapter number";
-            write_form(&[&text], form, a, b, c, out)
-        }
-        findings::MISSING_VERSE_NUMBER => {
-            let text = *b"\\v is missing its verse number";
-            write_form(&[&text], form, a, b, c, out)
-        }
-        findings::CHAR_CROSSES_VERSE_BOUNDARY => {
-            let text = *b"a character marker spans a verse boundary (\\v inside a \\char span)";
-            write_form(&[&text], form, a, b, c, out)
-        }
-        findings::MISSING_SPACE_BEFORE_NUMBER => {
-            let text = *b"\\\x01 needs a space before its number; read as \\\x02 \x03";
-            write_form(&[&text], form, a, b, c, out)
-        }
-        findings::UNREADABLE_VERSE_NUMBER => {
-            let text0 = *b"verse label \x01 has no number";
-            let text1 = *b"verse label \x01 is too large";
-            write_form(&[&text0, &text1], form, a, b, c, out)
-        }
+        findings::MISSING_CHAPTER_NUMBER => write_form(
+            &MISSING_CHAPTER_NUMBER_TEXTS,
+            form,
+            a,
+            b,
+            c,
+            out,
+        ),
+        findings::MISSING_VERSE_NUMBER => write_form(
+            &MISSING_VERSE_NUMBER_TEXTS,
+            form,
+            a,
+            b,
+            c,
+            out,
+        ),
+        findings::CHAR_CROSSES_VERSE_BOUNDARY => write_form(
+            &CHAR_CROSSES_VERSE_BOUNDARY_TEXTS,
+            form,
+            a,
+            b,
+            c,
+            out,
+        ),
+        findings::MISSING_SPACE_BEFORE_NUMBER => write_form(
+            &MISSING_SPACE_BEFORE_NUMBER_TEXTS,
+            form,
+            a,
+            b,
+            c,
+            out,
+        ),
+        findings::UNREADABLE_VERSE_NUMBER => write_form(
+            &UNREADABLE_VERSE_NUMBER_TEXTS,
+            form,
+            a,
+            b,
+            c,
+            out,
+        ),
         _ => marker_text(code, form, a, b, c, out),
     }
 }
@@ -207,23 +310,24 @@ fn marker_text(code: u64, form: u64, a: &[u8], b: &[u8], c: &[u8], out: &mut [u8
     ensures { WrittenFrom (marker_texts ++ attribute_texts) code form a.now b.now c.now out.old out.new result }
 {
     match code {
-        findings::NOTE_SUBMARKER_OUTSIDE_NOTE => {
-            let text = *b"\\\x01 is only valid inside a note";
-            write_form(&[&text], form, a, b, c, out)
-        }
-        findings::NON_EMPTY_BLANK_LINE => {
-            let text = *b"\\b (blank line) must not contain content";
-            write_form(&[&text], form, a, b, c, out)
-        }
-        findings::MILESTONE_MISMATCH => {
-            let text0 = *b"milestone \\\x01-s has no matching \\\x01-e";
-            let text1 = *b"milestone \\\x01-e has no matching \\\x01-s";
-            write_form(&[&text0, &text1], form, a, b, c, out)
-        }
-        findings::EMPTY_FIGURE => {
-            let text = *b"\\fig has no caption content";
-            write_form(&[&text], form, a, b, c, out)
-        }
+        findings::NOTE_SUBMARKER_OUTSIDE_NOTE => write_form(
+            &NOTE_SUBMARKER_OUTSIDE_NOTE_TEXTS,
+            form,
+            a,
+            b,
+            c,
+            out,
+        ),
+        findings::NON_EMPTY_BLANK_LINE => write_form(
+            &NON_EMPTY_BLANK_LINE_TEXTS,
+            form,
+            a,
+            b,
+            c,
+            out,
+        ),
+        findings::MILESTONE_MISMATCH => write_form(&MILESTONE_MISMATCH_TEXTS, form, a, b, c, out),
+        findings::EMPTY_FIGURE => write_form(&EMPTY_FIGURE_TEXTS, form, a, b, c, out),
         _ => more_marker_text(code, form, a, b, c, out),
     }
 }
@@ -241,27 +345,39 @@ fn more_marker_text(
     ensures { WrittenFrom (drop 4 marker_texts ++ attribute_texts) code form a.now b.now c.now out.old out.new result }
 {
     match code {
-        findings::MISSING_REQUIRED_ATTRIBUTE => {
-            let text = *b"\\\x01 is missing its required \"gloss\" attribute";
-            write_form(&[&text], form, a, b, c, out)
-        }
-        findings::BODY_PARAGRAPH_BEFORE_CHAPTER => {
-            let text = *b"body paragraph \\\x01 appears before any \\c (chapter)";
-            write_form(&[&text], form, a, b, c, out)
-        }
-        findings::EMPTY_WORD_MARKER => {
-            let text = *b"\\w has no text content or attributes";
-            write_form(&[&text], form, a, b, c, out)
-        }
-        findings::INVALID_TABLE_COLUMN_SEQUENCE => {
-            let text = *b"expected table column \x01 but found column \x02";
-            write_form(&[&text], form, a, b, c, out)
-        }
-        findings::MISPLACED_NUMBER_MARKER => {
-            let text =
-                *b"\\\x01 must directly follow its \\\x02 (at most once per \x03); it is kept as character text";
-            write_form(&[&text], form, a, b, c, out)
-        }
+        findings::MISSING_REQUIRED_ATTRIBUTE => write_form(
+            &MISSING_REQUIRED_ATTRIBUTE_TEXTS,
+            form,
+            a,
+            b,
+            c,
+            out,
+        ),
+        findings::BODY_PARAGRAPH_BEFORE_CHAPTER => write_form(
+            &BODY_PARAGRAPH_BEFORE_CHAPTER_TEXTS,
+            form,
+            a,
+            b,
+            c,
+            out,
+        ),
+        findings::EMPTY_WORD_MARKER => write_form(&EMPTY_WORD_MARKER_TEXTS, form, a, b, c, out),
+        findings::INVALID_TABLE_COLUMN_SEQUENCE => write_form(
+            &INVALID_TABLE_COLUMN_SEQUENCE_TEXTS,
+            form,
+            a,
+            b,
+            c,
+            out,
+        ),
+        findings::MISPLACED_NUMBER_MARKER => write_form(
+            &MISPLACED_NUMBER_MARKER_TEXTS,
+            form,
+            a,
+            b,
+            c,
+            out,
+        ),
         _ => attribute_text(code, form, a, b, c, out),
     }
 }
@@ -279,21 +395,23 @@ fn attribute_text(
     ensures { WrittenFrom attribute_texts code form a.now b.now c.now out.old out.new result }
 {
     match code {
-        findings::INVALID_ATTRIBUTES => {
-            let text0 = *b"empty attribute list after `|`";
-            let text1 = *b"attribute key without a `=\"value\"`";
-            let text2 = *b"attribute has an empty value (e.g. `lemma=\"\"`)";
-            let text3 = *b"unterminated quoted attribute value";
-            write_form(&[&text0, &text1, &text2, &text3], form, a, b, c, out)
-        }
-        findings::UNQUOTED_ATTRIBUTE_VALUE => {
-            let text = *b"attribute value must be quoted";
-            write_form(&[&text], form, a, b, c, out)
-        }
-        findings::DEFAULT_ATTRIBUTE_NOT_DEFINED => {
-            let text = *b"\\\x01 has no default attribute; the value after `|` is invalid";
-            write_form(&[&text], form, a, b, c, out)
-        }
+        findings::INVALID_ATTRIBUTES => write_form(&INVALID_ATTRIBUTES_TEXTS, form, a, b, c, out),
+        findings::UNQUOTED_ATTRIBUTE_VALUE => write_form(
+            &UNQUOTED_ATTRIBUTE_VALUE_TEXTS,
+            form,
+            a,
+            b,
+            c,
+            out,
+        ),
+        findings::DEFAULT_ATTRIBUTE_NOT_DEFINED => write_form(
+            &DEFAULT_ATTRIBUTE_NOT_DEFINED_TEXTS,
+            form,
+            a,
+            b,
+            c,
+            out,
+        ),
         _ => None,
     }
 }

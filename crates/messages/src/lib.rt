@@ -67,7 +67,7 @@ fn name_shown<'a, 'b>(
     table: &'a [u8],
     index: &'b [u64],
     entries: usize,
-    doc: Document<'a>,
+    doc: Document<'a, '_>,
     i: usize,
     code: u64,
 ) -> &'a [u8]
@@ -88,7 +88,7 @@ fn label_shown<'a, 'b, 'c>(
     table: &'b [u8],
     index: &'c [u64],
     entries: usize,
-    doc: Document<'a>,
+    doc: Document<'a, '_>,
     i: usize,
 ) -> &'a [u8]
     requires { DocumentNode table.now index.now entries doc.source.now doc.tape.now i }
@@ -141,7 +141,7 @@ fn write_verse(
     table: &[u8],
     index: &[u64],
     entries: usize,
-    doc: Document<'_>,
+    doc: Document<'_, '_>,
     q: MessageRequest,
     out: &mut [u8],
 ) -> Option<usize>
@@ -163,7 +163,7 @@ fn write_label(
     table: &[u8],
     index: &[u64],
     entries: usize,
-    doc: Document<'_>,
+    doc: Document<'_, '_>,
     q: MessageRequest,
     out: &mut [u8],
 ) -> Option<usize>
@@ -191,7 +191,7 @@ fn write_glued<'a>(
     table: &'a [u8],
     index: &[u64],
     entries: usize,
-    doc: Document<'a>,
+    doc: Document<'a, '_>,
     q: MessageRequest,
     out: &mut [u8],
 ) -> Option<usize>
@@ -217,7 +217,7 @@ fn write_entry<'a>(
     table: &'a [u8],
     index: &[u64],
     entries: usize,
-    doc: Document<'a>,
+    doc: Document<'a, '_>,
     q: MessageRequest,
     out: &mut [u8],
 ) -> Option<usize>
@@ -240,7 +240,7 @@ fn write_base<'a>(
     table: &'a [u8],
     index: &[u64],
     entries: usize,
-    doc: Document<'a>,
+    doc: Document<'a, '_>,
     q: MessageRequest,
     out: &mut [u8],
 ) -> Option<usize>
@@ -277,7 +277,7 @@ fn write_owner<'a>(
     table: &'a [u8],
     index: &[u64],
     entries: usize,
-    doc: Document<'a>,
+    doc: Document<'a, '_>,
     q: MessageRequest,
     out: &mut [u8],
 ) -> Option<usize>
@@ -311,7 +311,7 @@ fn write_number<'a>(
     table: &'a [u8],
     index: &[u64],
     entries: usize,
-    doc: Document<'a>,
+    doc: Document<'a, '_>,
     q: MessageRequest,
     out: &mut [u8],
 ) -> Option<usize>
@@ -330,7 +330,7 @@ fn write_number<'a>(
 }
 
 // InvalidBookCode.
-fn write_book(doc: Document<'_>, q: MessageRequest, out: &mut [u8]) -> Option<usize>
+fn write_book(doc: Document<'_, '_>, q: MessageRequest, out: &mut [u8]) -> Option<usize>
     requires { (Accepted doc.source.now doc.tape.now) × (length doc.source.now ≤ 1048576) × (q.node < count doc.tape.now) × (q.code ≡ invalid_book_code) }
     ensures { (table : List ℕ) → WrittenBy table doc.entry.source.now doc.entry.tape.now (request_by q) out.old out.new result }
 {
@@ -350,7 +350,7 @@ fn write_message<'a>(
     table: &'a [u8],
     index: &[u64],
     entries: usize,
-    doc: Document<'a>,
+    doc: Document<'a, '_>,
     q: MessageRequest,
     out: &mut [u8],
 ) -> Option<usize>
@@ -382,7 +382,7 @@ pub fn message_in<'a>(
     table: &'a [u8],
     index: &[u64],
     entries: usize,
-    doc: Document<'a>,
+    doc: Document<'a, '_>,
     q: MessageRequest,
     out: &mut [u8],
 ) -> Result<usize, Refusal>
@@ -437,7 +437,7 @@ pub fn messages_in<'a>(
     table: &'a [u8],
     index: &[u64],
     entries: usize,
-    doc: Document<'a>,
+    doc: Document<'a, '_>,
     list: &[u64],
     ends: &mut [u64],
     out: &mut [u8],

@@ -43,7 +43,7 @@ pub fn milestone_base(name: &[u8]) -> &[u8]
 }
 
 // What a marker whose category is milestone is, by its name.
-fn step_named(doc: Document<'_>, i: usize) -> Option<MilestoneSide>
+fn step_named(doc: Document<'_, '_>, i: usize) -> Option<MilestoneSide>
     requires { (Spanned doc.source.now doc.tape.now i) × (i < 4294967296) }
     ensures { ((e : Entry) → e.category ≡ milestone_category → step_means doc.entry.source.now result ≡ among_milestones e (node_at doc.entry.source.now doc.entry.tape.now i)) × (Placed doc.entry.source.now result) }
 {
@@ -67,7 +67,7 @@ fn step_named(doc: Document<'_>, i: usize) -> Option<MilestoneSide>
 }
 
 // What a marker is. Most are no milestones, and their names aren't read.
-pub fn step_of(m: MarkerInfo, doc: Document<'_>, i: usize) -> Option<MilestoneSide>
+pub fn step_of(m: MarkerInfo, doc: Document<'_, '_>, i: usize) -> Option<MilestoneSide>
     requires { (Spanned doc.source.now doc.tape.now i) × (i < 4294967296) }
     ensures { (step_means doc.entry.source.now result ≡ among_milestones (entry_of_info m) (node_at doc.entry.source.now doc.entry.tape.now i)) × (Placed doc.entry.source.now result) }
 {
@@ -78,7 +78,7 @@ pub fn step_of(m: MarkerInfo, doc: Document<'_>, i: usize) -> Option<MilestoneSi
 }
 
 // Whether an open start has the base that stands at a place of the source; the length of its own is known, and most differ by it.
-fn has_base(doc: Document<'_>, o: OpenStart, at: usize, len: usize) -> bool
+fn has_base(doc: Document<'_, '_>, o: OpenStart, at: usize, len: usize) -> bool
     requires { (Measured doc.source.now doc.tape.now o.node o.base_len) × (at + len ≤ length doc.source.now) }
     ensures { result ≡ equal (base_of (node_at doc.entry.source.now doc.entry.tape.now o.node)) (base_at doc.entry.source.now at len) }
 {
@@ -122,7 +122,7 @@ fn push_end_alone(tape: &[u8], i: usize, rec: State, list: &mut [u64]) -> State
 
 // The latest of the first k open starts with the base that stands at a place of the source.
 fn nearest(
-    doc: Document<'_>,
+    doc: Document<'_, '_>,
     opens: &mut [OpenStart],
     k: usize,
     at: usize,
@@ -159,7 +159,7 @@ fn remove(opens: &mut [OpenStart], k: usize, at: usize)
 // How many open starts there are after a marker, of k before it: a start is one more, an end takes the latest of its base. None is an end
 // without an open start.
 fn pair(
-    doc: Document<'_>,
+    doc: Document<'_, '_>,
     step: Option<MilestoneSide>,
     opens: &mut [OpenStart],
     k: usize,
@@ -203,7 +203,7 @@ pub fn after_pair(
 // The finding and the step of a marker: most are no milestones.
 pub fn milestone(
     m: MarkerInfo,
-    doc: Document<'_>,
+    doc: Document<'_, '_>,
     i: usize,
     opens: &mut [OpenStart],
     rec: State,

@@ -165,7 +165,7 @@ pub fn is_numbered(kind: u8) -> bool
     kind == tape::CHAPTER || kind == tape::VERSE
 }
 
-fn bad_label(table: &[u8], index: &[u64], entries: usize, doc: Document<'_>, i: usize) -> bool
+fn bad_label(table: &[u8], index: &[u64], entries: usize, doc: Document<'_, '_>, i: usize) -> bool
     requires { (Indexed table.now index.now entries) × (Spanned doc.source.now doc.tape.now i) }
     ensures { result ≡ bad_label table.now doc.entry.source.now doc.entry.tape.now i }
 {
@@ -196,15 +196,15 @@ fn first_split(
     table: &[u8],
     index: &[u64],
     entries: usize,
-    doc: Document<'_>,
+    doc: Document<'_, '_>,
     found: &[usize],
 ) -> Result<(), Refusal>
     requires { (Indexed table.now index.now entries) × ((j : ℕ) → j < length found.now → Spanned doc.source.now doc.tape.now (get_or found.now j 0)) }
     ensures { refusal_in result ≡ first_among (bad_label table.now doc.entry.source.now doc.entry.tape.now) found.now }
 {
-    for i in found {
-        if bad_label(table, index, entries, doc, *i) {
-            return Err(Reason::SplitLabel.at(*i));
+    for j in 0..found.len() {
+        if bad_label(table, index, entries, doc, found[j]) {
+            return Err(Reason::SplitLabel.at(found[j]));
         }
     }
     Ok(())
@@ -215,7 +215,7 @@ fn split_in(
     table: &[u8],
     index: &[u64],
     entries: usize,
-    doc: Document<'_>,
+    doc: Document<'_, '_>,
     from: usize,
     to: usize,
 ) -> Result<(), Refusal>
@@ -232,7 +232,7 @@ pub fn label_check(
     table: &[u8],
     index: &[u64],
     entries: usize,
-    doc: Document<'_>,
+    doc: Document<'_, '_>,
 ) -> Result<(), Refusal>
     requires { (Indexed table.now index.now entries) × (Accepted doc.source.now doc.tape.now) }
     ensures { refusal_in result ≡ label_refusal table.now doc.entry.source.now doc.entry.tape.now }

@@ -109,8 +109,9 @@ pub extern "C" fn compared_parse(s: &[u8]) -> u64
 fn copy(part: &[u8], out: &mut [u8]) -> usize
     ensures { result ≡ length part.now }
 {
-    let n = part.len().min(out.len());
-    out[..n].copy_from_slice(&part[..n]);
+    for i in 0..part.len().min(out.len()) {
+        out[i] = part[i];
+    }
     part.len()
 }
 
@@ -235,20 +236,13 @@ pub extern "C" fn compared_table(table: &[u8]) -> u64 {
     }
 }
 
-// A table's index.
-#[derive(Clone, Copy)]
-struct Index {
-    words: [u64; 512],
-    entries: usize,
-}
-
-// `None` where the table breaks its layout.
-fn index_of(table: &[u8]) -> Option<Index>
-    ensures { IfSome result (λ i. Indexed table.now i.words i.entries) }
+// Writes a table's index over a list, and gives how many entries it has, or `None` where the table breaks its layout.
+fn index_of(table: &[u8], words: &mut [u64]) -> Option<usize>
+    requires { 512 ≤ length words.old }
+    ensures { IfSome result (λ entries. Indexed table.now words.new entries) }
 {
-    let mut words = [0; 512];
-    match table::index(table, &mut words) {
-        Ok(entries) => Some(Index { words, entries }),
+    match table::index(table, words) {
+        Ok(entries) => Some(entries),
         Err(_) => None,
     }
 }
@@ -256,12 +250,13 @@ fn index_of(table: &[u8]) -> Option<Index>
 // The number of the marker that a name stands for, or `NONE`, also where the table breaks its layout.
 #[unsafe(no_mangle)]
 pub extern "C" fn compared_lookup(table: &[u8], name: &[u8]) -> u64 {
-    let Some(index) = index_of(table) else {
+    let mut index = [0; 512];
+    let Some(entries) = index_of(table, &mut index) else {
         return NONE;
     };
     let mut chains = [0u16; 768];
-    table::link_names(table, &index.words, index.entries, &mut chains);
-    match MarkerId::lookup(table, &index.words, index.entries, &chains, name) {
+    table::link_names(table, &index, entries, &mut chains);
+    match MarkerId::lookup(table, &index, entries, &chains, name) {
         Some(id) => u64::from(id.0),
         None => NONE,
     }
@@ -278,22 +273,24 @@ fn info_number(i: Option<MarkerInfo>) -> u64 {
 // Of marker number k of a table.
 #[unsafe(no_mangle)]
 pub extern "C" fn compared_info(table: &[u8], k: u16) -> u64 {
-    let Some(index) = index_of(table) else {
+    let mut index = [0; 512];
+    let Some(entries) = index_of(table, &mut index) else {
         return NONE;
     };
-    info_number(MarkerId::info(table, &index.words, index.entries, MarkerId(k)))
+    info_number(MarkerId::info(table, &index, entries, MarkerId(k)))
 }
 
 // Of a node's marker.
 #[unsafe(no_mangle)]
 pub extern "C" fn compared_marker_info(table: &[u8], tape: &[u8], i: usize) -> u64 {
-    let Some(index) = index_of(table) else {
+    let mut index = [0; 512];
+    let Some(entries) = index_of(table, &mut index) else {
         return NONE;
     };
     if tape.len() / 16 <= i {
         return NONE;
     }
-    info_number(cursor::marker_info(table, &index.words, index.entries, tape, i))
+    info_number(cursor::marker_info(table, &index, entries, tape, i))
 }
 
 #[unsafe(no_mangle)]
@@ -481,11 +478,12 @@ fn info_and_text<'a>(
     tape: &'a [u8],
     i: usize,
 ) -> Option<(Option<MarkerInfo>, &'a [u8])> {
-    let index = index_of(table)?;
+    let mut index = [0; 512];
+    let entries = index_of(table, &mut index)?;
     if !is_node(source, tape, i) {
         return None;
     }
-    let info = cursor::marker_info(table, &index.words, index.entries, tape, i);
+    let info = cursor::marker_info(table, &index, entries, tape, i);
     Some((info, Document { source, tape }.text(i)))
 }
 
@@ -513,18 +511,14 @@ pub extern "C" fn compared_is_glued(table: &[u8], source: &[u8], tape: &[u8], i:
 #[unsafe(no_mangle)]
 #[tactic(auto, using(crate::proofs::Guards::good_tape))]
 pub extern "C" fn compared_label_check(table: &[u8], source: &[u8], tape: &[u8]) -> u64 {
-    let Some(index) = index_of(table) else {
+    let mut index = [0; 512];
+    let Some(entries) = index_of(table, &mut index) else {
         return NONE;
     };
     if !accepted(source, tape) {
         return NONE;
     }
-    match numbers::label_check(
-        table,
-        &index.words,
-        index.entries,
-        Document { source, tape },
-    ) {
+    match numbers::label_check(table, &index, entries, Document { source, tape }) {
         Ok(()) => NONE,
         Err(r) => r.place as u64,
     }

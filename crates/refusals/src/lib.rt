@@ -2,7 +2,8 @@
 #![tactic(auto)]
 
 ghost use Rattle.std.specs.Prelude.{◌≡◌};
-ghost use Rattle.refusals.specs.Reasons.{number_of};
+ghost use Rattle.refusals.specs.Reasons.{number_of, refusal_of};
+ghost use Rattle.refusals.specs.Refusal as refusal;
 
 // The reasons, each with its number.
 #[derive(Clone, Copy, PartialEq, Eq)]
@@ -87,5 +88,53 @@ impl Reason {
             reason: self,
             place,
         }
+    }
+}
+
+// What a caller is turned back with, as a number and a place: a refusal of this library, or any number with any place.
+pub trait Numbered: Copy {
+    ghost says: { Self → refusal.Refusal };
+
+    // The same as a refusal of this library.
+    fn of(refusal: Refusal) -> Self
+        ensures { says result ≡ refusal_of refusal };
+
+    fn number(self) -> u64
+        ensures { result ≡ (says self).number };
+
+    fn place(self) -> u64
+        ensures { result ≡ (says self).place };
+}
+
+impl Numbered for Refusal {
+    ghost says = { refusal_of };
+
+    fn of(refusal: Refusal) -> Refusal {
+        refusal
+    }
+
+    fn number(self) -> u64 {
+        self.reason.number()
+    }
+
+    fn place(self) -> u64 {
+        self.place as u64
+    }
+}
+
+// Any number, with any place.
+impl Numbered for (u64, u64) {
+    ghost says = { λ r. record { number = r.0; place = r.1 } };
+
+    fn of(refusal: Refusal) -> (u64, u64) {
+        (refusal.reason.number(), refusal.place as u64)
+    }
+
+    fn number(self) -> u64 {
+        self.0
+    }
+
+    fn place(self) -> u64 {
+        self.1
     }
 }

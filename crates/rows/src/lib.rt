@@ -74,7 +74,7 @@ pub fn table_cell_columns(name: &[u8]) -> Option<Columns>
 }
 
 // The columns of a node, if it is a cell.
-fn cell_at(doc: Document<'_>, i: usize) -> Option<Columns>
+fn cell_at(doc: Document<'_, '_>, i: usize) -> Option<Columns>
     requires { Spanned doc.source.now doc.tape.now i }
     ensures { cell_of result ≡ cell_in (node_at doc.entry.source.now doc.entry.tape.now i) }
 {
@@ -103,7 +103,7 @@ fn out_of_order(tape: &[u8], i: usize, expected: u64, found: u32) -> Finding
 
 // The order of the cells of a row: the nodes from one up to another are its children.
 pub fn validate_table_row(
-    doc: Document<'_>,
+    doc: Document<'_, '_>,
     from: usize,
     to: usize,
     list: &mut [u64],

@@ -14,7 +14,7 @@ use lib.Seq.{take-length, length-take-le, drop-drop}
 use borrow.Author.Tests.{eq-eqb, ne_eqb, eqb-true, eqb-false}
 use Rattle.std.specs.Cmp.Lexicographic.{pointwise}
 use Rattle.text.specs.Bytes.{equal, starting, beyond}
-use Rattle.text.specs.Inner.{eight_bytes}
+use Rattle.text.specs.Inner.{four_bytes, eight_bytes}
 use Rattle.text.proofs.Rows.{place}
 use Rattle.text.proofs.Bool.{and_left, and_right}
 
@@ -77,6 +77,10 @@ unfoldable number : List ℕ → ℕ → ℕ → ℕ
 number s at zero = 0
 number s at (suc n) = get_or s at 0 + 256 * number s (at + 1) n
 
+four_is : (s : List ℕ) (at : ℕ) → four_bytes s at ≡ number s at 4
+unfolding number
+four_is s at = simp add_assoc (omega arith)
+
 eight_is : (s : List ℕ) (at : ℕ) → eight_bytes s at ≡ number s at 8
 unfolding number
 eight_is s at = simp add_assoc (omega arith)
@@ -92,6 +96,9 @@ module _ (a b : List ℕ) (p : Small a) (q : Small b) where
   same_number zero i j h k = refl
   same_number (suc n) i j h k =
       rw (place a i (omega arith), place b j (omega arith)) (digits (get_or a i 0) (get_or b j 0) (number a (i + 1) n) (number b (j + 1) n) (omega (arith, p i)) (omega (arith, q j)) ∙ rw (same_number n (i + 1) (j + 1) (omega arith) (omega arith)))
+
+  pub same-four : (i j : ℕ) → i + 4 ≤ length a → j + 4 ≤ length b → eqb (four_bytes a i) (four_bytes b j) ≡ equal (take 4 (drop i a)) (take 4 (drop j b))
+  same-four i j h k = rw (four_is a i, four_is b j) (same_number 4 i j h k)
 
   pub same-eight : (i j : ℕ) → i + 8 ≤ length a → j + 8 ≤ length b → eqb (eight_bytes a i) (eight_bytes b j) ≡ equal (take 8 (drop i a)) (take 8 (drop j b))
   same-eight i j h k = rw (eight_is a i, eight_is b j) (same_number 8 i j h k)
@@ -133,3 +140,16 @@ module _ (a b : List ℕ) (n : ℕ) (e : length a ≡ length b) where
   ends_same i h k f =
       let m : n + (i - n) ≡ i = omega arith in
       and_right (equal (take (i - n) (drop n a)) (take (i - n) (drop n b))) _ (sym (rw m at (block a b n (i - n) e (omega arith))) ∙ f)
+
+-- and their first n bytes
+module _ (a b : List ℕ) (n : ℕ) (e : length a ≡ length b) (h : n ≤ length a) where
+  front : equal a b ≡ (equal (take n a) (take n b) && equal (drop n a) (drop n b))
+  front =
+      let z : 0 + n ≡ n = omega arith in
+      rw z at (block a b 0 n e (omega arith))
+
+  pub fronts-apart : equal (take n a) (take n b) ≡ false → equal a b ≡ false
+  fronts-apart f = front ∙ rw f
+
+  pub fronts-same : equal (take n a) (take n b) ≡ true → equal a b ≡ equal (drop n a) (drop n b)
+  fronts-same f = front ∙ rw f

@@ -10,7 +10,7 @@ ghost use Rattle.text.specs.Blank.{blank};
 ghost use Rattle.text.specs.Characters.{chars, bytes_before, find, find_byte, is_boundary};
 ghost use Rattle.text.specs.Words.{not_blank, blank_text, trim_start, trim, kept, first_word, second_word};
 ghost use Rattle.text.specs.Number.{digit, digits, parsed};
-ghost use Rattle.text.specs.Inner.{Ascii, eight_bytes, High, Ended, Led, Passed, IsOfByte, IsStep, blank_is};
+ghost use Rattle.text.specs.Inner.{Ascii, eight_bytes, four_bytes, High, Ended, Led, Passed, IsOfByte, IsStep, blank_is};
 
 // A code point, and how many bytes it takes.
 #[derive(Clone, Copy)]
@@ -99,6 +99,14 @@ fn four_at(s: &[u8], at: usize) -> bool
     ensures { width_of (drop at s.now) ≡ pick result 4 0 }
 {
     3 < s.len() - at && rows_of_four(s[at], s[at + 1], s[at + 2], s[at + 3])
+}
+
+// Four bytes, the first the lowest. The number is one load.
+fn four_bytes(s: &[u8], at: usize) -> u32
+    requires { at + 4 ≤ length s.now }
+    ensures { result ≡ four_bytes s.now at }
+{
+    u32::from_le_bytes([s[at], s[at + 1], s[at + 2], s[at + 3]])
 }
 
 // Eight bytes, the first the lowest. The sum is one load.
@@ -615,6 +623,14 @@ fn equal_8(a: &[u8], b: &[u8], at: usize) -> bool
     eight_bytes(a, at) == eight_bytes(b, at)
 }
 
+// Whether four bytes of two lists are the same.
+fn equal_4(a: &[u8], b: &[u8], at: usize) -> bool
+    requires { (at + 4 ≤ length a.now) × (at + 4 ≤ length b.now) }
+    ensures { result ≡ Bytes.equal (take 4 (drop at a.now)) (take 4 (drop at b.now)) }
+{
+    four_bytes(a, at) == four_bytes(b, at)
+}
+
 // Whether two long lists of one length are equal. Their ends are compared first, so that the blocks need no rest. `==` takes 40 to
 // 70 % longer at equal lists of 12 bytes.
 fn equal_long(a: &[u8], b: &[u8]) -> bool
@@ -636,6 +652,35 @@ fn equal_long(a: &[u8], b: &[u8]) -> bool
     true
 }
 
+// Whether two lists of one length are equal from a place on, byte by byte. With `==` here, `equal` isn't made part of its callers, and
+// takes 45 % longer at lists of 12 bytes.
+fn equal_from(a: &[u8], b: &[u8], from: usize) -> bool
+    requires { length a.now ≡ length b.now }
+    ensures { result ≡ Bytes.equal (drop from a.now) (drop from b.now) }
+{
+    for i in from..a.len() {
+        if a[i] != b[i] {
+            return false;
+        }
+    }
+    true
+}
+
+// Whether two short lists of one length are equal. Where one is a constant, a block is one comparison with a number, if no two
+// blocks overlap.
+fn equal_short(a: &[u8], b: &[u8]) -> bool
+    requires { length a.now ≡ length b.now }
+    ensures { result ≡ Bytes.equal a.now b.now }
+{
+    if 8 <= a.len() {
+        return equal_8(a, b, 0) && equal_from(a, b, 8);
+    }
+    if 4 <= a.len() {
+        return equal_4(a, b, 0) && equal_from(a, b, 4);
+    }
+    equal_from(a, b, 0)
+}
+
 // Whether two lists of bytes are equal.
 pub fn equal(a: &[u8], b: &[u8]) -> bool
     ensures { result ≡ Bytes.equal a.now b.now }
@@ -644,30 +689,16 @@ pub fn equal(a: &[u8], b: &[u8]) -> bool
         return false;
     }
     if a.len() < 8 {
-        return equal_short(a, b);
+        return equal_from(a, b, 0);
     }
     equal_long(a, b)
 }
 
-// Whether two short lists of one length are equal. With `==` here, `equal` isn't made part of its callers, and takes 45 % longer at
-// lists of 12 bytes.
-fn equal_short(a: &[u8], b: &[u8]) -> bool
-    requires { length a.now ≡ length b.now }
-    ensures { result ≡ Bytes.equal a.now b.now }
-{
-    for i in 0..a.len() {
-        if a[i] != b[i] {
-            return false;
-        }
-    }
-    true
-}
-
-// Where the key is a constant, this is a comparison or two. `<[u8]>::starts_with` here took up to 33 % longer.
+// `==` here reads the two ends of a key, so that its blocks overlap.
 pub fn starts_with(s: &[u8], key: &[u8]) -> bool
     ensures { result ≡ starting key.now s.now }
 {
-    key.len() <= s.len() && key == &s[..key.len()]
+    key.len() <= s.len() && equal_short(key, &s[..key.len()])
 }
 
 // A capital for a small letter of ASCII.

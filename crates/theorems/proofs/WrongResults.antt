@@ -5,8 +5,11 @@ use native.Mathlib.Omega.{arith}
 use mathlib.Core.Path.{◌≡◌, refl, ◌∙◌, sym, ap, subst}
 use mathlib.Core.Bool.{Bool, true, false, ◌&&◌, false≢true}
 use mathlib.Core.List.{List, [], ◌∷◌, ◌++◌}
-use Rattle.std.specs.Prelude.{Option, Some, None, Ok}
+use Rattle.std.specs.Prelude.{Option, Some, None, Ok, Err}
 use Rattle.refusals.specs.Refusal.{refuse}
+use Rattle.refusals.specs.declared.Refusal as code
+use Rattle.refusals.specs.declared.Reason.TheVariants as reason
+use Rattle.refusals.specs.Reasons.{number_of, refusal_in}
 use Rattle.std.proofs.lemmas.Option.{none-some}
 use lib.Dec.{leb, ltb}
 use lib.ListN.{length, get_or, set}
@@ -519,8 +522,11 @@ is-no-refusal true e = eqb-false 1 2 refl e
 is-no-refusal false e = eqb-false 0 2 refl e
 
 -- a check that turns back a good document
-check-refuses : (number place : ℕ) → outcome.refused (record { number = number; place = place }) ≡ answer roomy → ⊥
-check-refuses number place e = eqb-false 2 0 refl (ap (said 0) e ∙ ap (word_in 0) answers-right.0)
+roomy-passes : (number place : ℕ) → outcome.refused (record { number = number; place = place }) ≡ answer roomy → ⊥
+roomy-passes number place e = eqb-false 2 0 refl (ap (said 0) e ∙ ap (word_in 0) answers-right.0)
+
+check-refuses : (r : code.Refusal) → answer_of (Err r) ≡ answer roomy → ⊥
+check-refuses r e = roomy-passes (number_of r.reason) r.place e
 
 -- a check that finds nothing
 check-finds-nothing : (r : Report) → r.total ≡ 0 → answer_of (Ok r) ≡ answer roomy → ⊥
@@ -554,11 +560,11 @@ check-passes-empty : (r : Report) → answer_of (Ok r) ≡ answer empty → ⊥
 check-passes-empty r e = is-no-refusal r.is_cut (ap (said 0) e ∙ ap (word_in 0) answers-right.2)
 
 -- a refusal with another number
-check-other-number : (place : ℕ) → outcome.refused (record { number = 10; place = place }) ≡ answer empty → ⊥
+check-other-number : (place : ℕ) → answer_of (Err (record { reason = reason.WorkingListTooShort; place = place })) ≡ answer empty → ⊥
 check-other-number place e = eqb-false 10 4 refl (ap (said 1) e ∙ ap (word_in 1) answers-right.2)
 
 -- a refusal with another place
-check-other-place : outcome.refused (record { number = 4; place = 1 }) ≡ answer empty → ⊥
+check-other-place : answer_of (Err (record { reason = reason.BadTapeLength; place = 1 })) ≡ answer empty → ⊥
 check-other-place e = eqb-false 1 0 refl (ap (said 2) e ∙ ap (word_in 2) answers-right.2)
 
 -- a refusal that writes to the list
@@ -658,7 +664,7 @@ unfolding ascii worked.shorter_document worked.example_table worked.tape_of utf8
 message-text = (refl, refl)
 
 -- number 12 for a code that has a text
-message-refused : (place : ℕ) → text-answer.refused (record { number = 12; place = place }) ≡ answer_here (asked 16 0) 40 → ⊥
+message-refused : (place : ℕ) → message_answer_of (Err (record { reason = reason.NoMessage; place = place })) ≡ answer_here (asked 16 0) 40 → ⊥
 message-refused place e = eqb-false 12 0 refl (ap number_said (e ∙ message-right.0))
 
 -- a text for a code that has none
@@ -701,8 +707,11 @@ messages-none : (bytes : ℕ) → messages_answer_of (Ok (record { records = 0; 
 messages-none bytes e = eqb-false 0 1 refl (ap records_said (e ∙ messages-right.0))
 
 -- texts that stop though there is room
-messages-stopped : (bytes number place : ℕ) → text-answers.stopped 1 bytes (record { number = number; place = place }) ≡ answers_here 40 → ⊥
-messages-stopped bytes number place e = eqb-false 1 0 refl (ap verdict_said (e ∙ messages-right.0))
+texts-go-on : (bytes number place : ℕ) → text-answers.stopped 1 bytes (record { number = number; place = place }) ≡ answers_here 40 → ⊥
+texts-go-on bytes number place e = eqb-false 1 0 refl (ap verdict_said (e ∙ messages-right.0))
+
+messages-stopped : (bytes : ℕ) (r : code.Refusal) → messages_answer_of (Ok (record { records = 1; bytes = bytes; stop = Some r })) ≡ answers_here 40 → ⊥
+messages-stopped bytes r e = texts-go-on bytes (number_of r.reason) r.place e
 
 -- texts that are all written though there is no room
 messages-all : (records bytes : ℕ) → messages_answer_of (Ok (record { records = records; bytes = bytes; stop = None })) ≡ answers_here 9 → ⊥
@@ -747,21 +756,24 @@ unfolding repeated
 tally-added e = eqb-false 10 1 refl (ap (word_in 16) (e ∙ tally-right))
 
 -- a good record that is turned back
-tally-refuses : (number place : ℕ) → refuse number place ≡ tally_refusal words5 → ⊥
+words-pass : (number place : ℕ) → refuse number place ≡ tally_refusal words5 → ⊥
 unfolding tally_refusal first_bad
-tally-refuses number place e = eqb-false 1 0 refl (ap turned_back e)
+words-pass number place e = eqb-false 1 0 refl (ap turned_back e)
+
+tally-refuses : (r : code.Refusal) → refusal_in {A = Unit {0}} (Err r) ≡ tally_refusal words5 → ⊥
+tally-refuses r e = words-pass (number_of r.reason) r.place e
 
 -- a bad record that is let in
-tally-bad-severity : None ≡ tally_refusal bad_severity → ⊥
+tally-bad-severity : refusal_in (Ok (tt {0})) ≡ tally_refusal bad_severity → ⊥
 unfolding tally_refusal first_bad
 tally-bad-severity e = eqb-false 0 1 refl (ap turned_back e)
 
-tally-bad-code : None ≡ tally_refusal bad_code → ⊥
+tally-bad-code : refusal_in (Ok (tt {0})) ≡ tally_refusal bad_code → ⊥
 unfolding tally_refusal first_bad
 tally-bad-code e = eqb-false 0 1 refl (ap turned_back e)
 
 -- a list that is let in though its length is no multiple of 8
-tally-bad-length : None ≡ tally_refusal (0 ∷ words5) → ⊥
+tally-bad-length : refusal_in (Ok (tt {0})) ≡ tally_refusal (0 ∷ words5) → ⊥
 unfolding tally_refusal first_bad
 tally-bad-length e = eqb-false 0 1 refl (ap turned_back e)
 
@@ -829,7 +841,7 @@ held-total : 1 ≡ held_count (answer_of (Ok cut_report)) → ⊥
 held-total e = eqb-false 1 0 refl e
 
 -- findings held after a refusal
-held-refused : (n : ℕ) → suc n ≡ held_count (outcome.refused (record { number = 4; place = 0 })) → ⊥
+held-refused : (n : ℕ) → suc n ≡ held_count (answer_of (Err (record { reason = reason.BadTapeLength; place = 0 }))) → ⊥
 held-refused n e = omega (arith, e)
 
 -- ---- listing::put_finding
@@ -1472,8 +1484,11 @@ unfolding put overlay checked_of of_severity ascii worked.shorter_document worke
 passed-right = (refl, refl, refl, refl)
 
 -- a document turned back for working lists longer than its tape
-passed-refuses : (number place : ℕ) → outcome.refused (record { number = number; place = place }) ≡ answer ample → ⊥
-passed-refuses number place e = eqb-false 2 0 refl (ap (said 0) e ∙ ap (word_in 0) passed-right.0)
+ample-passes : (number place : ℕ) → outcome.refused (record { number = number; place = place }) ≡ answer ample → ⊥
+ample-passes number place e = eqb-false 2 0 refl (ap (said 0) e ∙ ap (word_in 0) passed-right.0)
+
+passed-refuses : (r : code.Refusal) → answer_of (Err r) ≡ answer ample → ⊥
+passed-refuses r e = ample-passes (number_of r.reason) r.place e
 
 -- an answer that finds nothing
 passed-finds-nothing : (r : Report) → r.total ≡ 0 → answer_of (Ok r) ≡ answer ample → ⊥

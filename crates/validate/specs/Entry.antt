@@ -2,6 +2,7 @@
 use Rattle.std.specs.Prelude.{ℕ, List, Result, Ok, Err}
 use Rattle.refusals.specs.declared.Refusal as code
 use Rattle.refusals.specs.Reasons.{refusal_of}
+use Rattle.refusals.specs.Refusal.{Refusal}
 use Rattle.definition.specs.Outcome.{Checked, refused, checked, Lent}
 use Rattle.definition.specs.Outcome as outcome
 use Rattle.validate.specs.declared.Report.{Report}
@@ -20,10 +21,13 @@ report_of r =
       cut = r.is_cut;
     }
 
--- a refusal's number and place, or a checked document's numbers
+-- a refusal's number and place, by what it says, or a checked document's numbers
+abbrev pub answer_in : {E : Type 0} → (E → Refusal) → Result Report E → outcome.Answer
+answer_in says (Ok r) = checked (report_of r)
+answer_in says (Err r) = refused (says r)
+
 abbrev pub answer_of : Result Report code.Refusal → outcome.Answer
-answer_of (Ok r) = checked (report_of r)
-answer_of (Err r) = refused (refusal_of r)
+answer_of answer = answer_in refusal_of answer
 
 -- all that a call lends
 abbrev pub lent : List ℕ → List ℕ → List ℕ → List ℕ → List OpenStart → List ℕ → Lent

@@ -49,7 +49,7 @@ fn initial() -> State
 }
 
 // The record before the walk.
-fn begun(doc: Document<'_>, to: usize, list: &mut [u64]) -> State
+fn begun(doc: Document<'_, '_>, to: usize, list: &mut [u64]) -> State
     requires { (Run doc.source.now doc.tape.now 1 to) × (to ≡ link_at doc.tape.now 0) }
     ensures { Begun doc.entry.source.now doc.entry.tape.now list.old list.new result }
 {
@@ -70,7 +70,7 @@ fn run(
     table: &[u8],
     index: &[u64],
     entries: usize,
-    doc: Document<'_>,
+    doc: Document<'_, '_>,
     seen: &mut [u32],
     opens: &mut [OpenStart],
     list: &mut [u64],
@@ -181,7 +181,7 @@ fn checked(
     table: &[u8],
     index: &[u64],
     entries: usize,
-    doc: Document<'_>,
+    doc: Document<'_, '_>,
     seen: &mut [u32],
     opens: &mut [OpenStart],
     list: &mut [u64],
@@ -201,7 +201,7 @@ pub fn passed(
     table: &[u8],
     index: &[u64],
     entries: usize,
-    doc: Document<'_>,
+    doc: Document<'_, '_>,
     seen: &mut [u32],
     opens: &mut [OpenStart],
     list: &mut [u64],

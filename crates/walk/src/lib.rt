@@ -22,7 +22,7 @@ use state::{Context, State};
 use table::MarkerInfo;
 
 // The numbers attached to an anchor, among the siblings up to `to`; none without an anchor.
-fn anchored(doc: Document<'_>, depth: usize, anchor: usize, from: usize, to: usize) -> Attached
+fn anchored(doc: Document<'_, '_>, depth: usize, anchor: usize, from: usize, to: usize) -> Attached
     requires { (Accepted doc.source.now doc.tape.now) × (Nested doc.tape.now depth from to) × (to ≤ count doc.tape.now) × (Anchored doc.tape.now depth anchor from) }
     ensures { starts_of result ≡ starts_for (anchor_of doc.entry.source.now doc.entry.tape.now anchor from) (forest doc.entry.source.now doc.entry.tape.now from to) }
 {
@@ -42,7 +42,13 @@ fn anchored(doc: Document<'_>, depth: usize, anchor: usize, from: usize, to: usi
 }
 
 // The numbers attached after a leaf, to those that follow it: of a new anchor, or unchanged.
-fn numbers_after(doc: Document<'_>, i: usize, next: usize, to: usize, numbers: Attached) -> Attached
+fn numbers_after(
+    doc: Document<'_, '_>,
+    i: usize,
+    next: usize,
+    to: usize,
+    numbers: Attached,
+) -> Attached
     requires { (i < count doc.tape.now) × (Run doc.source.now doc.tape.now next to) }
     ensures { starts_of result ≡ numbers_after doc.entry.source.now doc.entry.tape.now i next to (starts_of numbers) }
 {
@@ -61,7 +67,7 @@ fn leaf(
     table: &[u8],
     index: &[u64],
     entries: usize,
-    doc: Document<'_>,
+    doc: Document<'_, '_>,
     i: usize,
     context: Context,
     rec: State,
@@ -96,7 +102,7 @@ fn visit_leaf(
     table: &[u8],
     index: &[u64],
     entries: usize,
-    doc: Document<'_>,
+    doc: Document<'_, '_>,
     i: usize,
     next: usize,
     to: usize,
@@ -118,7 +124,7 @@ fn visit_leaf(
 }
 
 // Whether a run has no marker, no chapter and no verse. Most markers hold such a run, and its walk is skipped.
-fn can_skip_children(doc: Document<'_>, from: usize, to: usize) -> bool
+fn can_skip_children(doc: Document<'_, '_>, from: usize, to: usize) -> bool
     requires { Run doc.source.now doc.tape.now from to }
     ensures { result ≡ can_skip_children (forest doc.entry.source.now doc.entry.tape.now from to) }
 {
@@ -134,7 +140,7 @@ fn visit(
     table: &[u8],
     index: &[u64],
     entries: usize,
-    doc: Document<'_>,
+    doc: Document<'_, '_>,
     i: usize,
     to: usize,
     depth: usize,
@@ -176,7 +182,7 @@ pub fn walk(
     table: &[u8],
     index: &[u64],
     entries: usize,
-    doc: Document<'_>,
+    doc: Document<'_, '_>,
     from: usize,
     to: usize,
     depth: usize,

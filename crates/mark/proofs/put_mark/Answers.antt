@@ -6,8 +6,8 @@ use Rattle.mark.proofs.put_mark.Goals as goal
 
 pub returns-in-Err-clause-lines : goal.returns-in-Err-clause-lines
 unfolding mark_lines
-returns-in-Err-clause-lines c = rw (c.in-Err.is, ← c.number.ensures) c.put_refused.ensures.lines
+returns-in-Err-clause-lines g c = rw (c.in-Err.is, ← c.number.ensures, ← c.place.ensures) c.put_refused.ensures.lines
 
 pub returns-in-Ok-clause-lines : goal.returns-in-Ok-clause-lines
 unfolding mark_lines ascii
-returns-in-Ok-clause-lines c = rw c.in-Ok.is (put_then c.put_count-second.ensures.written c.put_count.ensures.written)
+returns-in-Ok-clause-lines g c = rw c.in-Ok.is (put_then c.put_count-second.ensures.written c.put_count.ensures.written)
