@@ -33,8 +33,8 @@ fn write_words(words: &[u64], at: usize, out: &mut [u64])
     ensures { out.new ≡ over out.old at words.now }
 {
     let n = buffer::fitting(words.len(), out.len(), at);
-    if at < out.len() {
-        out[at..at + n].copy_from_slice(&words[..n]);
+    for i in 0..n {
+        out[at + i] = words[i];
     }
 }
 

@@ -1,11 +1,13 @@
 -- `harkoxin::write_words` meets its contract.
-use Rattle.std.proofs.Common.{sym}
-use Rattle.buffer.proofs.Over.{over-past}
-use Rattle.harkoxin.proofs.Copying.{copied}
+use native.Mathlib.Omega.{arith}
+use Rattle.buffer.proofs.Writing.{writing_start, writing-on, writing-done}
 use Rattle.harkoxin.proofs.write_words.Goals as goal
 
-pub returns-then-at-out : goal.returns-then-at-out
-returns-then-at-out c = copied _ _ _ _ _ c.if-at-out.true c.fitting-n.ensures c.copy_from_slice.ensures.after
+pub loop-i-init : goal.loop-i-init
+loop-i-init c = writing_start _ _ _
 
-pub returns-else-at-out : goal.returns-else-at-out
-returns-else-at-out c = sym (over-past _ _ _ c.if-at-out.false)
+pub loop-i-preserved : goal.loop-i-preserved
+loop-i-preserved c = writing-on _ _ _ _ _ c.loop-i.invariant (omega arith) (omega arith)
+
+pub returns : goal.returns
+returns c = writing-done _ _ _ _ _ c.loop-i.invariant (omega arith)
